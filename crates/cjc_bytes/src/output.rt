@@ -37,10 +37,8 @@ impl Out {
         ensures ok { OnOk result (self.new ≡ self.old ++ v.now) }
         ensures err { OnErr result (self.new ≡ self.old) }
     {
-        match self.held.extend_from_slice(v) {
-            Ok(()) => Ok(()),
-            Err(_) => Err(NoMemory),
-        }
+        self.held.extend_from_slice(v)?;
+        Ok(())
     }
 
     /// Appends one byte.

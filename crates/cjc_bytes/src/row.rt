@@ -53,10 +53,8 @@ impl<T> Row<T> {
         ensures ok { OnOk result (self.new ≡ self.old ++ item ∷ []) }
         ensures err { OnErr result (self.new ≡ self.old) }
     {
-        match self.items.push(item) {
-            Ok(()) => Ok(()),
-            Err(_) => Err(NoMemory),
-        }
+        self.items.push(item)?;
+        Ok(())
     }
 
     /// The items.
@@ -72,9 +70,7 @@ impl Row<u8> {
     pub fn copy_of(alloc: Global, bytes: &[u8]) -> Result<Bytes, NoMemory>
         ensures { IfOk result (λ b. b ≡ bytes.now) }
     {
-        match Vec::from_slice(alloc, bytes) {
-            Ok(items) => Ok(Row { items }),
-            Err(_) => Err(NoMemory),
-        }
+        let items = Vec::from_slice(alloc, bytes)?;
+        Ok(Row { items })
     }
 }

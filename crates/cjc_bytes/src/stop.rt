@@ -4,12 +4,25 @@ ghost use Rattle.std.specs.Prelude.{◌≡◌};
 ghost use Rattle.cjc_bytes.specs.declared.stop.Stop.TheVariants as stops;
 ghost use Rattle.cjc_bytes.specs.declared.stop.Short.{Short};
 
+use std::alloc::{AllocError, AllocFailed};
 use thiserror::Error;
 
 /// There was no memory left.
 #[derive(Clone, Copy, Debug, Drop, Error)]
 #[error("no memory")]
 pub struct NoMemory;
+
+impl From<AllocError> for NoMemory {
+    fn from(_: AllocError) -> Self {
+        NoMemory
+    }
+}
+
+impl<T: Drop> From<AllocFailed<T>> for NoMemory {
+    fn from(_: AllocFailed<T>) -> Self {
+        NoMemory
+    }
+}
 
 /// Fewer bytes are left than were asked for.
 #[derive(Clone, Copy, Debug, Drop, Error)]

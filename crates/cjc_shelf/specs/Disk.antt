@@ -1,0 +1,12 @@
+-- What is known of the files and streams of the system: counts alone.
+use Rattle.std.specs.Prelude.{[], None}
+use Rattle.cjc_shelf.specs.Shelf.{Shelved}
+use Rattle.cjc_shelf.specs.Sink.{Sunk}
+use Rattle.cjc_shelf.specs.declared.disk.DiskShelf.{DiskShelf}
+use Rattle.cjc_shelf.specs.declared.stream.StdSink.{StdSink}
+
+abbrev pub disk_shelved : {R File Dir : Type 0} → DiskShelf R File Dir → Shelved
+disk_shelved d = record { files = None; last = []; misses = d.misses; faults = d.faults; wants = 0; taken = d.taken }
+
+abbrev pub stream_sunk : {W : Type 0} → StdSink W → Sunk
+stream_sunk s = record { written = None; faults = s.faults }

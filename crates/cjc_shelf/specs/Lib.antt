@@ -1,0 +1,6 @@
+pub mod Count
+pub mod Shelf
+pub mod Sink
+pub mod Memory
+pub mod MemSink
+pub mod Disk

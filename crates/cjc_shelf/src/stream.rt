@@ -1,0 +1,33 @@
+//! A stream of the system as a sink.
+
+use crate::disk::put_all;
+use crate::{Sink, SinkFailed};
+use std::io::Write;
+
+/// A stream of the system. What it got is not told.
+#[derive(Drop)]
+pub struct StdSink<W: Write + Drop> {
+    stream: W,
+    faults: u64,
+}
+
+impl<W: Write + Drop> StdSink<W> {
+    /// The stream, with no fault so far.
+    pub fn new(stream: W) -> StdSink<W> {
+        StdSink { stream, faults: 0 }
+    }
+}
+
+impl<W: Write + Drop> Sink for StdSink<W> {
+    ghost use Rattle.cjc_shelf.specs.Disk.{stream_sunk};
+
+    ghost sunk = { stream_sunk };
+
+    fn put(&mut self, bytes: &[u8]) -> Result<(), SinkFailed> {
+        if !put_all(&mut self.stream, bytes) {
+            self.faults = self.faults.saturating_add(1);
+            return Err(SinkFailed);
+        }
+        Ok(())
+    }
+}
