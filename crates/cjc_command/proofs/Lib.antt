@@ -1,0 +1,5 @@
+pub mod Gathering
+pub mod Each
+pub mod Ahead
+pub mod Judging
+pub mod Acting

@@ -1,0 +1,4 @@
+pub mod Plan
+pub mod Gather
+pub mod Publish
+pub mod Answer
