@@ -1,10 +1,12 @@
 -- Reading one name after another.
-use Rattle.std.proofs.Common.{◌≡◌, ℕ, ◌+◌, ◌<◌, List, [], ◌∷◌, ◌++◌, length, drop, get_or, Result, Ok, Err, sym, subst, refl, add-one}
+use Rattle.std.proofs.Common.{◌≡◌, ℕ, ◌+◌, ◌<◌, List, [], ◌∷◌, ◌++◌, ◌≤◌, length, drop, get_or, Result, Ok, Err, sym, subst, refl, add-one}
+use Rattle.std.proofs.lemmas.List.Elements.{All-nil, All-cons, All-append}
 use Rattle.std.proofs.Math.Seq.{drop-cons}
 use Rattle.cjc_shelf.specs.Shelf.{Shelved}
 use Rattle.cjc_command.specs.declared.status.Status.{Status}
 use Rattle.cjc_command.specs.Plan.{read, read_onto, read_each}
-use Rattle.cjc_command.specs.Gather.{Gathers, IsSame}
+use Rattle.cjc_command.specs.Gather.{Gathers, IsSame, AreShort}
+use Rattle.cjc_shelf.specs.declared.shelf.TheConstants.{LONGEST}
 use Rattle.cjc_command.proofs.Gathering.{gathers_then, gathers_end}
 
 -- whatever is gathered of the names that are left is gathered of all
@@ -26,3 +28,9 @@ pub back_next : (names front left rest : List (List ℕ)) (name bytes : List ℕ
 back_next names front left rest name bytes old now mid back is a new result b =
     back new result (subst (λ (l : List (List ℕ)). Gathers (read_onto front l) IsSame now new result) (sym is)
     (gathers_then (read name) (λ bytes. read_onto (front ++ bytes ∷ []) rest) IsSame now mid new bytes result a b))
+
+-- one more file that is not too long
+pub short_more : (files : List (List ℕ)) (bytes : List ℕ) → AreShort files → length bytes ≤ LONGEST → AreShort (files ++ bytes ∷ [])
+short_more files bytes so_far one =
+    let P = λ (b : List ℕ). length b ≤ LONGEST in
+    All-append P files (bytes ∷ []) so_far (All-cons P bytes [] one (All-nil P))

@@ -1,5 +1,5 @@
 -- The reading half of a command: what it says of the shelf, whatever it computes.
-use Rattle.std.specs.Prelude.{◌≡◌, ◌⊎◌, ◌+◌, IfSome, IfNone, Contains, Result, Ok, Err}
+use Rattle.std.specs.Prelude.{◌≡◌, ◌⊎◌, ◌+◌, ◌≤◌, ℕ, List, All, length, IfSome, IfNone, Contains, Result, Ok, Err}
 use Rattle.cjc_bytes.specs.declared.fault.Fault.{Fault}
 use Rattle.cjc_bytes.specs.declared.fault.Fault.TheVariants as faults
 use Rattle.cjc_bytes.specs.declared.fault.Refusal.{Refusal}
@@ -68,3 +68,7 @@ Judged P (Err status.SinkFault) = ⊥
 abbrev pub status_of_fault : Fault → Status
 status_of_fault (faults.Refused r) = status.Refused r
 status_of_fault faults.NoMemory = status.NoMemory
+
+-- No file is longer than those that are read.
+abbrev pub AreShort : List (List ℕ) → Type 0
+AreShort files = All (λ bytes. length bytes ≤ LONGEST) files

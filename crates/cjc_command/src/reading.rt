@@ -1,16 +1,18 @@
 //! Reads, each with the status that ends a run where it fails.
 
+ghost use Rattle.std.specs.Prelude.{◌≡◌, ◌≤◌, length, IfOk};
 ghost use Rattle.cjc_command.specs.Plan.{read, read_each};
-ghost use Rattle.cjc_command.specs.Gather.{Gathers, IsSame};
+ghost use Rattle.cjc_command.specs.Gather.{Gathers, IsSame, AreShort};
 
 use crate::status::Status;
 use cjc_bytes::{Bytes, Row};
-use cjc_shelf::{ReadEnd, Shelf};
+use cjc_shelf::{LONGEST, ReadEnd, Shelf};
 use std::alloc::Global;
 
 /// Reads one file.
 pub fn fetch<S: Shelf>(alloc: Global, shelf: &mut S, name: &[u8]) -> Result<Bytes, Status>
-    ensures { Gathers (read name.now) IsSame (S.shelved shelf.old) (S.shelved shelf.new) result }
+    ensures gathers { Gathers (read name.now) IsSame (S.shelved shelf.old) (S.shelved shelf.new) result }
+    ensures short { IfOk result (λ bytes. length bytes ≤ LONGEST) }
 {
     let copy = Bytes::copy_of(alloc, name)?;
     match shelf.read(alloc, name) {
@@ -28,7 +30,9 @@ pub fn fetch_each<S: Shelf>(
     shelf: &mut S,
     names: &[Bytes],
 ) -> Result<Row<Bytes>, Status>
-    ensures { Gathers (read_each names.now) IsSame (S.shelved shelf.old) (S.shelved shelf.new) result }
+    ensures gathers { Gathers (read_each names.now) IsSame (S.shelved shelf.old) (S.shelved shelf.new) result }
+    ensures count { IfOk result (λ files. length files ≡ length names.now) }
+    ensures short { IfOk result AreShort }
 {
     let mut files = Row::new(alloc);
     for name in names {
