@@ -1,0 +1,27 @@
+//! The forms of the words.
+
+ghost use Rattle.std.specs.Prelude.{◌≡◌, option_map};
+ghost use Rattle.jcconv.specs.Request.{request};
+ghost use Rattle.jcconv.specs.Asked.{asked};
+
+use cjc_bytes::Bytes;
+
+/// What is asked for.
+#[derive(Clone, Copy)]
+pub enum Asked<'a> {
+    /// `convert LIST DIR`
+    Convert { list: &'a [u8], dir: &'a [u8] },
+}
+
+/// What the words ask for, where they are of a form.
+pub fn asked_by(words: &[Bytes]) -> Option<Asked<'_>>
+    ensures { option_map asked result ≡ request words.now }
+{
+    match words {
+        [verb, list, dir] if verb.items() == b"convert".as_slice() => Some(Asked::Convert {
+            list: list.items(),
+            dir: dir.items(),
+        }),
+        _ => None,
+    }
+}
