@@ -39,7 +39,7 @@ abbrev pub PutEnds : {T : Type 0} → List ℕ → MemSink → MemSink → Resul
 PutEnds bytes old new (Ok done) = Takes old (length bytes) × (new.held.items ≡ old.held.items ++ bytes) × (new.faults ≡ old.faults)
 PutEnds bytes old new (Err failed) = (new.faults ≡ counted old.faults)
     × ((Contains (failing_puts old) (next_put old) × (new.held.items ≡ old.held.items))
-        ⊎ ((old.room < length old.held.items + length bytes) × (new.held.items ≡ old.held.items ++ take (old.room - length old.held.items) bytes)))
+    ⊎ ((old.room < length old.held.items + length bytes) × (new.held.items ≡ old.held.items ++ take (old.room - length old.held.items) bytes)))
 
 pub record PutInMemory {T : Type 0} (bytes : List ℕ) (old new : MemSink) (result : Result T SinkFailed) : Type 0 where
   pub ends : PutEnds bytes old new result
