@@ -1,0 +1,5 @@
+pub mod Loops
+pub mod Items
+pub mod Wholes
+pub mod Texts
+pub mod Decided

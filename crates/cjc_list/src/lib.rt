@@ -1,0 +1,12 @@
+//! The program's list: the text that names a package, its class files and the export files that it
+//! imports, read into a `List`. It knows no file but the list.
+#![tactic(auto)]
+
+mod line;
+mod listing;
+mod read;
+#[cfg(test)]
+mod tests;
+
+pub use listing::List;
+pub use read::{listings, read_list};

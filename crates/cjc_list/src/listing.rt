@@ -1,0 +1,23 @@
+//! What a list says.
+
+use cjc_bytes::{AppletLine, Bytes, FileLine, Row};
+
+/// A package with the files that make it up.
+#[derive(Drop)]
+pub struct List {
+    /// The name of the list itself, as the command has it.
+    pub name: Bytes,
+    /// The name of the package, its parts joined by `/`.
+    pub package: Bytes,
+    /// The AID of the package, 5 to 16 bytes.
+    pub aid: Bytes,
+    /// The version of the package.
+    pub major: u8,
+    pub minor: u8,
+    /// Whether the type int is allowed. No line says so yet.
+    pub ints: bool,
+    /// The applets, in the order of their lines.
+    pub applets: Row<AppletLine>,
+    /// The class files and export files, in the order of their lines.
+    pub lines: Row<FileLine>,
+}
