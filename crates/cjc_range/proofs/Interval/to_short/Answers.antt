@@ -1,0 +1,5 @@
+use Rattle.cjc_range.proofs.Spans.{to_short_holds}
+use Rattle.cjc_range.proofs.Interval.to_short.Goals as goal
+
+pub returns-clause-holds : goal.returns-clause-holds
+returns-clause-holds c x h = rw c.clipped_to.ensures (to_short_holds c.args.self x h)

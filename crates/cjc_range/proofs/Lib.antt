@@ -1,0 +1,5 @@
+pub mod Spans
+pub mod Bits
+pub mod Order
+pub mod OrderBits
+pub mod Rounding

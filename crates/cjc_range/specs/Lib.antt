@@ -1,0 +1,4 @@
+pub mod Span
+pub mod Rows
+pub mod Landmarks
+pub mod Laws

@@ -1,0 +1,35 @@
+-- Spans of whole numbers: what an interval is to a contract.
+use Rattle.std.specs.Prelude.{ℤ, pos, negsuc, ◌≤ℤ◌}
+
+-- the numbers from low to high
+pub record Span : Type 0 where
+  pub low : ℤ
+  pub high : ℤ
+
+abbrev pub span : ℤ → ℤ → Span
+span low high = record { low = low; high = high }
+
+-- z is one of the numbers
+pub record Holds (s : Span) (z : ℤ) : Type 0 where
+  pub above : s.low ≤ℤ z
+  pub below : z ≤ℤ s.high
+
+-- s is a part of t
+pub record Within (s t : Span) : Type 0 where
+  pub low : t.low ≤ℤ s.low
+  pub high : s.high ≤ℤ t.high
+
+-- all numbers of 8, 16 and 32 bits
+abbrev pub byte_range : Span
+byte_range = span (negsuc 127) (pos 127)
+
+abbrev pub short_range : Span
+short_range = span (negsuc 32767) (pos 32767)
+
+abbrev pub full : Span
+full = span (negsuc 2147483647) (pos 2147483647)
+
+-- numbers of 32 bits, at least one: every interval is such a span
+pub record IsWord (s : Span) : Type 0 where
+  pub within : Within s full
+  pub ordered : s.low ≤ℤ s.high
