@@ -1,0 +1,3 @@
+pub mod Lattices
+pub mod Steps
+pub mod Waiting
