@@ -1,0 +1,9 @@
+pub mod Entry
+pub mod Kept
+pub mod Pool
+pub mod Items
+pub mod Members
+pub mod Code
+pub mod CodeAttribute
+pub mod Methods
+pub mod ClassFile

@@ -1,0 +1,88 @@
+-- Fields and attributes (Java Virtual Machine Specification, sections 4.5, 4.7 and 4.7.2).
+use Rattle.std.specs.Prelude.{ℕ, ℤ, Bool, true, false, List, Option, Some, None, option_and_then, slice_get, is_some, nat_lt, ◌==◌, ◌&&◌, if◌then◌else◌, codes, bit_and}
+use Rattle.std.specs.Int.{w16, w32}
+use Rattle.std.specs.Str.{bytes_eq}
+use Rattle.cjc_bytes.specs.Format.{Format, number, gives, ◌>>=◌, iterated, u2, u4, raw}
+use Rattle.cjc_classfile.specs.declared.tree.FieldTree.{FieldTree}
+use Rattle.cjc_classfile.specs.Entry.{Entry, integer, float, wide, string}
+use Rattle.cjc_classfile.specs.Items.{text_at, desc_of_at, class_name_at}
+
+-- the index of a text, of the descriptor of a field or method, or of a class
+unfoldable pub text_field : List Entry → Format (List ℕ)
+text_field pool = number w16 (text_at pool)
+
+unfoldable pub desc_field : List Entry → Bool → Format (List ℕ)
+desc_field pool is_method = number w16 (desc_of_at pool is_method)
+
+unfoldable pub class_field : List Entry → Format (List ℕ)
+class_field pool = number w16 (class_name_at pool)
+
+abbrev pub has : ℕ → ℕ → Bool
+has flags flag = nat_lt 0 (bit_and flags flag)
+
+-- an attribute behind its name, whatever it says
+unfoldable pub skipped : Format Unit
+skipped = do
+  length ← u4
+  free ← raw length
+  gives tt
+
+-- an attribute, whatever it says
+unfoldable pub attribute : List Entry → Format Unit
+attribute pool = do
+  name ← text_field pool
+  skipped
+
+-- ---- fields
+
+-- what is known of a field's constant: whether it has come, and its number where it has one
+abbrev pub Constant : Type 0
+Constant = Option (Option ℤ)
+
+-- whether an attribute of a field is its constant; only a static field has one, and only one
+abbrev pub is_constant : Bool → Constant → List ℕ → Option Bool
+is_constant static so_far name =
+    if static && bytes_eq name (codes "ConstantValue") then (if is_some so_far then None else Some true)
+    else Some false
+
+abbrev pub constant_of : Entry → Option (Option ℤ)
+constant_of (integer n) = Some (Some n)
+constant_of float = Some None
+constant_of wide = Some None
+constant_of (string value) = Some None
+constant_of _ = None
+
+unfoldable pub constant_at : List Entry → ℕ → Option (Option ℤ)
+constant_at pool i = option_and_then constant_of (slice_get pool i)
+
+abbrev pub exactly : ℕ → ℕ → Option ℕ
+exactly m n = if n == m then Some n else None
+
+unfoldable pub constant_content : List Entry → Bool → Constant → Format Constant
+constant_content pool true so_far = do
+  length ← number w32 (exactly 2)
+  value ← number w16 (constant_at pool)
+  gives (Some value)
+constant_content pool false so_far = do
+  free ← skipped
+  gives so_far
+
+unfoldable pub constant_name_at : List Entry → Bool → Constant → ℕ → Option Bool
+constant_name_at pool static so_far i = option_and_then (is_constant static so_far) (text_at pool i)
+
+unfoldable pub field_attribute : List Entry → Bool → ℕ → Constant → Format Constant
+field_attribute pool static behind so_far =
+    number w16 (constant_name_at pool static so_far) >>= λ constant. constant_content pool constant so_far
+
+abbrev pub value_of : Constant → Option ℤ
+value_of (Some value) = value
+value_of None = None
+
+unfoldable pub field_tree : List Entry → Format FieldTree
+field_tree pool = do
+  flags ← u2
+  name ← text_field pool
+  desc ← desc_field pool false
+  count ← u2
+  constant ← iterated count (field_attribute pool (has flags 0x0008)) None
+  gives (record { flags = flags; name = name; desc = desc; constant = value_of constant })

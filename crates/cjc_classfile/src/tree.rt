@@ -1,0 +1,95 @@
+//! What a class file says (Java Virtual Machine Specification, chapter 4): the tree that its bytes spell.
+//! Names and descriptors are bytes as they stand in the constant pool.
+
+use cjc_bytes::{Bytes, MemberId, Row};
+use std::marker::Model;
+
+/// What an entry of the constant pool means to code (section 4.4).
+#[derive(Drop)]
+pub enum PoolItem {
+    /// An Integer.
+    Int(i32),
+    /// A Class, by its name; of an array class its descriptor.
+    Class(Bytes),
+    Field(MemberId),
+    Method(MemberId),
+    InterfaceMethod(MemberId),
+    /// A Utf8.
+    Text,
+    /// Any other entry, index 0, and the index after a Long or Double.
+    Other,
+}
+
+/// A field (section 4.5).
+#[derive(Drop)]
+pub struct FieldTree {
+    pub flags: u16,
+    pub name: Bytes,
+    pub desc: Bytes,
+    /// The number that the ConstantValue of a static field names, where that is an Integer (section 4.7.2).
+    pub constant: Option<i32>,
+}
+
+/// An entry of an exception table (section 4.7.3), its places in bytes from the start of the code.
+#[derive(Drop)]
+pub struct Catch {
+    /// The first place that is covered.
+    pub start: u16,
+    /// The first place after `start` that is not covered.
+    pub end: u16,
+    /// Where the handler begins.
+    pub target: u16,
+    /// The class that is caught; none where everything is.
+    pub class: Option<Bytes>,
+}
+
+/// The code of a method (section 4.7.3).
+#[derive(Drop)]
+pub struct Code<'a> {
+    /// In words.
+    pub max_stack: u16,
+    /// In words.
+    pub max_locals: u16,
+    /// The instructions, 1 to 65,535 bytes.
+    pub bytes: &'a [u8],
+    pub catches: Row<Catch>,
+    /// How many attributes the code has.
+    pub attributes: u16,
+}
+
+impl<'a> Model for Code<'a> {
+    ghost use Rattle.cjc_classfile.specs.Code.{CodeTree};
+
+    ghost Value = { CodeTree };
+
+    ghost view = { λ c. record { max_stack = c.max_stack; max_locals = c.max_locals; bytes = c.bytes.now; catches = c.catches; attributes = c.attributes } };
+}
+
+/// A method (section 4.6).
+#[derive(Drop)]
+pub struct MethodTree<'a> {
+    pub flags: u16,
+    pub name: Bytes,
+    pub desc: Bytes,
+    /// There exactly where the method is neither abstract nor native.
+    pub code: Option<Code<'a>>,
+    /// How many attributes the method has, Code among them.
+    pub attributes: u16,
+}
+
+/// A class or interface (section 4.1).
+#[derive(Drop)]
+pub struct ClassTree<'a> {
+    /// The major version, 45 to 52.
+    pub major: u16,
+    pub flags: u16,
+    pub name: Bytes,
+    pub superclass: Bytes,
+    pub interfaces: Row<Bytes>,
+    /// One item an index, from 0.
+    pub pool: Row<PoolItem>,
+    pub fields: Row<FieldTree>,
+    pub methods: Row<MethodTree<'a>>,
+    /// How many attributes the class has.
+    pub attributes: u16,
+}
