@@ -1,0 +1,9 @@
+//! The instructions of the Java Virtual Machine as a class file's code has them, cut from its bytes and with
+//! the names that their operands stand for.
+#![tactic(auto)]
+
+mod cutting;
+mod insn;
+
+pub use cutting::cut;
+pub use insn::{JCase, JInsn, JOp};
