@@ -1,0 +1,13 @@
+pub mod Entry
+pub mod Kind
+pub mod Words
+pub mod Pool
+pub mod Package
+pub mod Members
+pub mod ExportFile
+pub mod Constant
+pub mod Written
+pub mod Same
+pub mod Writable
+pub mod Lookup
+pub mod Tokens

@@ -1,0 +1,20 @@
+//! Export files: what a package lets others use, as a tree (Java Card Virtual Machine Specification 2.2.2,
+//! chapter 5). They are read and written by one grammar.
+#![tactic(auto)]
+
+mod constants;
+mod file;
+mod flags;
+mod lookup;
+mod members;
+mod needs;
+mod pool;
+mod tree;
+mod writing;
+
+pub use file::{read, readings};
+pub use tree::{ExportClass, ExportField, ExportMethod, ExportTree};
+pub use writing::write;
+
+#[cfg(test)]
+mod tests;

@@ -1,0 +1,53 @@
+//! What an export file says (Java Card Virtual Machine Specification 2.2.2, chapter 5). Names and descriptors
+//! are bytes as they stand in its pool.
+
+use cjc_bytes::{Bytes, Row};
+
+/// A package and what it exports.
+#[derive(Drop)]
+pub struct ExportTree {
+    /// The package's name, its parts joined by `/`.
+    pub name: Bytes,
+    pub aid: Bytes,
+    pub major: u8,
+    pub minor: u8,
+    /// Whether the package is a library, which has no applet.
+    pub library: bool,
+    pub classes: Row<ExportClass>,
+}
+
+/// An exported class or interface.
+#[derive(Drop)]
+pub struct ExportClass {
+    pub token: u8,
+    pub flags: u16,
+    /// The full name.
+    pub name: Bytes,
+    /// Superclasses, direct or not.
+    pub supers: Row<Bytes>,
+    /// Interfaces, direct or not.
+    pub interfaces: Row<Bytes>,
+    pub fields: Row<ExportField>,
+    pub methods: Row<ExportMethod>,
+}
+
+/// A field that can be used.
+#[derive(Drop)]
+pub struct ExportField {
+    /// 0xFF of a constant.
+    pub token: u8,
+    pub flags: u16,
+    pub name: Bytes,
+    pub desc: Bytes,
+    /// The value of a static final field of boolean, byte, short or int that has a ConstantValue.
+    pub constant: Option<i32>,
+}
+
+/// A method that can be used.
+#[derive(Drop)]
+pub struct ExportMethod {
+    pub token: u8,
+    pub flags: u16,
+    pub name: Bytes,
+    pub desc: Bytes,
+}
