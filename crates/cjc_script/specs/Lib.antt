@@ -1,0 +1,4 @@
+pub mod Agree
+pub mod Names
+pub mod Types
+pub mod Fits
