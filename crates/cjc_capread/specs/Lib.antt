@@ -1,0 +1,16 @@
+pub mod Opcodes
+pub mod Shapes
+pub mod Parts
+pub mod Header
+pub mod Directory
+pub mod Applet
+pub mod Import
+pub mod Pool
+pub mod Until
+pub mod Class
+pub mod Method
+pub mod StaticField
+pub mod ReferenceLocation
+pub mod Export
+pub mod Descriptor
+pub mod Component

@@ -1,0 +1,24 @@
+//! The components of a CAP file: what they say, as trees, and which bytes spell them.
+#![tactic(auto)]
+
+mod class;
+mod component;
+mod descriptor;
+mod export;
+mod method;
+mod opcode;
+mod package;
+mod parts;
+mod pool;
+mod statics;
+mod tree;
+
+pub use component::{read, readings};
+pub use opcode::{OpInfo, op};
+pub use tree::{
+    Applet, AppletEntry, ArrayInit, CapTree, ClassDescriptor, ClassEntry, ClassInfo, ClassRef,
+    Component, ConstantPool, Descriptor, Directory, Export, ExportedClass, FieldDescriptor,
+    FieldPlace, FieldType, Handler, Header, ImplementedInterface, Import, ImportedPackage,
+    InterfaceEntry, Method, MethodDescriptor, PoolEntry, ReferenceLocation, StaticField, StaticRef,
+    TypeDescriptor,
+};
