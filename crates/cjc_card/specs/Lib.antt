@@ -1,0 +1,5 @@
+pub mod Cells
+pub mod Rows
+pub mod Naming
+pub mod ByToken
+pub mod Exported
