@@ -1,0 +1,9 @@
+pub mod PartsWritten
+pub mod PackageWritten
+pub mod PoolWritten
+pub mod StaticsWritten
+pub mod ClassWritten
+pub mod DescriptorWritten
+pub mod FilesWritten
+pub mod TreeWritten
+pub mod Lengths

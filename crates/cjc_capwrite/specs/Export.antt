@@ -1,0 +1,12 @@
+-- The bytes of Export.
+use Rattle.std.specs.Prelude.{ℕ, List, ◌++◌, length}
+use Rattle.std.specs.List.{flat_map}
+use Rattle.cjc_capread.specs.declared.tree.Export.{Export}
+use Rattle.cjc_capread.specs.declared.tree.ExportedClass.{ExportedClass}
+use Rattle.cjc_capwrite.specs.Parts.{one, two}
+
+unfoldable pub exported_class_bytes : ExportedClass → List ℕ
+exported_class_bytes x = two x.class_offset ++ (one (length x.fields) ++ (one (length x.methods) ++ (flat_map two x.fields ++ flat_map two x.methods)))
+
+unfoldable pub export_bytes : Export → List ℕ
+export_bytes x = one (length x.classes) ++ flat_map exported_class_bytes x.classes

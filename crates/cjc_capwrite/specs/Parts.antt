@@ -1,0 +1,29 @@
+-- The bytes of what several components share.
+use Rattle.std.specs.Prelude.{ℕ, ◌+◌, ◌%◌, ◌^◌, List, [], ◌∷◌, ◌++◌, length}
+use Rattle.std.specs.Int.{w16, to_be_bytes}
+use Rattle.cjc_capread.specs.declared.tree.ClassRef.{ClassRef}
+use Rattle.cjc_capread.specs.declared.tree.ClassRef.TheVariants as class_refs
+use Rattle.cjc_capread.specs.declared.tree.StaticRef.{StaticRef}
+use Rattle.cjc_capread.specs.declared.tree.StaticRef.TheVariants as static_refs
+
+-- the low byte of a number, and its low two bytes
+abbrev pub one : ℕ → List ℕ
+one n = n % 2 ^ 8 ∷ []
+
+abbrev pub two : ℕ → List ℕ
+two n = to_be_bytes w16 (n % 2 ^ 16)
+
+-- bytes behind their number
+abbrev pub bytes1 : List ℕ → List ℕ
+bytes1 bytes = one (length bytes) ++ bytes
+
+abbrev pub bytes2 : List ℕ → List ℕ
+bytes2 bytes = two (length bytes) ++ bytes
+
+abbrev pub class_bytes : ClassRef → List ℕ
+class_bytes (class_refs.Inside offset) = two offset
+class_bytes (class_refs.Outside imported class) = one (0x80 + imported) ++ class ∷ []
+
+abbrev pub static_bytes : StaticRef → List ℕ
+static_bytes (static_refs.Inside offset) = 0 ∷ [] ++ two offset
+static_bytes (static_refs.Outside imported class token) = one (0x80 + imported) ++ (class ∷ [] ++ token ∷ [])
