@@ -1,0 +1,72 @@
+use Rattle.std.proofs.Common.{◌≡◌, refl, [], ◌∷◌, inr, arith}
+use Rattle.std.specs.Prelude.{Ok}
+use Rattle.cjc_bytes.specs.Format.{before}
+use Rattle.cjc_bytes.specs.Reading.{read_file, digits, front}
+use Rattle.cjc_code.specs.Cut.{cut, instruction}
+use Rattle.cjc_code.specs.Table.{row_of}
+use Rattle.cjc_convert.specs.Selected.{selected, selected_code, header}
+use Rattle.cjc_convert.specs.Converted.{tree_for}
+use Rattle.cjc_convert.specs.Example.{example_line, example_class, example_code, example_method, example_insns}
+use Rattle.cjc_convert.specs.FirstForm.{IsFirstForm, IsSumCode, IsSumMethod}
+use Rattle.std.specs.Int.{int_wrap}
+use Rattle.cjc_convert.proofs.example.example_is_converted.Goals as goal
+
+are_cut : cut example_code.bytes ≡ Ok example_insns
+unfolding cut instruction read_file digits front row_of before int_wrap
+are_cut = refl
+
+pub returns-clause-cut : goal.returns-clause-cut
+returns-clause-cut c = are_cut
+
+is_sum_code : IsSumCode 1 example_code example_insns
+is_sum_code = record {
+  are_cut = are_cut;
+  length = omega arith;
+  is_sum = refl;
+  some_stack = omega arith;
+  stack_for_two = λ e. omega arith;
+  stack = omega arith;
+  params_fit = omega arith;
+  locals = omega arith;
+  size = omega arith;
+  catches = refl;
+  attributes = refl;
+}
+
+is_sum_method : IsSumMethod 1 example_method example_code example_insns
+is_sum_method = record {
+  flags = refl;
+  name = record { bytes = refl; some = omega arith };
+  name_length = omega arith;
+  desc = refl;
+  few = omega arith;
+  has_code = refl;
+  attributes = refl;
+  is_sum = is_sum_code;
+}
+
+is_first_form : IsFirstForm example_line example_class
+is_first_form = record {
+  short_name = omega arith;
+  major = (omega arith, omega arith);
+  pool = refl;
+  flags = inr refl;
+  superclass = refl;
+  interfaces = refl;
+  fields = refl;
+  attributes = refl;
+  part = 84 ∷ [];
+  name = refl;
+  name_length = omega arith;
+  is_part = record { bytes = refl; some = omega arith };
+  method = example_method;
+  methods = refl;
+  code = example_code;
+  insns = example_insns;
+  params = 1;
+  is_sum = is_sum_method;
+}
+
+pub returns-clause-method : goal.returns-clause-method
+unfolding selected selected_code header tree_for int_wrap is_first_form
+returns-clause-method c = (is_first_form, refl)

@@ -1,0 +1,23 @@
+//! The components that are written for a package behave like its class files.
+
+ghost use Rattle.std.specs.Prelude.{List, [], ◌∷◌};
+ghost use Rattle.cjc_classfile.specs.declared.tree.ClassTree.{ClassTree as Tree};
+ghost use Rattle.cjc_export.specs.declared.tree.ExportTree.{ExportTree};
+ghost use Rattle.cjc_export.specs.Tokens.{HaveOwnTokens};
+ghost use Rattle.cjc_convert.specs.FirstForm.{PackageLine, IsFirstForm};
+ghost use Rattle.cjc_convert.specs.Converted.{converted};
+ghost use Rattle.cjc_card.specs.Exported.{ExportsWhatIsDescribed};
+ghost use Rattle.cjc_convert.specs.BehaveAlike.{BehaveAlike};
+
+/// A package of the first form and the components that are written for it behave alike, for every script. Of
+/// the export files it is known that each class has a token of its own.
+#[tactic(auto, using(crate::proofs::BehavesAlike::form_behaves_alike))]
+pub fn first_form_behaves_alike()
+    ensures { (line : PackageLine) (tree : Tree) (form : IsFirstForm line tree) (exports : List ExportTree) → HaveOwnTokens exports → BehaveAlike (tree ∷ []) exports (converted line tree form) }
+{}
+
+/// What is exported of a package of the first form is what its members are described to be.
+#[tactic(auto, unfolding(crate::specs::Converted::tree_for))]
+pub fn first_form_exports()
+    ensures { (line : PackageLine) (tree : Tree) (form : IsFirstForm line tree) → ExportsWhatIsDescribed (converted line tree form) }
+{}

@@ -1,0 +1,20 @@
+//! The conversion of a package: of the list and the files that it names into the components and the export
+//! file, or the first broken rule.
+#![tactic(auto)]
+
+mod alike;
+mod classes;
+mod components;
+mod conversion;
+mod example;
+mod exported;
+mod form;
+mod lang;
+mod selected;
+
+pub use alike::{first_form_behaves_alike, first_form_exports};
+pub use cjc_capwrite::CapFiles;
+pub use cjc_list::{List, read_list};
+pub use conversion::{Converted, convert};
+pub use example::{example_acts_run, example_is_converted, example_runs};
+pub use lang::LANG;
