@@ -2,6 +2,47 @@
 #![tactic(auto)]
 
 mod command;
+mod converting;
+#[cfg(test)]
+mod tests;
 mod text;
+mod top;
 
-fn main() {}
+use cjc_bytes::{Bytes, Row};
+use cjc_command::Status;
+use cjc_shelf::{DiskShelf, StdSink};
+use std::alloc::Global;
+use std::process::ExitCode;
+use std::rt::Env;
+use std::{env, io};
+pub use top::run;
+
+// The words after the program's name. Where they are no text, the answer is that for wrong words.
+fn words<R: Env + AllocGlobal>(rt: &R) -> Result<Row<Bytes>, Status> {
+    let arguments = match env::args(rt) {
+        Ok(arguments) => arguments,
+        Err(error) => {
+            return Err(match error.kind() {
+                io::ErrorKind::InvalidData => Status::Usage,
+                _ => Status::NoMemory,
+            });
+        }
+    };
+    let mut words = Row::new(rt.alloc());
+    for argument in arguments.skip(1) {
+        words.push(Bytes::copy_of(rt.alloc(), argument.as_bytes())?)?;
+    }
+    Ok(words)
+}
+
+fn main(rt: HostRuntime) -> ExitCode {
+    let mut shelf = DiskShelf::new(&rt);
+    let mut out = StdSink::new(rt.stdout());
+    let status = match words(&rt) {
+        Ok(words) => run(rt.alloc(), words.items(), &mut shelf, &mut out),
+        Err(end) => end,
+    };
+    let mut errors = StdSink::new(rt.stderr());
+    let _ = text::status_line(&status, &mut errors);
+    ExitCode::from(status.code())
+}

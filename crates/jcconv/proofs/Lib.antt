@@ -1,0 +1,4 @@
+pub mod Listing
+pub mod Completing
+pub mod Standing
+pub mod Promising

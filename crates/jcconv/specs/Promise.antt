@@ -1,0 +1,65 @@
+-- What a conversion that is done promises of the files before and after it.
+use Rattle.std.specs.Prelude.{◌≡◌, Bool, true, false, ℕ, List, [], ◌∷◌, ◌++◌, codes, Option, Some, IfSome, IsSomeAnd}
+use Rattle.std.specs.FinMap.{get}
+use Rattle.cjc_bytes.specs.Format.{FileSpells}
+use Rattle.cjc_bytes.specs.declared.settings.FileLine.{FileLine}
+use Rattle.cjc_shelf.specs.Shelf.{Files}
+use Rattle.cjc_list.specs.Listed.{ListTree}
+use Rattle.cjc_list.specs.Spelling.{IsSpelt as IsListSpelt}
+use Rattle.cjc_classfile.specs.ClassFile.{class_file}
+use Rattle.cjc_classfile.specs.declared.tree.ClassTree.{ClassTree}
+use Rattle.cjc_export.specs.declared.tree.ExportTree.{ExportTree}
+use Rattle.cjc_export.specs.Tokens.{HaveOwnTokens}
+use Rattle.cjc_capread.specs.declared.tree.CapTree.{CapTree}
+use Rattle.cjc_capwrite.specs.declared.files.CapFiles.{CapFiles}
+use Rattle.cjc_capwrite.specs.Writable.{IsSpelt}
+use Rattle.cjc_convert.specs.BehaveAlike.{BehaveAlike}
+use Rattle.jcconv.specs.Request.{Request, convert}
+
+-- what stands under a name in the folder
+abbrev pub inside : Files → List ℕ → List ℕ → Option (List ℕ)
+inside files dir name = get files (dir ++ codes "/" ++ name)
+
+-- The component files stand in the folder.
+pub record Stand (dir : List ℕ) (caps : CapFiles) (files : Files) : Type 0 where
+  pub header : inside files dir (codes "Header.cap") ≡ Some caps.header
+  pub directory : inside files dir (codes "Directory.cap") ≡ Some caps.directory
+  pub applet : IfSome caps.applet (λ bytes. inside files dir (codes "Applet.cap") ≡ Some bytes)
+  pub import : inside files dir (codes "Import.cap") ≡ Some caps.import
+  pub pool : inside files dir (codes "ConstantPool.cap") ≡ Some caps.pool
+  pub class : inside files dir (codes "Class.cap") ≡ Some caps.class
+  pub method : inside files dir (codes "Method.cap") ≡ Some caps.method
+  pub statics : inside files dir (codes "StaticField.cap") ≡ Some caps.statics
+  pub locations : inside files dir (codes "RefLocation.cap") ≡ Some caps.locations
+  pub export : IfSome caps.export (λ bytes. inside files dir (codes "Export.cap") ≡ Some bytes)
+  pub descriptor : inside files dir (codes "Descriptor.cap") ≡ Some caps.descriptor
+
+abbrev pub SpellStep : Bool → Option (List ℕ) → (List ClassTree → Type 0) → List ClassTree → Type 0
+SpellStep true file rest [] = ⊥
+SpellStep true file rest (tree ∷ trees) = IsSomeAnd file (λ bytes. FileSpells class_file tree bytes) × rest trees
+SpellStep false file rest trees = rest trees
+
+-- The class files that the lines name spell these classes, in order. Export files are passed by.
+abbrev pub SpellClasses : Files → List FileLine → List ClassTree → Type 0
+SpellClasses files [] trees = trees ≡ []
+SpellClasses files (line ∷ lines) trees = SpellStep line.class_file (get files line.name) (SpellClasses files lines) trees
+
+-- The class files that the list of this name names before, and the components in the folder after, behave
+-- alike: for every script, and whichever export files both machines go by, as long as in each of them the
+-- classes have tokens of their own.
+pub record Converts (name dir : List ℕ) (before after : Files) : Type 0 where
+  pub text : List ℕ
+  pub list : ListTree
+  pub classes : List ClassTree
+  pub caps : CapFiles
+  pub cap : CapTree
+  pub text_is : get before name ≡ Some text
+  pub list_is : IsListSpelt name list text
+  pub class_files : SpellClasses before list.lines classes
+  pub components : Stand dir caps after
+  pub spelt : IsSpelt cap caps
+  pub alike : (exports : List ExportTree) → HaveOwnTokens exports → BehaveAlike classes exports cap
+
+-- what the request that is done promises
+abbrev pub Promised : Request → Files → Files → Type 0
+Promised (convert name dir) before after = Converts name dir before after
