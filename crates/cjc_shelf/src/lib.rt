@@ -8,6 +8,8 @@ mod memory;
 mod shelf;
 mod sink;
 mod stream;
+#[cfg(test)]
+mod tests;
 
 pub use disk::DiskShelf;
 pub use mem_sink::{MemSink, ROOM};
