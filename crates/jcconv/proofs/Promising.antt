@@ -28,6 +28,7 @@ use Rattle.jcconv.specs.Command.{command_of}
 use Rattle.jcconv.specs.Convert.{names_of, plan_of_files, plan_of_list, plan_of_convert, files_made, below}
 use Rattle.jcconv.specs.Promise.{SpellStep, SpellClasses, Stand, Converts, Promised}
 use Rattle.jcconv.proofs.Standing.{stand_made}
+use Rattle.jcconv.proofs.OwnTokens.{exports_own}
 
 -- ---- what was read
 
@@ -139,7 +140,8 @@ keeps name dir files new todo ready written =
       class_files = classes_spelt files x.0.lines x.1 is.form.bytes is.tree is.form.pair got.all is.form.spelt;
       components = subst (Stand dir made.caps) (sym after) (stand_made dir x.0.package files made);
       spelt = is.is_made.spelt;
-      alike = λ exports own. form_behaves_alike (line_of x.0) is.tree is.form.form exports own;
+      alike = λ exports spelt. form_behaves_alike (line_of x.0) is.tree is.form.form exports (exports_own files x.0.lines exports spelt);
+      alike_beyond = λ exports own. form_behaves_alike (line_of x.0) is.tree is.form.form exports own;
     })
 
 over : (o : Option Files) {P Q : Files → Type 0} → ((files : Files) → P files → Q files) → IfSome o P → IfSome o Q

@@ -9,6 +9,7 @@ use Rattle.cjc_list.specs.Spelling.{IsSpelt as IsListSpelt}
 use Rattle.cjc_classfile.specs.ClassFile.{class_file}
 use Rattle.cjc_classfile.specs.declared.tree.ClassTree.{ClassTree}
 use Rattle.cjc_export.specs.declared.tree.ExportTree.{ExportTree}
+use Rattle.cjc_export.specs.ExportFile.{export_file}
 use Rattle.cjc_export.specs.Tokens.{HaveOwnTokens}
 use Rattle.cjc_capread.specs.declared.tree.CapTree.{CapTree}
 use Rattle.cjc_capwrite.specs.declared.files.CapFiles.{CapFiles}
@@ -44,9 +45,18 @@ abbrev pub SpellClasses : Files → List FileLine → List ClassTree → Type 0
 SpellClasses files [] trees = trees ≡ []
 SpellClasses files (line ∷ lines) trees = SpellStep line.class_file (get files line.name) (SpellClasses files lines) trees
 
+abbrev pub ExportStep : Bool → Option (List ℕ) → (List ExportTree → Type 0) → List ExportTree → Type 0
+ExportStep true file rest trees = rest trees
+ExportStep false file rest [] = ⊥
+ExportStep false file rest (tree ∷ trees) = IsSomeAnd file (λ bytes. FileSpells export_file tree bytes) × rest trees
+
+-- The export files that the lines name spell these export trees, in order. Class files are passed by.
+abbrev pub SpellExports : Files → List FileLine → List ExportTree → Type 0
+SpellExports files [] trees = trees ≡ []
+SpellExports files (line ∷ lines) trees = ExportStep line.class_file (get files line.name) (SpellExports files lines) trees
+
 -- The class files that the list of this name names before, and the components in the folder after, behave
--- alike: for every script, and whichever export files both machines go by, as long as in each of them the
--- classes have tokens of their own.
+-- alike for every script, where both machines go by the export files that the list names.
 pub record Converts (name dir : List ℕ) (before after : Files) : Type 0 where
   pub text : List ℕ
   pub list : ListTree
@@ -58,7 +68,9 @@ pub record Converts (name dir : List ℕ) (before after : Files) : Type 0 where
   pub class_files : SpellClasses before list.lines classes
   pub components : Stand dir caps after
   pub spelt : IsSpelt cap caps
-  pub alike : (exports : List ExportTree) → HaveOwnTokens exports → BehaveAlike classes exports cap
+  pub alike : (exports : List ExportTree) → SpellExports before list.lines exports → BehaveAlike classes exports cap
+  -- They do so by other export files too, as long as in each of them the classes have tokens of their own.
+  pub alike_beyond : (exports : List ExportTree) → HaveOwnTokens exports → BehaveAlike classes exports cap
 
 -- what the request that is done promises
 abbrev pub Promised : Request → Files → Files → Type 0
