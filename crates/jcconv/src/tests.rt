@@ -255,5 +255,10 @@ fn other_words_and_no_list(rt: HostRuntime) -> Result<(), Fail> {
     let (text, end) = printed(rt.alloc(), &[], &CONVERT, &mut shelf)?;
     assert_eq!(rt; end.as_str(), "absent list\n");
     assert_eq!(rt; text.as_str(), "");
+    shelf.add(b"list", LIST)?;
+    shelf.add(b"lang.exp", LANG.as_slice())?;
+    let (text, end) = printed(rt.alloc(), &[], &CONVERT, &mut shelf)?;
+    assert_eq!(rt; end.as_str(), "absent T.class\n");
+    assert_eq!(rt; text.as_str(), "");
     Ok(())
 }
