@@ -1,0 +1,3 @@
+pub mod Loops
+pub mod OneCut
+pub mod Samples

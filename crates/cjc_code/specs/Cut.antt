@@ -1,44 +1,36 @@
--- Which instructions the bytes of a code are.
-use Rattle.std.specs.Prelude.{ℕ, List, [], ◌∷◌, length, Option, Some, None, Result, ℤ, pos}
-use Rattle.std.specs.Int.{w8, w16, cast_signed}
-use Rattle.cjc_bytes.specs.Format.{Format, number, here, gives, before, ◌>>=◌}
-use Rattle.cjc_bytes.specs.Reading.{read_file}
-use Rattle.cjc_code.specs.declared.insn.JOp.{JOp}
-use Rattle.cjc_code.specs.declared.insn.JInsn.{JInsn}
-use Rattle.cjc_code.specs.Table.{Operand, U1, S1, S2, Row, row_of}
+-- The instructions that a code is cut into.
+use Rattle.std.specs.Prelude.{◌≡◌, ℕ, zero, suc, ◌+◌, List, [], ◌∷◌, ◌++◌, length, Result, Ok, Err}
+use Rattle.cjc_bytes.specs.Format.{Spells, Breaks}
+use Rattle.cjc_bytes.specs.Rest.{Rest}
+use Rattle.cjc_bytes.specs.Reading.{read}
+use Rattle.cjc_code.specs.declared.raw.Raw.{Raw}
+use Rattle.cjc_code.specs.declared.raw.Cut.{Cut}
+use Rattle.cjc_code.specs.Instruction.{instruction}
 
-abbrev pub operand : Operand → Format ℤ
-operand U1 = number w8 (λ n. Some (pos n))
-operand S1 = number w8 (λ n. Some (cast_signed w8 n))
-operand S2 = number w16 (λ n. Some (cast_signed w16 n))
+-- From this place on the bytes are these instructions, each spelt by its bytes at its place; behind them, at
+-- `stop`, the bytes end or spell no instruction: the opcode is unknown or an operand is cut.
+unfoldable pub IsCutFrom : (place : ℕ) → List ℕ → List Raw → (stop : ℕ) → Type 0
+IsCutFrom place bytes [] stop = (stop ≡ place) × ((k : ℕ) × Breaks instruction place bytes k)
+IsCutFrom place bytes (i ∷ insns) stop = (front back : List ℕ) × (bytes ≡ front ++ back) × Spells instruction place i front × IsCutFrom (place + length front) back insns stop
 
-abbrev pub operands : List Operand → Format (List ℤ)
-operands [] = gives []
-operands (kind ∷ kinds) = do
-  z ← operand kind
-  zs ← operands kinds
-  gives (z ∷ zs)
+-- A code is cut into these instructions.
+abbrev pub IsCut : List ℕ → Cut → Type 0
+IsCut code c = IsCutFrom 0 code c.insns c.stop
 
--- an opcode of the table
-abbrev pub opcode : Format (ℕ × Row)
-opcode = number w8 (λ op. paired op (row_of op))
-  where
-    paired : ℕ → Option Row → Option (ℕ × Row)
-    paired op None = None
-    paired op (Some r) = Some (op, r)
+-- an instruction before others
+abbrev pub put_first : Raw → Cut → Cut
+put_first i c = record { insns = i ∷ c.insns; stop = c.stop }
 
--- one instruction: an opcode and its operands
-unfoldable pub instruction : Format JInsn
-instruction = do
-  at ← here (λ at. at)
-  x ← opcode
-  zs ← operands x.1.operands
-  gives (record { at = at; op = x.1.meaning x.0 zs })
+-- an instruction that was read, before those of what is left then; or the end, where none was
+abbrev pub cut_on : Result (Raw × Rest) ℕ → (place : ℕ) → (Rest → Cut) → Cut
+cut_on (Ok x) place others = put_first x.0 (others x.1)
+cut_on (Err k) place others = record { insns = []; stop = place }
 
--- a code: one instruction after the other up to this length
-abbrev pub code : ℕ → Format (List JInsn)
-code size = before size size instruction
+-- the instructions at the front of what is left, so many at most, and where they end
+unfoldable pub cut_rest : ℕ → Rest → Cut
+cut_rest zero r = record { insns = []; stop = r.at }
+cut_rest (suc n) r = cut_on (read instruction r) r.at (λ s. cut_rest n s)
 
--- the instructions that the bytes of a code are, or the offset where they are none
-unfoldable pub cut : List ℕ → Result (List JInsn) ℕ
-cut bytes = read_file (code (length bytes)) bytes
+-- what a code is cut into: that which `IsCut` says, and nothing else
+unfoldable pub cut : List ℕ → Cut
+cut code = cut_rest (length code) (record { at = 0; left = code })

@@ -1,2 +1,9 @@
 pub mod Table
+pub mod Instruction
 pub mod Cut
+pub mod Items
+pub mod Numbers
+pub mod Unfit
+pub mod Named
+pub mod Decoded
+pub mod Lengths

@@ -1,52 +1,55 @@
--- The table of opcodes (Java Virtual Machine Specification, 6.5): the operands that follow each, and the instruction.
-use Rattle.std.specs.Prelude.{ℕ, ◌-◌, List, [], ◌∷◌, Option, Some, None, false, nat_le, ◌&&◌, if◌then◌else◌, ℤ, pos, negsuc, ◌-ℤ◌}
-use Rattle.cjc_code.specs.declared.insn.JOp.{JOp}
-use Rattle.cjc_code.specs.declared.insn.JOp.TheVariants.{Number, Load, Arith, Narrow, Return}
+-- What follows an opcode (Java Virtual Machine Specification, 6.5). The table itself stands in src/table.rt.
+use Rattle.std.specs.Prelude.{ℕ, ◌-◌, ◌*◌, ◌%◌, List, [], ◌∷◌, Option, Some, None, get_or, ℤ, pos, negsuc, ◌+ℤ◌, ◌-ℤ◌}
+use Rattle.cjc_code.specs.declared.table.TheConstants.{TABLE}
+use Rattle.cjc_code.specs.declared.table.Operand.{Operand}
+use Rattle.cjc_code.specs.declared.table.Operand.TheVariants.{Unsigned1, Signed1, Unsigned2, Signed2, Signed4}
+use Rattle.cjc_code.specs.declared.table.Operands.{Operands}
+use Rattle.cjc_code.specs.declared.table.Operands.TheVariants as behind
+use Rattle.cjc_code.specs.declared.table.Family.{Family}
+use Rattle.cjc_code.specs.declared.table.Family.TheVariants as family
 
--- an operand: one byte without a sign, or one or two with a sign
-pub data Operand : Type 0 where
-  U1 : Operand
-  S1 : Operand
-  S2 : Operand
+-- what follows an opcode, and what its instruction is
+unfoldable pub row : ℕ → Operands × Family
+row opcode = get_or TABLE opcode (behind.Nothing, family.Unknown)
 
--- the opcodes from first to last, their operands, and what the opcode and its operands mean
-pub record Row : Type 0 where
-  pub first : ℕ
-  pub last : ℕ
-  pub operands : List Operand
-  pub meaning : ℕ → List ℤ → JOp
+-- the operands of fixed number
+abbrev pub heads : Operands → List Operand
+heads behind.Nothing = []
+heads behind.U1 = Unsigned1 ∷ []
+heads behind.S1 = Signed1 ∷ []
+heads behind.U2 = Unsigned2 ∷ []
+heads behind.S2 = Signed2 ∷ []
+heads behind.S4 = Signed4 ∷ []
+heads behind.U1S1 = Unsigned1 ∷ Signed1 ∷ []
+heads behind.U2S2 = Unsigned2 ∷ Signed2 ∷ []
+heads behind.U2U1 = Unsigned2 ∷ Unsigned1 ∷ []
+heads behind.U2U1U1 = Unsigned2 ∷ Unsigned1 ∷ Unsigned1 ∷ []
+heads behind.Table = Signed4 ∷ Signed4 ∷ Signed4 ∷ []
+heads behind.Lookup = Signed4 ∷ Signed4 ∷ []
 
--- a number that stands as the only operand, where one stands at all
-abbrev pub only : List ℤ → ℤ
-only (z ∷ zs) = z
-only [] = pos 0
+-- how many bytes a switch leaves free behind its opcode: its numbers begin at a multiple of four bytes from the
+-- start of the code
+abbrev pub padding : Operands → (place : ℕ) → ℕ
+padding behind.Table place = (4 - place % 4) % 4
+padding behind.Lookup place = (4 - place % 4) % 4
+padding _ place = 0
 
-abbrev pub low_local : ℤ → ℕ
-low_local (pos n) = n
-low_local (negsuc n) = 0
+-- a whole number that counts something: none where it is negative
+abbrev pub count : ℤ → ℕ
+count (pos n) = n
+count (negsuc n) = 0
 
-abbrev pub rows : List Row
-rows =
-    -- iconst_m1 to iconst_5
-    record { first = 0x02; last = 0x08; operands = []; meaning = λ op zs. Number (pos op -ℤ pos 3) }
-    -- bipush, sipush
-    ∷ record { first = 0x10; last = 0x10; operands = S1 ∷ []; meaning = λ op zs. Number (only zs) }
-    ∷ record { first = 0x11; last = 0x11; operands = S2 ∷ []; meaning = λ op zs. Number (only zs) }
-    -- iload, iload_0 to iload_3
-    ∷ record { first = 0x15; last = 0x15; operands = U1 ∷ []; meaning = λ op zs. Load false (low_local (only zs)) }
-    ∷ record { first = 0x1A; last = 0x1D; operands = []; meaning = λ op zs. Load false (op - 0x1A) }
-    -- iadd
-    ∷ record { first = 0x60; last = 0x60; operands = []; meaning = λ op zs. Arith op }
-    -- i2s
-    ∷ record { first = 0x93; last = 0x93; operands = []; meaning = λ op zs. Narrow op }
-    -- ireturn
-    ∷ record { first = 0xAC; last = 0xAC; operands = []; meaning = λ op zs. Return op }
-    ∷ []
+-- how many numbers of four bytes follow those of a switch: an offset for each value from low to high, or so many pairs
+abbrev pub tails : Operands → List ℤ → ℕ
+tails behind.Table (other ∷ low ∷ high ∷ zs) = count ((high -ℤ low) +ℤ pos 1)
+tails behind.Lookup (other ∷ pairs ∷ zs) = 2 * count pairs
+tails _ zs = 0
 
--- the row that has an opcode
-abbrev pub row_among : List Row → ℕ → Option Row
-row_among [] op = None
-row_among (r ∷ rows) op = if nat_le r.first op && nat_le op r.last then Some r else row_among rows op
-
-unfoldable pub row_of : ℕ → Option Row
-row_of op = row_among rows op
+-- what follows an opcode behind the prefix wide, where it may stand there
+abbrev pub wide : Operands × Family → Option Operands
+wide (behind.U1, family.Load refs) = Some behind.U2
+wide (behind.U1, family.Store refs) = Some behind.U2
+wide (behind.U1, family.ForeignLocal) = Some behind.U2
+wide (behind.U1, family.Ret) = Some behind.U2
+wide (behind.U1S1, family.Inc) = Some behind.U2S2
+wide _ = None

@@ -1,70 +1,154 @@
-//! The instructions that the bytes of a code are.
+//! Cutting a code into its instructions.
 
-ghost use Rattle.std.specs.Prelude.{◌≡◌, ◌<◌, ◌^◌, length};
-ghost use Rattle.cjc_bytes.specs.Format.{before};
+ghost use Rattle.std.specs.Prelude.{◌≡◌, ◌<◌, ◌≤◌, length, IfOk, pos, ◌+ℤ◌, ◌-ℤ◌};
+ghost use Rattle.std.specs.Int.{w8};
+ghost use Rattle.cjc_bytes.specs.Format.{repeated};
 ghost use Rattle.cjc_bytes.specs.Found.{Finds};
-ghost use Rattle.cjc_bytes.specs.Reading.{Reads};
-ghost use Rattle.cjc_code.specs.Cut.{instruction, cut as cut_of};
+ghost use Rattle.cjc_bytes.specs.Reading.{Reads, read};
+ghost use Rattle.cjc_bytes.proofs.Loops.{with_front};
+ghost use Rattle.cjc_code.specs.declared.table.Operand.TheVariants as kinds;
+ghost use Rattle.cjc_code.specs.Table.{padding as padding_lem, count as count_lem, tails as tails_lem};
+ghost use Rattle.cjc_code.specs.Instruction.{operand, operands, behind_opcode, is_prefix as is_prefix_lem, behind_first, instruction};
+ghost use Rattle.cjc_code.specs.Cut.{cut as cut_lem};
 
-use crate::insn::{JInsn, JOp};
-use cjc_bytes::{Cursor, Row, Stop};
+use crate::raw::{Cut, Raw};
+use crate::table::{Family, Opcode, Operand, Operands, heads, opcode_at, wide_opcode_at};
+use cjc_bytes::{Cursor, NoMemory, Row, Stop};
 use std::alloc::Global;
 
-#[tactic(auto, unfolding(crate::specs::Cut::instruction, crate::specs::Table::row_of))]
-fn read_instruction(cursor: &mut Cursor<'_>) -> Result<JInsn, Stop>
+#[tactic(auto, unfolding(crate::specs::Instruction::operand))]
+fn read_operand(kind: Operand, cursor: &mut Cursor<'_>) -> Result<i32, Stop>
+    ensures { Reads (λ z. z) (operand kind) cursor.old cursor.new result }
+{
+    Ok(match kind {
+        Operand::Unsigned1 => i32::from(cursor.u1()?),
+        Operand::Signed1 => i32::from(cursor.u1()?.cast_signed()),
+        Operand::Unsigned2 => i32::from(cursor.u2()?),
+        Operand::Signed2 => i32::from(cursor.u2()?.cast_signed()),
+        Operand::Signed4 => cursor.u4()?.cast_signed(),
+    })
+}
+
+#[tactic(auto, using(crate::proofs::Loops::operands_more, crate::proofs::Loops::operands_stop, crate::proofs::Loops::operands_all, cjc_bytes::proofs::Loops::with_none))]
+fn read_operands(
+    alloc: Global,
+    kinds: &[Operand],
+    cursor: &mut Cursor<'_>,
+) -> Result<Row<i32>, Stop>
+    ensures { Reads (λ zs. zs) (operands kinds.now) cursor.old cursor.new result }
+{
+    let mut numbers = Row::new(alloc);
+    for kind in kinds {
+        numbers.push(read_operand(*kind, cursor)?)?;
+    }
+    Ok(numbers)
+}
+
+/// So many numbers of four bytes behind these.
+#[tactic(auto, using(cjc_bytes::proofs::Loops::repeated_more, cjc_bytes::proofs::Loops::repeated_stops, cjc_bytes::proofs::Loops::repeated_all))]
+fn read_tail(mut numbers: Row<i32>, count: u64, cursor: &mut Cursor<'_>) -> Result<Row<i32>, Stop>
+    ensures { Finds (λ zs. (zs, cursor.new)) (with_front numbers (read (repeated count (operand kinds.Signed4)) cursor.old)) result }
+{
+    for _ in 0..count {
+        numbers.push(read_operand(Operand::Signed4, cursor)?)?;
+    }
+    Ok(numbers)
+}
+
+fn padding(operands: Operands, place: u32) -> u32
+    ensures { result ≡ padding_lem operands place }
+{
+    match operands {
+        Operands::Table | Operands::Lookup => (4 - place % 4) % 4,
+        _ => 0,
+    }
+}
+
+fn count(z: i64) -> u64
+    ensures { result ≡ count_lem z }
+{
+    if z < 0 { 0 } else { z as u64 }
+}
+
+/// How many values there are from low to high.
+fn values(low: i32, high: i32) -> u64
+    ensures { result ≡ count_lem ((high -ℤ low) +ℤ pos 1) }
+{
+    count(i64::from(high) - i64::from(low) + 1)
+}
+
+/// How many numbers of four bytes follow those of a switch.
+fn tails(operands: Operands, numbers: &[i32]) -> u64
+    ensures { result ≡ tails_lem operands numbers.now }
+{
+    match (operands, numbers) {
+        (Operands::Table, [_, low, high, ..]) => values(*low, *high),
+        (Operands::Lookup, [_, pairs, ..]) => 2 * count(i64::from(*pairs)),
+        _ => 0,
+    }
+}
+
+#[tactic(auto, unfolding(crate::specs::Instruction::behind_opcode, cjc_bytes::specs::Format::raw))]
+fn read_behind_opcode(
+    alloc: Global,
+    at: u16,
+    opcode: Opcode,
+    cursor: &mut Cursor<'_>,
+) -> Result<Raw, Stop>
+    ensures { Reads (λ i. i) (behind_opcode at opcode) cursor.old cursor.new result }
+{
+    let place = cursor.at();
+    cursor.take(padding(opcode.operands, place))?;
+    let first = read_operands(alloc, heads(opcode.operands), cursor)?;
+    let count = tails(opcode.operands, first.items());
+    let numbers = read_tail(first, count, cursor)?;
+    Ok(Raw {
+        at,
+        opcode: opcode.number,
+        family: opcode.family,
+        numbers,
+    })
+}
+
+fn is_prefix(family: Family) -> bool
+    ensures { result ≡ is_prefix_lem family }
+{
+    matches!(family, Family::Wide)
+}
+
+#[tactic(auto, unfolding(crate::specs::Instruction::instruction, crate::specs::Instruction::behind_first))]
+fn read_instruction(alloc: Global, cursor: &mut Cursor<'_>) -> Result<Raw, Stop>
+    requires { cursor.old.at < 65536 }
     ensures { Reads (λ i. i) instruction cursor.old cursor.new result }
 {
     let at = cursor.at();
-    let opcode = cursor.u1()?;
-    let op = match opcode {
-        0x02..=0x08 => JOp::Number(i32::from(opcode) - 3),
-        0x10 => JOp::Number(i32::from(cursor.u1()?.cast_signed())),
-        0x11 => JOp::Number(i32::from(cursor.u2()?.cast_signed())),
-        0x15 => JOp::Load {
-            refs: false,
-            local: u16::from(cursor.u1()?),
-        },
-        0x1A..=0x1D => JOp::Load {
-            refs: false,
-            local: u16::from(opcode) - 0x1A,
-        },
-        0x60 => JOp::Arith(opcode),
-        0x93 => JOp::Narrow(opcode),
-        0xAC => JOp::Return(opcode),
-        _ => return Err(Stop::Broken(at)),
-    };
-    Ok(JInsn { at, op })
+    let first = opcode_at(cursor.u1()?).ok_or(Stop::Broken(at))?;
+    if !is_prefix(first.family) {
+        return read_behind_opcode(alloc, at as u16, first, cursor);
+    }
+    let wide_at = cursor.at();
+    let opcode = wide_opcode_at(cursor.u1()?).ok_or(Stop::Broken(wide_at))?;
+    read_behind_opcode(alloc, at as u16, opcode, cursor)
 }
 
-/// The instructions that fill a code from its start.
-#[tactic(auto, using(cjc_bytes::proofs::Loops::before_more, cjc_bytes::proofs::Loops::before_stops, cjc_bytes::proofs::Loops::before_ended, cjc_bytes::proofs::Loops::before_all, cjc_bytes::proofs::Loops::with_none))]
-fn read_instructions(alloc: Global, size: u32, cursor: &mut Cursor<'_>) -> Result<Row<JInsn>, Stop>
-    ensures { Reads (λ insns. insns) (before size size instruction) cursor.old cursor.new result }
+/// What a code is cut into.
+#[tactic(auto, using(crate::proofs::Loops::cut_more, crate::proofs::Loops::cut_ends, crate::proofs::Loops::cut_all, crate::proofs::Loops::read_keeps), unfolding(crate::specs::Cut::cut))]
+pub(crate) fn cut(alloc: Global, code: &[u8]) -> Result<Cut, NoMemory>
+    requires { length code.now ≤ 65535 }
+    ensures { IfOk result (λ c. c ≡ cut_lem code.now) }
 {
+    let mut cursor = Cursor::new(code);
     let mut insns = Row::new(alloc);
-    for _ in 0..size {
-        if cursor.at() >= size {
-            return Ok(insns);
+    for _ in 0..code.len() {
+        let stop = cursor.at();
+        match read_instruction(alloc, &mut cursor) {
+            Ok(insn) => insns.push(insn)?,
+            Err(Stop::Broken(_)) => return Ok(Cut { insns, stop }),
+            Err(Stop::NoMemory) => return Err(NoMemory),
         }
-        insns.push(read_instruction(cursor)?)?;
     }
-    Ok(insns)
-}
-
-/// The instructions that the bytes of a code are, one after the other, with their offsets.
-///
-/// # Errors
-///
-/// `Broken` with the offset of the first opcode that the table does not have or operand that is cut.
-#[tactic(auto, unfolding(crate::specs::Cut::cut, cjc_bytes::specs::Reading::read_file))]
-pub fn cut(alloc: Global, bytes: &[u8]) -> Result<Row<JInsn>, Stop>
-    requires { length bytes.now < 2 ^ 32 }
-    ensures { Finds (λ insns. insns) (cut_of bytes.now) result }
-{
-    let mut cursor = Cursor::new(bytes);
-    let insns = read_instructions(alloc, bytes.len() as u32, &mut cursor)?;
-    if !cursor.is_at_end() {
-        return Err(Stop::Broken(cursor.at()));
-    }
-    Ok(insns)
+    Ok(Cut {
+        insns,
+        stop: cursor.at(),
+    })
 }

@@ -4,6 +4,10 @@
 
 mod cutting;
 mod insn;
+mod items;
+mod laws;
+mod raw;
+mod table;
 
-pub use cutting::cut;
 pub use insn::{JCase, JInsn, JOp};
+pub use laws::{cuts, opcodes};

@@ -1,0 +1,86 @@
+-- The instructions of a method, or the rule that its code breaks.
+use Rattle.std.specs.Prelude.{◌≡◌, ◌≤◌, ℕ, min, List, [], ◌∷◌, ◌++◌, length, Option, Some, None, slice_get, Result, Ok, Err}
+use Rattle.std.specs.List.{Contains, All}
+use Rattle.cjc_bytes.specs.declared.fault.Refusal.{Refusal}
+use Rattle.cjc_classfile.specs.declared.tree.ClassTree.{ClassTree}
+use Rattle.cjc_classfile.specs.declared.tree.MethodTree.{MethodTree}
+use Rattle.cjc_classfile.specs.Code.{CodeTree}
+use Rattle.cjc_code.specs.declared.insn.JInsn.{JInsn}
+use Rattle.cjc_code.specs.Cut.{cut}
+use Rattle.cjc_code.specs.Unfit.{unfit_code}
+use Rattle.cjc_code.specs.Named.{all_named}
+
+-- a rule that a code breaks, and the offset of its first place
+pub record Broken : Type 0 where
+  pub rule : ℕ
+  pub offset : ℕ
+
+-- the least of these numbers
+abbrev pub least_of : ℕ → List ℕ → ℕ
+least_of k [] = k
+least_of k (j ∷ ks) = least_of (min k j) ks
+
+unfoldable pub least : List ℕ → Option ℕ
+least [] = None
+least (k ∷ ks) = Some (least_of k ks)
+
+-- It is one of these numbers, and none of them is less.
+pub record IsLeast (numbers : List ℕ) (k : ℕ) : Type 0 where
+  pub one : Contains numbers k
+  pub least : All (λ j. k ≤ j) numbers
+
+abbrev pub unless_foreign : Result (List JInsn) ℕ → Result (List JInsn) Broken
+unless_foreign (Ok insns) = Ok insns
+unless_foreign (Err k) = Err (record { rule = 303; offset = k })
+
+abbrev pub unless_unfit : Option ℕ → Result (List JInsn) Broken → Result (List JInsn) Broken
+unless_unfit (Some k) found = Err (record { rule = 103; offset = k })
+unless_unfit None found = found
+
+-- The instructions that the code of a method is: those of its cut with their names. Where rule 103 is broken, the least
+-- of its places; else, where rule 303 is, the first.
+unfoldable pub decoding : ClassTree → MethodTree → CodeTree → Result (List JInsn) Broken
+decoding class method code =
+    unless_unfit (least (unfit_code class method code)) (unless_foreign (all_named class.pool (cut code.bytes).insns))
+
+abbrev pub insns_of : Result (List JInsn) Broken → List JInsn
+insns_of (Ok insns) = insns
+insns_of (Err broken) = []
+
+-- the instructions of a method's code; none where it breaks a rule
+unfoldable pub decoded : ClassTree → MethodTree → CodeTree → List JInsn
+decoded class method code = insns_of (decoding class method code)
+
+-- ---- what a call is asked for
+
+abbrev pub of_code : ClassTree → MethodTree → Option CodeTree → Result (List JInsn) Broken
+of_code class method (Some code) = decoding class method code
+of_code class method None = Ok []
+
+abbrev pub of_method : ClassTree → Option MethodTree → Result (List JInsn) Broken
+of_method class (Some method) = of_code class method method.code
+of_method class None = Ok []
+
+-- of the method at this place of the class
+abbrev pub decoding_at : ClassTree → ℕ → Result (List JInsn) Broken
+decoding_at class k = of_method class (slice_get class.methods k)
+
+-- The method is there and has code, whose length and whose descriptor's length are as in each class file.
+pub record HasCode (class : ClassTree) (k : ℕ) : Type 0 where
+  pub method : MethodTree
+  pub code : CodeTree
+  pub there : slice_get class.methods k ≡ Some method
+  pub has : method.code ≡ Some code
+  pub bytes : length code.bytes ≤ 65535
+  pub desc : length method.desc ≤ 65535
+
+abbrev pub member_name : Option MethodTree → List ℕ
+member_name (Some m) = m.name ++ m.desc
+member_name None = []
+
+-- the refusal of a method's code
+abbrev pub refusal_of : (file : List ℕ) → ClassTree → ℕ → Broken → Refusal
+refusal_of file class k broken = record {
+  rule = record { 0 = broken.rule };
+  place = record { file = file; class = class.name; member = member_name (slice_get class.methods k); offset = broken.offset };
+}
