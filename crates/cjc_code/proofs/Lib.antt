@@ -1,3 +1,5 @@
 pub mod Loops
 pub mod OneCut
 pub mod Samples
+pub mod Marks
+pub mod Places

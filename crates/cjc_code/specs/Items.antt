@@ -8,20 +8,20 @@ use Rattle.cjc_code.specs.declared.items.Need.{Need}
 use Rattle.cjc_code.specs.declared.items.Need.TheVariants as needs
 
 -- what the index of an instruction has to name, in a class file of this major version
-abbrev pub need : (major : ℕ) → Family → Need
-need major family.Constant = needs.Any
-need major family.ForeignConstant = needs.Any
-need major (family.Static put) = needs.Field
-need major (family.Field put) = needs.Field
-need major family.CallVirtual = needs.Method
-need major family.CallDirect = if nat_le 52 major then needs.AnyMethod else needs.Method
-need major family.CallInterface = needs.InterfaceMethod
-need major family.New = needs.Class
-need major family.ANewArray = needs.Class
-need major family.CheckCast = needs.Class
-need major family.InstanceOf = needs.Class
-need major family.ForeignClass = needs.Class
-need major _ = needs.Nothing
+abbrev pub needed : (major : ℕ) → Family → Need
+needed major family.Constant = needs.Any
+needed major family.ForeignConstant = needs.Any
+needed major (family.Static put) = needs.Field
+needed major (family.Field put) = needs.Field
+needed major family.CallVirtual = needs.Method
+needed major family.CallDirect = if nat_le 52 major then needs.AnyMethod else needs.Method
+needed major family.CallInterface = needs.InterfaceMethod
+needed major family.New = needs.Class
+needed major family.ANewArray = needs.Class
+needed major family.CheckCast = needs.Class
+needed major family.InstanceOf = needs.Class
+needed major family.ForeignClass = needs.Class
+needed major _ = needs.Nothing
 
 abbrev pub is_class : Option PoolItem → Bool
 is_class (Some (items.Class name)) = true

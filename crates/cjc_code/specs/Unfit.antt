@@ -1,6 +1,6 @@
 -- Rule 103: code that is not a run of instructions (Java Virtual Machine Specification, 4.9.1). Each case is a
 -- test, and its places are offsets in the code, in bytes.
-use Rattle.std.specs.Prelude.{ℕ, zero, suc, ◌+◌, Bool, true, false, not, ◌&&◌, ◌||◌, nat_lt, nat_le, int_lt, ◌==◌, if◌then◌else◌, List, [], ◌∷◌, ◌++◌, length, map, flat_map, Option, Some, None, get_or, bit_and, ℤ, pos, negsuc}
+use Rattle.std.specs.Prelude.{ℕ, zero, suc, ◌+◌, ◌-◌, Bool, true, false, not, ◌&&◌, ◌||◌, nat_lt, nat_le, int_lt, ◌==◌, if◌then◌else◌, List, [], ◌∷◌, ◌++◌, length, map, flat_map, Option, Some, None, slice_get, get_or, bit_and, ℤ, pos, negsuc}
 use Rattle.std.specs.List.{list_any, list_all}
 use Rattle.cjc_bytes.specs.Descriptor.{Parts}
 use Rattle.cjc_bytes.specs.Spots.{desc_of}
@@ -14,7 +14,7 @@ use Rattle.cjc_code.specs.declared.raw.Cut.{Cut}
 use Rattle.cjc_code.specs.declared.table.Family.{Family}
 use Rattle.cjc_code.specs.declared.table.Family.TheVariants as family
 use Rattle.cjc_code.specs.Cut.{cut}
-use Rattle.cjc_code.specs.Items.{need, meets}
+use Rattle.cjc_code.specs.Items.{needed, meets}
 use Rattle.cjc_code.specs.Numbers.{first, u16_of, u8_of, target, offsets, local}
 
 -- ---- where instructions start
@@ -37,7 +37,7 @@ is_start starts (negsuc n) = false
 
 -- its index names nothing of the kind that it needs
 abbrev pub has_wrong_item : (major : ℕ) → List PoolItem → Raw → Bool
-has_wrong_item major pool i = not (meets pool (u16_of (first i.numbers)) (need major i.family))
+has_wrong_item major pool i = not (meets pool (u16_of (first i.numbers)) (needed major i.family))
 
 -- it may jump off the start of an instruction
 abbrev pub has_wrong_jump : List Bool → Raw → Bool
@@ -100,11 +100,13 @@ may_go_on family.ForeignReturn = false
 may_go_on family.Ret = false
 may_go_on _ = true
 
+abbrev pub where_it_may : Option Raw → List ℕ
+where_it_may (Some i) = where_true (may_go_on i.family) i.at
+where_it_may None = []
+
 -- the last instruction, where it may fall off the end
 abbrev pub last_places : List Raw → List ℕ
-last_places [] = []
-last_places (i ∷ []) = where_true (may_go_on i.family) i.at
-last_places (i ∷ j ∷ insns) = last_places (j ∷ insns)
+last_places insns = where_it_may (slice_get insns (length insns - 1))
 
 abbrev pub fall_places : Cut → (size : ℕ) → List ℕ
 fall_places c size = if c.stop == size then last_places c.insns else []

@@ -3,11 +3,17 @@
 #![tactic(auto)]
 
 mod cutting;
+mod decode;
 mod insn;
 mod items;
 mod laws;
+mod named;
+mod numbers;
 mod raw;
+mod starts;
 mod table;
+mod unfit;
 
+pub use decode::decode;
 pub use insn::{JCase, JInsn, JOp};
 pub use laws::{cuts, opcodes};

@@ -1,0 +1,156 @@
+//! The instructions of a method.
+
+ghost use Rattle.std.specs.Prelude.{◌≡◌, ◌≤◌, ◌⊎◌, List, length, IfOk, IfErr, Ok, Err};
+ghost use Rattle.cjc_bytes.specs.Refused.{IsUnlessNoMemory};
+ghost use Rattle.cjc_bytes.specs.declared.fault.Fault.TheVariants as faults;
+ghost use Rattle.cjc_code.specs.declared.insn.JInsn.{JInsn as Insn};
+ghost use Rattle.cjc_code.specs.declared.decode.Broken.{Broken};
+ghost use Rattle.cjc_code.specs.Decoded.{least as least_lem, decoding, decoding_at, of_code, Answers, Decides, IsBroken, HasCode, HasShortCode, refusal_in, refusal_of};
+
+use crate::cutting::cut;
+use crate::insn::JInsn;
+use crate::named::all_named;
+use crate::starts::starts;
+use crate::unfit::places;
+use cjc_bytes::{Bytes, Fault, NoMemory, Place, Refusal, Row, Rule, Stop};
+use cjc_classfile::{ClassTree, Code, MethodTree};
+use std::alloc::Global;
+
+/// A rule that a code breaks, and the offset of its first place.
+#[derive(Clone, Copy)]
+pub(crate) struct Broken {
+    pub(crate) rule: u16,
+    pub(crate) offset: u32,
+}
+
+/// Why a code gave no instructions.
+#[derive(Clone, Copy)]
+pub(crate) enum Halt {
+    Broken(Broken),
+    NoMemory,
+}
+
+impl From<NoMemory> for Halt {
+    ghost use Rattle.std.specs.Prelude.{◌≡◌};
+    ghost use Rattle.cjc_code.specs.declared.decode.Halt.TheVariants as halts;
+
+    ghost from_gives = { λ _ e. e ≡ halts.NoMemory };
+
+    fn from(_: NoMemory) -> Halt {
+        Halt::NoMemory
+    }
+}
+
+/// The least of some numbers.
+#[tactic(auto, unfolding(crate::specs::Decoded::least))]
+fn least(numbers: &[u32]) -> Option<u32>
+    ensures { result ≡ least_lem numbers.now }
+{
+    match numbers {
+        [] => None,
+        [first, more @ ..] => {
+            let mut least = *first;
+            for number in more {
+                least = least.min(*number);
+            }
+            Some(least)
+        }
+    }
+}
+
+/// The instructions of a method's code.
+#[tactic(auto, unfolding(crate::specs::Decoded::decoding, crate::specs::Unfit::unfit_code))]
+fn decode_code(
+    alloc: Global,
+    class: &ClassTree<'_>,
+    method: &MethodTree<'_>,
+    code: &Code<'_>,
+) -> Result<Row<JInsn>, Halt>
+    requires desc { length method.now.desc ≤ 65535 }
+    requires bytes { length code.now.bytes ≤ 65535 }
+    ensures { Answers (decoding class.now method.now code.now) result }
+{
+    let cut = cut(alloc, code.bytes)?;
+    let starts = starts(alloc, &cut, code.bytes.len())?;
+    let places = places(alloc, class, method, code, &cut, &starts)?;
+    if let Some(offset) = least(places.items()) {
+        return Err(Halt::Broken(Broken { rule: 103, offset }));
+    }
+    match all_named(alloc, class.pool.items(), cut.insns.items()) {
+        Ok(insns) => Ok(insns),
+        Err(Stop::Broken(offset)) => Err(Halt::Broken(Broken { rule: 303, offset })),
+        Err(Stop::NoMemory) => Err(Halt::NoMemory),
+    }
+}
+
+/// The refusal of a method's code.
+fn refused(
+    alloc: Global,
+    file: &[u8],
+    class: &ClassTree<'_>,
+    method: &MethodTree<'_>,
+    broken: Broken,
+) -> Result<Refusal, NoMemory>
+    ensures { IfOk result (λ r. r ≡ refusal_in file.now class.now method.now broken) }
+{
+    let mut member = Vec::from_slice(alloc, method.name.items())?;
+    member.extend_from_slice(method.desc.items())?;
+    Ok(Refusal {
+        rule: Rule(broken.rule),
+        place: Place {
+            file: Bytes::copy_of(alloc, file)?,
+            class: Bytes::copy_of(alloc, class.name.items())?,
+            member: Row::of(member),
+            offset: broken.offset,
+        },
+    })
+}
+
+fn decode_method(
+    alloc: Global,
+    file: &[u8],
+    class: &ClassTree<'_>,
+    method: &MethodTree<'_>,
+) -> Result<Row<JInsn>, Fault>
+    requires { HasShortCode method.now }
+    ensures { Decides (of_code class.now method.now method.now.code) (refusal_in file.now class.now method.now) result }
+{
+    let code = match &method.code {
+        Some(code) => code,
+        None => return Ok(Row::new(alloc)),
+    };
+    match decode_code(alloc, class, method, code) {
+        Ok(insns) => Ok(insns),
+        Err(Halt::Broken(broken)) => {
+            Err(Fault::Refused(refused(alloc, file, class, method, broken)?))
+        }
+        Err(Halt::NoMemory) => Err(Fault::NoMemory),
+    }
+}
+
+/// The instructions of the code of a method, by its place among the methods of its class, with their offsets
+/// and the names that they stand for.
+///
+/// # Errors
+///
+/// Rule 103 where the code is not a run of instructions, at the least offset where it is broken; else rule
+/// 303 where an instruction is not converted, at the first such. The place has the file, the class, the
+/// method's name and descriptor, and the offset in the code in bytes.
+pub fn decode(
+    alloc: Global,
+    file: &[u8],
+    class: &ClassTree<'_>,
+    method: u32,
+) -> Result<Row<JInsn>, Fault>
+    requires { HasCode class.now method }
+
+    // What is decoded are the instructions of the code, and where it has some they are decoded.
+    ensures found { IfOk result (λ insns. decoding_at class.now method ≡ Ok insns) }
+    ensures only { (insns : List Insn) → decoding_at class.now method ≡ Ok insns → IsUnlessNoMemory result (Ok insns) }
+
+    // A refusal is where the code breaks a rule, and where it does it is refused.
+    ensures refused { IfErr result (IsBroken (decoding_at class.now method) (refusal_of file.now class.now method)) }
+    ensures breaks { (b : Broken) → decoding_at class.now method ≡ Err b → IsUnlessNoMemory result (Err (faults.Refused (refusal_of file.now class.now method b))) }
+{
+    decode_method(alloc, file, class, &class.methods.items()[method as usize])
+}
