@@ -8,9 +8,9 @@ use Rattle.cjc_classfile.specs.declared.tree.ClassTree.{ClassTree}
 use Rattle.cjc_classfile.specs.declared.tree.MethodTree.{MethodTree}
 use Rattle.cjc_classfile.specs.Code.{CodeTree}
 use Rattle.cjc_code.specs.declared.insn.JInsn.{JInsn}
-use Rattle.cjc_code.specs.declared.decode.Broken.{Broken}
-use Rattle.cjc_code.specs.declared.decode.Halt.{Halt}
-use Rattle.cjc_code.specs.declared.decode.Halt.TheVariants as halts
+use Rattle.cjc_code.specs.declared.decoding.Broken.{Broken}
+use Rattle.cjc_code.specs.declared.decoding.Halt.{Halt}
+use Rattle.cjc_code.specs.declared.decoding.Halt.TheVariants as halts
 use Rattle.cjc_code.specs.Cut.{cut}
 use Rattle.cjc_code.specs.Unfit.{unfit_code}
 use Rattle.cjc_code.specs.Named.{all_named}

@@ -3,7 +3,7 @@
 #![tactic(auto)]
 
 mod cutting;
-mod decode;
+mod decoding;
 mod insn;
 mod items;
 mod laws;
@@ -14,6 +14,6 @@ mod starts;
 mod table;
 mod unfit;
 
-pub use decode::decode;
+pub use decoding::decode;
 pub use insn::{JCase, JInsn, JOp};
 pub use laws::{cuts, opcodes};

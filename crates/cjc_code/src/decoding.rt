@@ -4,7 +4,7 @@ ghost use Rattle.std.specs.Prelude.{◌≡◌, ◌≤◌, ◌⊎◌, List, lengt
 ghost use Rattle.cjc_bytes.specs.Refused.{IsUnlessNoMemory};
 ghost use Rattle.cjc_bytes.specs.declared.fault.Fault.TheVariants as faults;
 ghost use Rattle.cjc_code.specs.declared.insn.JInsn.{JInsn as Insn};
-ghost use Rattle.cjc_code.specs.declared.decode.Broken.{Broken};
+ghost use Rattle.cjc_code.specs.declared.decoding.Broken.{Broken};
 ghost use Rattle.cjc_code.specs.Decoded.{least as least_lem, decoding, decoding_at, of_code, Answers, Decides, IsBroken, HasCode, HasShortCode, refusal_in, refusal_of};
 
 use crate::cutting::cut;
@@ -32,7 +32,7 @@ pub(crate) enum Halt {
 
 impl From<NoMemory> for Halt {
     ghost use Rattle.std.specs.Prelude.{◌≡◌};
-    ghost use Rattle.cjc_code.specs.declared.decode.Halt.TheVariants as halts;
+    ghost use Rattle.cjc_code.specs.declared.decoding.Halt.TheVariants as halts;
 
     ghost from_gives = { λ _ e. e ≡ halts.NoMemory };
 
