@@ -1,12 +1,12 @@
 -- What the machine by name asks of the class files and export files.
-use Rattle.std.specs.Prelude.{ℕ, ◌/◌, ◌%◌, List, [], ◌∷◌, flat_map, Option, Some, None, Result, Ok, Err, Bool, false, ◌==◌, ◌&&◌, ◌||◌, not, if◌then◌else◌}
+use Rattle.std.specs.Prelude.{ℕ, ◌/◌, ◌%◌, List, [], ◌∷◌, flat_map, Option, Some, None, Bool, false, ◌==◌, ◌&&◌, ◌||◌, not, if◌then◌else◌}
 use Rattle.cjc_bytes.specs.declared.fault.MemberId.{MemberId}
 use Rattle.cjc_classfile.specs.declared.tree.Catch.{Catch}
 use Rattle.cjc_classfile.specs.declared.tree.MethodTree.{MethodTree}
 use Rattle.cjc_classfile.specs.declared.tree.ClassTree.{ClassTree}
 use Rattle.cjc_classfile.specs.Code.{CodeTree}
 use Rattle.cjc_code.specs.declared.insn.JInsn.{JInsn}
-use Rattle.cjc_code.specs.Cut.{cut}
+use Rattle.cjc_code.specs.Decoded.{decoded}
 use Rattle.cjc_export.specs.declared.tree.ExportClass.{ExportClass}
 use Rattle.cjc_export.specs.declared.tree.ExportTree.{ExportTree}
 use Rattle.cjc_script.specs.declared.report.FieldValue.{FieldValue}
@@ -55,29 +55,25 @@ pub record Linked : Type 0 where
 abbrev pub is_static : ℕ → Bool
 is_static flags = flags / 8 % 2 == 1
 
-abbrev pub insns_of : Result (List JInsn) ℕ → List JInsn
-insns_of (Ok insns) = insns
-insns_of (Err at) = []
-
-abbrev pub method_with : (holder : List ℕ) → MethodTree → Option Signature → Option CodeTree → List Method
-method_with holder tree (Some types) (Some code) = record {
-  id = record { class = holder; name = tree.name; desc = tree.desc };
+abbrev pub method_with : ClassTree → MethodTree → Option Signature → Option CodeTree → List Method
+method_with class tree (Some types) (Some code) = record {
+  id = record { class = class.name; name = tree.name; desc = tree.desc };
   is_static = is_static tree.flags;
   params = types.params;
   result = types.result;
   max_stack = code.max_stack;
   max_locals = code.max_locals;
-  insns = insns_of (cut code.bytes);
+  insns = decoded class tree code;
   catches = code.catches;
 } ∷ []
-method_with holder tree types code = []
+method_with class tree types code = []
 
-abbrev pub method_of : (holder : List ℕ) → MethodTree → List Method
-method_of holder tree = method_with holder tree (signature tree.desc) tree.code
+abbrev pub method_of : ClassTree → MethodTree → List Method
+method_of class tree = method_with class tree (signature tree.desc) tree.code
 
 -- the methods with code that the classes declare
 unfoldable pub declared_methods : List ClassTree → List Method
-declared_methods classes = flat_map (λ c. flat_map (method_of c.name) c.methods) classes
+declared_methods classes = flat_map (λ c. flat_map (method_of c) c.methods) classes
 
 -- <clinit>
 abbrev pub initialiser : List ℕ
