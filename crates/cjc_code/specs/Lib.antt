@@ -7,3 +7,4 @@ pub mod Unfit
 pub mod Named
 pub mod Decoded
 pub mod Lengths
+pub mod Samples

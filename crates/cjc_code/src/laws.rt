@@ -5,6 +5,7 @@ ghost use Rattle.cjc_code.specs.declared.raw.Cut.{Cut as Parts};
 ghost use Rattle.cjc_code.specs.declared.table.TheConstants.{TABLE};
 ghost use Rattle.cjc_code.specs.Lengths.{length_of, lengths, is_converted, converted};
 ghost use Rattle.cjc_code.specs.Cut.{IsCut, cut};
+ghost use Rattle.cjc_code.specs.Samples.{sample, broken, unfit, foreign, good, others};
 
 /// The opcodes are those of the Java Virtual Machine with their lengths, and those that are converted.
 pub fn opcodes()
@@ -16,4 +17,12 @@ pub fn opcodes()
 pub fn cuts()
     ensures cut { (code : List ℕ) → IsCut code (cut code) }
     ensures only { (code : List ℕ) (c : Parts) → IsCut code c → c ≡ cut code }
+{}
+
+/// Some codes are decoded as they should be.
+pub fn samples()
+    ensures unfit { map (λ x. sample x.0) unfit ≡ map (λ x. broken 103 x.1) unfit }
+    ensures foreign { map (λ x. sample x.0) foreign ≡ map (λ x. broken 303 x.1) foreign }
+    ensures good { map (λ x. sample x.0) good ≡ map (λ x. Ok x.1) good }
+    ensures others { map (λ x. x.0) others ≡ map (λ x. x.1) others }
 {}
