@@ -2,3 +2,5 @@ pub mod Loops
 pub mod OneCut
 pub mod Marks
 pub mod Places
+pub mod RuleLaws
+pub mod Decided

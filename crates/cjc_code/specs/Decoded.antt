@@ -1,5 +1,5 @@
 -- The instructions of a method, or the rule that its code breaks.
-use Rattle.std.specs.Prelude.{◌≡◌, ◌≤◌, ◌⊎◌, ℕ, min, List, [], ◌∷◌, ◌++◌, length, Option, Some, None, slice_get, get_or, Result, Ok, Err}
+use Rattle.std.specs.Prelude.{◌≡◌, ◌≤◌, ◌<◌, ◌^◌, ◌⊎◌, ℕ, min, List, [], ◌∷◌, ◌++◌, length, Option, Some, None, slice_get, get_or, Result, Ok, Err}
 use Rattle.std.specs.List.{Contains, All}
 use Rattle.cjc_bytes.specs.declared.fault.Fault.{Fault}
 use Rattle.cjc_bytes.specs.declared.fault.Fault.TheVariants as faults
@@ -78,16 +78,16 @@ HasShortBytes None = Unit {0}
 
 pub record HasShortCode (method : MethodTree) : Type 0 where
   pub bytes : HasShortBytes method.code
-  pub desc : length method.desc ≤ 65535
+  pub desc : length method.desc < 2 ^ 32
 
--- The method is there and has code, whose length and whose descriptor's length are as in each class file.
+-- The method is there and has code, whose length and whose descriptor's length are as in each class file that is read.
 pub record HasCode (class : ClassTree) (k : ℕ) : Type 0 where
   pub method : MethodTree
   pub code : CodeTree
   pub there : slice_get class.methods k ≡ Some method
   pub has : method.code ≡ Some code
   pub bytes : length code.bytes ≤ 65535
-  pub desc : length method.desc ≤ 65535
+  pub desc : length method.desc < 2 ^ 32
 
 -- the refusal of a method's code
 abbrev pub refusal_in : (file : List ℕ) → ClassTree → MethodTree → Broken → Refusal

@@ -8,3 +8,4 @@ pub mod Named
 pub mod Decoded
 pub mod Lengths
 pub mod Samples
+pub mod Rules

@@ -1,6 +1,6 @@
 //! The instructions of a method.
 
-ghost use Rattle.std.specs.Prelude.{◌≡◌, ◌≤◌, ◌⊎◌, List, length, IfOk, IfErr, Ok, Err};
+ghost use Rattle.std.specs.Prelude.{◌≡◌, ◌≤◌, ◌<◌, ◌^◌, ◌⊎◌, List, length, IfOk, IfErr, Ok, Err};
 ghost use Rattle.cjc_bytes.specs.Refused.{IsUnlessNoMemory};
 ghost use Rattle.cjc_bytes.specs.declared.fault.Fault.TheVariants as faults;
 ghost use Rattle.cjc_code.specs.declared.insn.JInsn.{JInsn as Insn};
@@ -66,7 +66,7 @@ fn decode_code(
     method: &MethodTree<'_>,
     code: &Code<'_>,
 ) -> Result<Row<JInsn>, Halt>
-    requires desc { length method.now.desc ≤ 65535 }
+    requires desc { length method.now.desc < 2 ^ 32 }
     requires bytes { length code.now.bytes ≤ 65535 }
     ensures { Answers (decoding class.now method.now code.now) result }
 {

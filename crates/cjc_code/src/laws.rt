@@ -1,10 +1,16 @@
 //! What the definitions of this crate come to.
 
-ghost use Rattle.std.specs.Prelude.{◌≡◌, List, Some, None, Ok, Err, ℕ, map};
+ghost use Rattle.std.specs.Prelude.{◌≡◌, ◌↔◌, List, Some, None, Ok, Err, ℕ, map};
 ghost use Rattle.cjc_code.specs.declared.raw.Cut.{Cut as Parts};
 ghost use Rattle.cjc_code.specs.declared.table.TheConstants.{TABLE};
 ghost use Rattle.cjc_code.specs.Lengths.{length_of, lengths, is_converted, converted};
 ghost use Rattle.cjc_code.specs.Cut.{IsCut, cut};
+ghost use Rattle.cjc_classfile.specs.declared.tree.ClassTree.{ClassTree};
+ghost use Rattle.cjc_classfile.specs.declared.tree.MethodTree.{MethodTree};
+ghost use Rattle.cjc_classfile.specs.Code.{CodeTree};
+ghost use Rattle.cjc_code.specs.declared.insn.JInsn.{JInsn};
+ghost use Rattle.cjc_code.specs.Decoded.{decoding};
+ghost use Rattle.cjc_code.specs.Rules.{IsFirstUnfit, IsFirstForeignCode, IsDecoded};
 ghost use Rattle.cjc_code.specs.Samples.{sample, broken, unfit, foreign, good, others};
 
 /// The opcodes are those of the Java Virtual Machine with their lengths, and those that are converted.
@@ -17,6 +23,14 @@ pub fn opcodes()
 pub fn cuts()
     ensures cut { (code : List ℕ) → IsCut code (cut code) }
     ensures only { (code : List ℕ) (c : Parts) → IsCut code c → c ≡ cut code }
+{}
+
+/// A code is refused by rule 103 at the first place where it breaks the rule; by rule 303 at the first such
+/// instruction, where it breaks rule 103 nowhere; and is decoded where it breaks neither.
+pub fn rules()
+    ensures unfit { (class : ClassTree) (method : MethodTree) (code : CodeTree) (k : ℕ) → (decoding class method code ≡ broken 103 k) ↔ IsFirstUnfit class method code k }
+    ensures foreign { (class : ClassTree) (method : MethodTree) (code : CodeTree) (k : ℕ) → (decoding class method code ≡ broken 303 k) ↔ IsFirstForeignCode class method code k }
+    ensures decoded { (class : ClassTree) (method : MethodTree) (code : CodeTree) (insns : List JInsn) → (decoding class method code ≡ Ok insns) ↔ IsDecoded class method code insns }
 {}
 
 /// Some codes are decoded as they should be.

@@ -16,4 +16,4 @@ mod unfit;
 
 pub use decoding::decode;
 pub use insn::{JCase, JInsn, JOp};
-pub use laws::{cuts, opcodes, samples};
+pub use laws::{cuts, opcodes, rules, samples};

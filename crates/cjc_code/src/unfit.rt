@@ -145,7 +145,7 @@ fn is_static(flags: u16) -> bool
 
 /// How many locals the arguments take, one for each parameter and one for `this`.
 fn arguments(method: &MethodTree<'_>) -> u64
-    requires { length method.now.desc ≤ 65535 }
+    requires { length method.now.desc < 2 ^ 32 }
     ensures { result ≡ arguments_lem method.now }
 {
     let params = match Desc::parse(method.desc.items()) {
@@ -196,7 +196,7 @@ pub(crate) fn places(
     cut: &Cut,
     starts: &[bool],
 ) -> Result<Row<u32>, NoMemory>
-    requires desc { length method.now.desc ≤ 65535 }
+    requires desc { length method.now.desc < 2 ^ 32 }
     requires bytes { length code.now.bytes ≤ 65535 }
     ensures { IfOk result (λ ps. ps ≡ cut_places class.now method.now code.now cut.now starts.now) }
 {

@@ -1,0 +1,11 @@
+use Rattle.cjc_code.proofs.Decided.{first_unfit, unfit_first, foreign_is, is_foreign_there, decoded_is, is_decoded}
+use Rattle.cjc_code.proofs.laws.rules.Goals as goal
+
+pub returns-clause-unfit : goal.returns-clause-unfit
+returns-clause-unfit c = λ class method code k. (first_unfit class method code k, unfit_first class method code k)
+
+pub returns-clause-foreign : goal.returns-clause-foreign
+returns-clause-foreign c = λ class method code k. (foreign_is class method code k, is_foreign_there class method code k)
+
+pub returns-clause-decoded : goal.returns-clause-decoded
+returns-clause-decoded c = λ class method code insns. (decoded_is class method code insns, is_decoded class method code insns)
