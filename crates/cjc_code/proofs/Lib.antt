@@ -3,4 +3,5 @@ pub mod OneCut
 pub mod Marks
 pub mod Places
 pub mod RuleLaws
+pub mod StartLaws
 pub mod Decided

@@ -35,7 +35,7 @@ flat_contains f (y ∷ xs) x k (suc n, lt, e) h = Contains-append_right (f y) (f
 
 -- ---- tests
 
-or_cases : (a b : Bool) → (a || b) ≡ true → (a ≡ true) ⊎ (b ≡ true)
+pub or_cases : (a b : Bool) → (a || b) ≡ true → (a ≡ true) ⊎ (b ≡ true)
 or_cases true b e = inl refl
 or_cases false b e = inr e
 
@@ -46,7 +46,7 @@ or_true false = refl
 or_left : (a b : Bool) → a ≡ true → (a || b) ≡ true
 or_left a b e = rw e refl
 
-or_right : (a b : Bool) → b ≡ true → (a || b) ≡ true
+pub or_right : (a b : Bool) → b ≡ true → (a || b) ≡ true
 or_right true b e = refl
 or_right false b e = e
 

@@ -1,5 +1,5 @@
 -- Rules 103 and 303, case by case, over what a code is cut into.
-use Rattle.std.specs.Prelude.{◌≡◌, ◌≢◌, ◌<◌, ◌≤◌, ℕ, ◌-◌, Bool, true, false, not, List, ◌∷◌, ◌++◌, length, map, Some, slice_get, pos}
+use Rattle.std.specs.Prelude.{◌⊎◌, ◌≡◌, ◌≢◌, ◌<◌, ◌≤◌, ℕ, ◌-◌, Bool, true, false, not, List, ◌∷◌, ◌++◌, length, map, Some, slice_get, pos}
 use Rattle.std.specs.List.{Contains, AllPass}
 use Rattle.cjc_classfile.specs.declared.tree.Catch.{Catch}
 use Rattle.cjc_classfile.specs.declared.tree.ClassTree.{ClassTree}
@@ -15,6 +15,11 @@ use Rattle.cjc_code.specs.Named.{is_foreign, op_of}
 -- whether an instruction of a code starts at a place; the place where the cut stops inside the code counts as one
 abbrev pub starts_at : CodeTree → ℕ → Bool
 starts_at code place = is_start (starts (cut code.bytes) (length code.bytes)) (pos place)
+
+-- A place inside the code where an instruction starts, or the cut stops.
+pub record IsStart (code : CodeTree) (place : ℕ) : Type 0 where
+  pub inside : place < length code.bytes
+  pub starts : ((i : Raw) × Contains (cut code.bytes).insns i × (i.at ≡ place)) ⊎ (place ≡ (cut code.bytes).stop)
 
 -- Rule 103 is broken at this place.
 pub data IsUnfit (class : ClassTree) (method : MethodTree) (code : CodeTree) : ℕ → Type 0 where

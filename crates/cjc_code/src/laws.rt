@@ -1,6 +1,6 @@
 //! What the definitions of this crate come to.
 
-ghost use Rattle.std.specs.Prelude.{◌≡◌, ◌↔◌, List, Some, None, Ok, Err, ℕ, map};
+ghost use Rattle.std.specs.Prelude.{◌≡◌, ◌↔◌, true, List, Some, None, Ok, Err, ℕ, map};
 ghost use Rattle.cjc_code.specs.declared.raw.Cut.{Cut as Parts};
 ghost use Rattle.cjc_code.specs.declared.table.TheConstants.{TABLE};
 ghost use Rattle.cjc_code.specs.Lengths.{length_of, lengths, is_converted, converted};
@@ -10,7 +10,7 @@ ghost use Rattle.cjc_classfile.specs.declared.tree.MethodTree.{MethodTree};
 ghost use Rattle.cjc_classfile.specs.Code.{CodeTree};
 ghost use Rattle.cjc_code.specs.declared.insn.JInsn.{JInsn};
 ghost use Rattle.cjc_code.specs.Decoded.{decoding};
-ghost use Rattle.cjc_code.specs.Rules.{IsFirstUnfit, IsFirstForeignCode, IsDecoded};
+ghost use Rattle.cjc_code.specs.Rules.{IsStart, starts_at, IsFirstUnfit, IsFirstForeignCode, IsDecoded};
 ghost use Rattle.cjc_code.specs.Samples.{sample, broken, unfit, foreign, good, others};
 
 /// The opcodes are those of the Java Virtual Machine with their lengths, and those that are converted.
@@ -26,8 +26,10 @@ pub fn cuts()
 {}
 
 /// A code is refused by rule 103 at the first place where it breaks the rule; by rule 303 at the first such
-/// instruction, where it breaks rule 103 nowhere; and is decoded where it breaks neither.
+/// instruction, where it breaks rule 103 nowhere; and is decoded where it breaks neither. A jump, a handler and
+/// a bound of its range need a place where an instruction starts.
 pub fn rules()
+    ensures starts { (code : CodeTree) (place : ℕ) → (starts_at code place ≡ true) ↔ IsStart code place }
     ensures unfit { (class : ClassTree) (method : MethodTree) (code : CodeTree) (k : ℕ) → (decoding class method code ≡ broken 103 k) ↔ IsFirstUnfit class method code k }
     ensures foreign { (class : ClassTree) (method : MethodTree) (code : CodeTree) (k : ℕ) → (decoding class method code ≡ broken 303 k) ↔ IsFirstForeignCode class method code k }
     ensures decoded { (class : ClassTree) (method : MethodTree) (code : CodeTree) (insns : List JInsn) → (decoding class method code ≡ Ok insns) ↔ IsDecoded class method code insns }

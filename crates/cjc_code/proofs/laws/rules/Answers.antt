@@ -1,5 +1,9 @@
 use Rattle.cjc_code.proofs.Decided.{first_unfit, unfit_first, foreign_is, is_foreign_there, decoded_is, is_decoded}
+use Rattle.cjc_code.proofs.StartLaws.{start_is, is_start_there}
 use Rattle.cjc_code.proofs.laws.rules.Goals as goal
+
+pub returns-clause-starts : goal.returns-clause-starts
+returns-clause-starts c = λ code place. (start_is code place, is_start_there code place)
 
 pub returns-clause-unfit : goal.returns-clause-unfit
 returns-clause-unfit c = λ class method code k. (first_unfit class method code k, unfit_first class method code k)
