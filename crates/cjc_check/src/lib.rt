@@ -1,0 +1,6 @@
+//! When the components of a package are consistent, with one another and with the export files that it imports.
+#![tactic(auto)]
+
+mod example;
+
+pub use example::{example_is_consistent, worked_codes_are_cut};
