@@ -133,7 +133,7 @@ not_initialiser (c ∷ cs) part = by (c == 60) refl
         let bad : is_name_byte 60 ≡ true = subst (λ d. is_name_byte d ≡ true) is h in
         cc
 
-short_header : (room k l : ℕ) → room ≤ 15 → k ≤ 15 → l ≤ 15 → header room k l ≡ room ∷ (16 * k + l) ∷ []
+pub short_header : (room k l : ℕ) → room ≤ 15 → k ≤ 15 → l ≤ 15 → header room k l ≡ room ∷ (16 * k + l) ∷ []
 unfolding header
 short_header room k l a b c =
     ap (λ t. if t && nat_lt k 16 && nat_lt l 16 then room ∷ (16 * k + l) ∷ [] else 0x80 ∷ room ∷ k ∷ l ∷ []) (lt_test room 16 (omega (arith, a)))

@@ -9,6 +9,9 @@ mod Acts
 mod Steps
 mod Known
 pub mod BehavesAlike
+mod Whole
+mod LangTree
+pub mod Consistency
 pub mod Small
 pub mod Limits
 pub mod ExportFiles

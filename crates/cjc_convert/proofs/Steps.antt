@@ -56,7 +56,7 @@ unfolding does
 i2s_does (jop.Narrow op) e room at locals store x rest = ap (λ t. if t then Go (at + 1) (Num (low_word x) ∷ rest) locals store else ByName.Stick) e
 i2s_does _ e room at locals store x rest = cc
 
-i2s_selected : (op : JOp) → is_i2s op ≡ true → selected op ≡ []
+pub i2s_selected : (op : JOp) → is_i2s op ≡ true → selected op ≡ []
 unfolding selected
 i2s_selected (jop.Narrow op) e = refl
 i2s_selected _ e = cc
@@ -66,7 +66,7 @@ unfolding does
 iadd_does (jop.Arith op) e room at locals store x y rest = ap (λ t. calculated (if t then Some (λ a b. a +ℤ b) else None) at locals store (Num y ∷ Num x ∷ rest)) e
 iadd_does _ e room at locals store x y rest = cc
 
-iadd_selected : (op : JOp) → is_iadd op ≡ true → selected op ≡ 0x41 ∷ []
+pub iadd_selected : (op : JOp) → is_iadd op ≡ true → selected op ≡ 0x41 ∷ []
 unfolding selected
 iadd_selected (jop.Arith op) e = ap (λ t. if t then 0x41 ∷ [] else []) e
 iadd_selected _ e = cc
@@ -76,7 +76,7 @@ unfolding does
 ireturn_does (jop.Return op) e room at locals store x rest = ap (λ t. if t then Leave (Some (Num x)) else ByName.Stick) e
 ireturn_does _ e room at locals store x rest = cc
 
-ireturn_selected : (op : JOp) → is_ireturn op ≡ true → selected op ≡ 0x78 ∷ []
+pub ireturn_selected : (op : JOp) → is_ireturn op ≡ true → selected op ≡ 0x78 ∷ []
 unfolding selected
 ireturn_selected (jop.Return op) e = ap (λ t. if t then 0x78 ∷ [] else []) e
 ireturn_selected _ e = cc

@@ -5,6 +5,7 @@
 mod alike;
 mod classes;
 mod components;
+mod consistent;
 mod conversion;
 mod example;
 mod exported;
@@ -15,6 +16,7 @@ mod selected;
 pub use alike::{first_form_behaves_alike, first_form_exports};
 pub use cjc_capwrite::CapFiles;
 pub use cjc_list::{List, read_list};
+pub use consistent::first_form_is_consistent;
 pub use conversion::{Converted, convert};
 pub use example::{example_acts_run, example_is_converted, example_runs};
 pub use lang::LANG;

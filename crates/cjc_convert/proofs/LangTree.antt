@@ -1,0 +1,69 @@
+-- What the export file of java/lang says.
+use Rattle.std.proofs.Common.{◌≡◌, ℕ, true, List, [], ◌∷◌, Ok, refl}
+use Rattle.std.specs.Prelude.{codes}
+use Rattle.cjc_bytes.specs.Format.{FileSpells, repeated, iterated, u1, u2, u4, raw}
+use Rattle.cjc_bytes.specs.Found.{each, all_of}
+use Rattle.cjc_bytes.specs.Reading.{front, digits, read_file}
+use Rattle.cjc_bytes.specs.Spots.{after, bad_at, types_from, parts_of, desc_of}
+use Rattle.cjc_bytes.proofs.Laws.{file_ok, one_value}
+use Rattle.cjc_export.specs.declared.tree.ExportClass.{ExportClass}
+use Rattle.cjc_export.specs.declared.tree.ExportTree.{ExportTree}
+use Rattle.cjc_export.specs.ExportFile.{new_name_at, class_tree, front_part, export_file}
+use Rattle.cjc_export.specs.Members.{grown, text_field, class_field, desc_at, desc_field, class_method, method}
+use Rattle.cjc_export.specs.Package.{package_at, package_field}
+use Rattle.cjc_export.specs.Pool.{index, counted, content, entry, text_at, tested_name, tested, class_name_at}
+use Rattle.cjc_convert.specs.Converted.{lang_aid}
+use Rattle.cjc_convert.specs.declared.lang.TheConstants.{LANG}
+
+abbrev lang_class : (token : ℕ) (name : List ℕ) (supers : List (List ℕ)) → ExportClass
+lang_class token name supers = record {
+  token = token;
+  flags = 0x0001;
+  name = name;
+  supers = supers;
+  interfaces = [];
+  fields = [];
+  methods =
+      record { token = 0; flags = 0x0001; name = codes "<init>"; desc = codes "()V" }
+      ∷ record { token = 0; flags = 0x0001; name = codes "equals"; desc = codes "(Ljava/lang/Object;)Z" }
+      ∷ [];
+}
+
+abbrev above_exception : List (List ℕ)
+above_exception = codes "java/lang/Throwable" ∷ codes "java/lang/Object" ∷ []
+
+abbrev above_runtime : List (List ℕ)
+above_runtime = codes "java/lang/Exception" ∷ above_exception
+
+abbrev above_most : List (List ℕ)
+above_most = codes "java/lang/RuntimeException" ∷ above_runtime
+
+abbrev pub lang_tree : ExportTree
+lang_tree = record {
+  name = codes "java/lang";
+  aid = lang_aid;
+  major = 1;
+  minor = 0;
+  library = true;
+  classes =
+      lang_class 0 (codes "java/lang/Object") []
+      ∷ lang_class 1 (codes "java/lang/Throwable") (codes "java/lang/Object" ∷ [])
+      ∷ lang_class 2 (codes "java/lang/Exception") above_exception
+      ∷ lang_class 3 (codes "java/lang/RuntimeException") above_runtime
+      ∷ lang_class 4 (codes "java/lang/ArithmeticException") above_most
+      ∷ lang_class 5 (codes "java/lang/ClassCastException") above_most
+      ∷ lang_class 6 (codes "java/lang/NullPointerException") above_most
+      ∷ lang_class 7 (codes "java/lang/IndexOutOfBoundsException") above_most
+      ∷ lang_class 8 (codes "java/lang/ArrayIndexOutOfBoundsException") (codes "java/lang/IndexOutOfBoundsException" ∷ above_most)
+      ∷ lang_class 9 (codes "java/lang/NegativeArraySizeException") above_most
+      ∷ lang_class 10 (codes "java/lang/ArrayStoreException") above_most
+      ∷ [];
+}
+
+lang_read : read_file export_file LANG ≡ Ok lang_tree
+unfolding repeated iterated u1 u2 u4 raw each all_of front digits read_file after bad_at types_from parts_of desc_of new_name_at class_tree front_part export_file grown text_field class_field desc_at desc_field class_method method package_at package_field index counted content entry text_at tested_name tested class_name_at
+lang_read = refl
+
+-- the export file of java/lang spells one tree
+pub lang_only : (lang : ExportTree) → FileSpells export_file lang LANG → lang ≡ lang_tree
+lang_only lang spelt = one_value export_file LANG lang lang_tree spelt (file_ok export_file LANG lang_tree lang_read)
