@@ -64,6 +64,9 @@ lang_read : read_file export_file LANG ≡ Ok lang_tree
 unfolding repeated iterated u1 u2 u4 raw each all_of front digits read_file after bad_at types_from parts_of desc_of new_name_at class_tree front_part export_file grown text_field class_field desc_at desc_field class_method method package_at package_field index counted content entry text_at tested_name tested class_name_at
 lang_read = refl
 
--- the export file of java/lang spells one tree
+pub lang_spelt : FileSpells export_file lang_tree LANG
+lang_spelt = file_ok export_file LANG lang_tree lang_read
+
+-- the export file of java/lang spells no other tree
 pub lang_only : (lang : ExportTree) → FileSpells export_file lang LANG → lang ≡ lang_tree
-lang_only lang spelt = one_value export_file LANG lang lang_tree spelt (file_ok export_file LANG lang_tree lang_read)
+lang_only lang spelt = one_value export_file LANG lang lang_tree spelt lang_spelt

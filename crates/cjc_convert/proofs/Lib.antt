@@ -10,7 +10,7 @@ mod Steps
 mod Known
 pub mod BehavesAlike
 mod Whole
-mod LangTree
+pub mod LangTree
 pub mod Consistency
 pub mod Small
 pub mod Limits

@@ -10,7 +10,8 @@ ghost use Rattle.cjc_convert.specs.declared.lang.TheConstants.{LANG};
 ghost use Rattle.cjc_export.specs.ExportFile.{export_file};
 ghost use Rattle.cjc_export.specs.declared.tree.ExportTree.{ExportTree};
 
-/// The components of a package of the first form are consistent with what the export file of java/lang spells.
+/// The export file of java/lang spells an export tree, and the components of a package of the first form are consistent with it.
 pub fn first_form_is_consistent()
-    ensures { (line : PackageLine) (tree : Tree) (form : IsFirstForm line tree) (lang : ExportTree) → FileSpells export_file lang LANG → Consistent (converted line tree form) (lang ∷ []) }
+    ensures spelt { (lang : ExportTree) × FileSpells export_file lang LANG }
+    ensures consistent { (line : PackageLine) (tree : Tree) (form : IsFirstForm line tree) (lang : ExportTree) → FileSpells export_file lang LANG → Consistent (converted line tree form) (lang ∷ []) }
 {}

@@ -14,7 +14,13 @@ use Rattle.cjc_classfile.specs.declared.tree.ClassTree.{ClassTree}
 use Rattle.cjc_convert.specs.declared.lang.TheConstants.{LANG}
 use Rattle.cjc_convert.specs.Conversion.{IsPair, line_of}
 use Rattle.cjc_convert.specs.Converted.{converted}
+use Rattle.cjc_convert.specs.FirstForm.{PackageLine, IsFirstForm}
 use Rattle.cjc_convert.proofs.BehavesAlike.{form_behaves_alike}
+use Rattle.cjc_convert.proofs.Consistency.{form_is_consistent}
+use Rattle.cjc_convert.proofs.LangTree.{lang_tree, lang_spelt}
+use Rattle.cjc_check.specs.Consistent.{Consistent}
+use Rattle.cjc_export.specs.ExportFile.{export_file}
+use Rattle.cjc_export.specs.declared.tree.ExportTree.{ExportTree}
 use Rattle.cjc_command.specs.Plan.{◌>>=◌, has, Verdict, at_file, verdict, read_onto, read_each, unless_refused, absent, too_long, refused, complete}
 use Rattle.cjc_command.proofs.Gathering.{verdict-then, on_complete}
 use Rattle.cjc_command.specs.Publish.{written_files, IsWritten}
@@ -26,7 +32,7 @@ use Rattle.cjc_list.proofs.Decided.{listed_spelt}
 use Rattle.jcconv.specs.Request.{Request, convert}
 use Rattle.jcconv.specs.Command.{command_of}
 use Rattle.jcconv.specs.Convert.{names_of, plan_of_files, plan_of_list, plan_of_convert, files_made, below}
-use Rattle.jcconv.specs.Promise.{SpellStep, SpellClasses, Stand, Converts, Promised}
+use Rattle.jcconv.specs.Promise.{SpellStep, SpellClasses, ExportStep, SpellExports, Stand, Converts, Promised}
 use Rattle.jcconv.proofs.Standing.{stand_made}
 use Rattle.jcconv.proofs.OwnTokens.{exports_own}
 
@@ -119,6 +125,69 @@ classes_spelt files lines all bytes tree (a, b, l, choice) got f = subst (λ (ls
       (spell_class b.class_file (get files b.name) bytes (SpellClasses files []) tree [] cb both.1.0 f refl))
 ])
 
+-- ---- the export file
+
+export_spelt : (c : Bool) (o : Option (List ℕ)) (bytes : List ℕ) (rest : List ExportTree → Type 0) (tree : ExportTree) (trees : List ExportTree) → c ≡ false → o ≡ Some bytes
+    → FileSpells export_file tree bytes → rest trees → ExportStep c o rest (tree ∷ trees)
+export_spelt false (Some b) bytes rest tree trees c o f r = (subst (FileSpells export_file tree) (let e = o in cc) f, r)
+export_spelt false None bytes rest tree trees c o f r = absurd cc
+export_spelt true o bytes rest tree trees c e f r = absurd cc
+
+export_other : (c : Bool) (o : Option (List ℕ)) (rest : List ExportTree → Type 0) (trees : List ExportTree) → c ≡ true → rest trees → ExportStep c o rest trees
+export_other true o rest trees c r = r
+export_other false o rest trees c r = absurd cc
+
+exports_spelt : (files : Files) (lines : List FileLine) (all : List (List ℕ)) (bytes : List ℕ) (tree : ExportTree) → IsPair lines all bytes LANG
+    → AllGot files (map (λ line. line.name) lines) all → FileSpells export_file tree LANG → SpellExports files lines (tree ∷ [])
+exports_spelt files lines all bytes tree (a, b, l, choice) got f = subst (λ (ls : List FileLine). SpellExports files ls (tree ∷ [])) (sym l) (elim choice [
+  | inl (ca, cb, is) ↦ (
+      let here = subst (λ (ls : List FileLine). AllGot files (map (λ line. line.name) ls) all) l got in
+      let both = subst (λ (fs : List (List ℕ)). AllGot files (a.name ∷ b.name ∷ []) fs) is here in
+      export_other a.class_file (get files a.name) (SpellExports files (b ∷ [])) (tree ∷ []) ca
+      (export_spelt b.class_file (get files b.name) LANG (SpellExports files []) tree [] cb both.1.0 f refl))
+  | inr (ca, cb, is) ↦ (
+      let here = subst (λ (ls : List FileLine). AllGot files (map (λ line. line.name) ls) all) l got in
+      let both = subst (λ (fs : List (List ℕ)). AllGot files (a.name ∷ b.name ∷ []) fs) is here in
+      export_spelt a.class_file (get files a.name) LANG (SpellExports files (b ∷ [])) tree [] ca both.0 f
+      (export_other b.class_file (get files b.name) (SpellExports files []) [] cb refl))
+])
+
+-- The trees are one, which the bytes spell.
+abbrev pub IsOne : List ℕ → List ExportTree → Type 0
+IsOne bytes trees = (tree : ExportTree) × (trees ≡ tree ∷ []) × FileSpells export_file tree bytes
+
+one_spelt : (c : Bool) (o : Option (List ℕ)) (bytes : List ℕ) (rest : List ExportTree → Type 0) (trees : List ExportTree) → c ≡ false → o ≡ Some bytes
+    → ((ts : List ExportTree) → rest ts → ts ≡ []) → ExportStep c o rest trees → IsOne bytes trees
+one_spelt true o bytes rest trees c e none s = absurd cc
+one_spelt false o bytes rest [] c e none s = absurd s
+one_spelt false None bytes rest (tree ∷ trees) c e none s = absurd s.0
+one_spelt false (Some b) bytes rest (tree ∷ trees) c e none s =
+    (tree, ap (λ (ts : List ExportTree). tree ∷ ts) (none trees s.1), subst (FileSpells export_file tree) (let f = e in cc) s.0)
+
+other_spelt : (c : Bool) (o : Option (List ℕ)) (rest : List ExportTree → Type 0) (trees : List ExportTree) → c ≡ true → ExportStep c o rest trees → rest trees
+other_spelt true o rest trees c s = s
+other_spelt false o rest trees c s = absurd cc
+
+lang_alone : (files : Files) (lines : List FileLine) (all : List (List ℕ)) (bytes : List ℕ) (trees : List ExportTree) → IsPair lines all bytes LANG
+    → AllGot files (map (λ line. line.name) lines) all → SpellExports files lines trees → IsOne LANG trees
+lang_alone files lines all bytes trees (a, b, l, choice) got s =
+    let here = subst (λ (ls : List FileLine). AllGot files (map (λ line. line.name) ls) all) l got in
+    let spelt = subst (λ (ls : List FileLine). SpellExports files ls trees) l s in
+    elim choice [
+      | inl (ca, cb, is) ↦ (
+          let both = subst (λ (fs : List (List ℕ)). AllGot files (a.name ∷ b.name ∷ []) fs) is here in
+          one_spelt b.class_file (get files b.name) LANG (SpellExports files []) trees cb both.1.0 (λ ts e. e)
+          (other_spelt a.class_file (get files a.name) (SpellExports files (b ∷ [])) trees ca spelt))
+      | inr (ca, cb, is) ↦ (
+          let both = subst (λ (fs : List (List ℕ)). AllGot files (a.name ∷ b.name ∷ []) fs) is here in
+          one_spelt a.class_file (get files a.name) LANG (SpellExports files (b ∷ [])) trees ca both.0
+          (λ ts r. other_spelt b.class_file (get files b.name) (SpellExports files []) ts cb r) spelt)
+    ]
+
+consistent_with : (line : PackageLine) (tree : ClassTree) (form : IsFirstForm line tree) (exports : List ExportTree) → IsOne LANG exports → Consistent (converted line tree form) exports
+consistent_with line tree form exports (lang, is, spelt) =
+    subst (Consistent (converted line tree form)) (sym is) (form_is_consistent line tree form lang spelt)
+
 -- ---- the whole
 
 keeps : (name dir : List ℕ) (files : Files) (new : Shelved) (todo : Todo) → IsReady (command_of (convert name dir)) files todo → IsWritten files todo new
@@ -138,9 +207,12 @@ keeps name dir files new todo ready written =
       text_is = got.text_is;
       list_is = listed_spelt name got.text x.0 got.listed_is;
       class_files = classes_spelt files x.0.lines x.1 is.form.bytes is.tree is.form.pair got.all is.form.spelt;
+      exports = lang_tree ∷ [];
+      export_files = exports_spelt files x.0.lines x.1 is.form.bytes lang_tree is.form.pair got.all lang_spelt;
       components = subst (Stand dir made.caps) (sym after) (stand_made dir x.0.package files made);
       spelt = is.is_made.spelt;
       alike = λ exports spelt. form_behaves_alike (line_of x.0) is.tree is.form.form exports (exports_own files x.0.lines exports spelt);
+      consistent = λ exports spelt. consistent_with (line_of x.0) is.tree is.form.form exports (lang_alone files x.0.lines x.1 is.form.bytes exports is.form.pair got.all spelt);
       alike_beyond = λ exports own. form_behaves_alike (line_of x.0) is.tree is.form.form exports own;
     })
 

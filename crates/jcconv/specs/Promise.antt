@@ -14,6 +14,7 @@ use Rattle.cjc_export.specs.Tokens.{HaveOwnTokens}
 use Rattle.cjc_capread.specs.declared.tree.CapTree.{CapTree}
 use Rattle.cjc_capwrite.specs.declared.files.CapFiles.{CapFiles}
 use Rattle.cjc_capwrite.specs.Writable.{IsSpelt}
+use Rattle.cjc_check.specs.Consistent.{Consistent}
 use Rattle.cjc_convert.specs.BehaveAlike.{BehaveAlike}
 use Rattle.jcconv.specs.Request.{Request, convert}
 
@@ -56,7 +57,8 @@ SpellExports files [] trees = trees ≡ []
 SpellExports files (line ∷ lines) trees = ExportStep line.class_file (get files line.name) (SpellExports files lines) trees
 
 -- The class files that the list of this name names before, and the components in the folder after, behave
--- alike for every script, where both machines go by the export files that the list names.
+-- alike for every script, where both machines go by the export files that the list names. The components are
+-- consistent with these export files.
 pub record Converts (name dir : List ℕ) (before after : Files) : Type 0 where
   pub text : List ℕ
   pub list : ListTree
@@ -66,9 +68,12 @@ pub record Converts (name dir : List ℕ) (before after : Files) : Type 0 where
   pub text_is : get before name ≡ Some text
   pub list_is : IsListSpelt name list text
   pub class_files : SpellClasses before list.lines classes
+  pub exports : List ExportTree
+  pub export_files : SpellExports before list.lines exports
   pub components : Stand dir caps after
   pub spelt : IsSpelt cap caps
   pub alike : (exports : List ExportTree) → SpellExports before list.lines exports → BehaveAlike classes exports cap
+  pub consistent : (exports : List ExportTree) → SpellExports before list.lines exports → Consistent cap exports
   -- They do so by other export files too, as long as in each of them the classes have tokens of their own.
   pub alike_beyond : (exports : List ExportTree) → HaveOwnTokens exports → BehaveAlike classes exports cap
 

@@ -57,7 +57,8 @@ pub fn run<S: Shelf, O: Sink>(alloc: Global, words: &[Bytes], shelf: &mut S, out
         → (inputs : (command_of asked).Inputs) → verdict files (command_of asked).plan ≡ complete inputs → ((r : Refusal) → (command_of asked).Makes inputs (Err r) → ⊥)
         → (result ≡ Status.NoMemory) ⊎ (result ≡ Status.Done))) }
 
-    // What was asked for is done as promised: the class files before and the components after behave alike.
+    // What was asked for is done as promised: the class files before and the components after behave alike, and
+    // the components are consistent.
     ensures alike { result ≡ Status.Done → IfSome (request words.now) (λ asked. IfSome (S.shelved shelf.old).files (λ before. IsSomeAnd (S.shelved shelf.new).files (Promised asked before))) }
 {
     match asked_by(words) {
