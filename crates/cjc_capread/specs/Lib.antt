@@ -1,6 +1,7 @@
 pub mod Opcodes
 pub mod Shapes
 pub mod Parts
+pub mod ClassRefs
 pub mod Header
 pub mod Directory
 pub mod Applet

@@ -3,8 +3,8 @@ use Rattle.std.specs.Prelude.{ℕ, zero, suc, ◌+◌, ◌-◌, ◌*◌, ◌/◌
 use Rattle.std.specs.Int.{w8, w16, w32, cast_signed}
 use Rattle.cjc_bytes.specs.declared.fault.MemberId.{MemberId}
 use Rattle.cjc_capread.specs.declared.tree.ClassRef.{ClassRef}
-use Rattle.cjc_capread.specs.declared.tree.ClassRef.TheVariants.{Inside, Outside}
 use Rattle.cjc_capread.specs.declared.tree.Handler.{Handler}
+use Rattle.cjc_capread.specs.ClassRefs.{same_class}
 use Rattle.cjc_script.specs.declared.value.Value.{Value}
 use Rattle.cjc_script.specs.declared.value.Value.TheVariants as values
 use Rattle.cjc_script.specs.declared.script.Act.{Act}
@@ -67,11 +67,6 @@ array_name Booleans = codes "[Z"
 array_name Bytes = codes "[B"
 array_name Shorts = codes "[S"
 array_name Ints = codes "[I"
-
-abbrev pub same_class : ClassRef → ClassRef → Bool
-same_class (Inside a) (Inside b) = a == b
-same_class (Outside p a) (Outside q b) = p == q && a == b
-same_class _ _ = false
 
 -- what a field of this type holds at first
 abbrev pub zero_of : Sort → Value

@@ -2,4 +2,3 @@ pub mod Cells
 pub mod Rows
 pub mod Naming
 pub mod ByToken
-pub mod Exported

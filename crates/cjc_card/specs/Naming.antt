@@ -9,6 +9,7 @@ use Rattle.cjc_capread.specs.declared.tree.Descriptor.{Descriptor}
 use Rattle.cjc_capread.specs.declared.tree.ClassDescriptor.{ClassDescriptor}
 use Rattle.cjc_capread.specs.declared.tree.MethodDescriptor.{MethodDescriptor}
 use Rattle.cjc_capread.specs.declared.tree.CapTree.{CapTree}
+use Rattle.cjc_capread.specs.ClassRefs.{is_inside}
 use Rattle.cjc_classfile.specs.declared.tree.MethodTree.{MethodTree}
 use Rattle.cjc_classfile.specs.declared.tree.ClassTree.{ClassTree}
 use Rattle.cjc_export.specs.declared.tree.ExportClass.{ExportClass}
@@ -144,10 +145,6 @@ entered_among described_methods (m ∷ methods) id =
     then Some m.offset else entered_among described_methods methods id
 
 -- ---- names of classes
-
-abbrev pub is_inside : ClassRef → ℕ → Bool
-is_inside (Inside o) offset = o == offset
-is_inside (Outside tree token) offset = false
 
 abbrev pub name_among : List ClassName → ℕ → List ℕ
 name_among [] offset = []

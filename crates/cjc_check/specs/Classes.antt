@@ -1,5 +1,5 @@
 -- The classes and interfaces that a class_ref can name (Java Card Virtual Machine Specification 2.2.2, 6.1, 6.8 and chapter 5).
-use Rattle.std.specs.Prelude.{ℕ, ◌+◌, List, length, sum_by, flat_map, Bool, false, ◌==◌, ◌&&◌, not, Option, Some, None, option_and_then, slice_get}
+use Rattle.std.specs.Prelude.{ℕ, ◌+◌, List, length, sum_by, flat_map, Bool, false, ◌==◌, not, Option, Some, None, option_and_then, slice_get}
 use Rattle.std.specs.List.{find}
 use Rattle.std.specs.Str.{bytes_eq}
 use Rattle.cjc_capread.specs.declared.tree.ClassRef.{ClassRef}
@@ -62,12 +62,3 @@ names_class info exports (Outside import class) = is_exported_class (imported ex
 abbrev pub is_own_class : ClassInfo → ClassRef → Bool
 is_own_class info (Inside offset) = begins (classes_at info) offset
 is_own_class info (Outside import class) = false
-
-abbrev pub is_inside : ClassRef → ℕ → Bool
-is_inside (Inside o) offset = o == offset
-is_inside (Outside import class) offset = false
-
-abbrev pub same_class : ClassRef → ClassRef → Bool
-same_class (Inside a) (Inside b) = a == b
-same_class (Outside p a) (Outside q b) = p == q && a == b
-same_class _ _ = false

@@ -12,12 +12,13 @@ use Rattle.cjc_capread.specs.declared.tree.Descriptor.{Descriptor}
 use Rattle.cjc_capread.specs.declared.tree.TypeDescriptor.{TypeDescriptor}
 use Rattle.cjc_capread.specs.declared.tree.ExportedClass.{ExportedClass}
 use Rattle.cjc_capread.specs.declared.tree.Export.{Export}
+use Rattle.cjc_capread.specs.ClassRefs.{is_inside}
 use Rattle.cjc_capwrite.specs.Descriptor.{type_bytes}
 use Rattle.cjc_export.specs.Words.{has, is_static}
 use Rattle.cjc_export.specs.Members.{same_bool}
 use Rattle.cjc_check.specs.Complete.{Complete}
 use Rattle.cjc_check.specs.Placed.{Placed, placed, begins}
-use Rattle.cjc_check.specs.Classes.{interfaces_at, classes_at, is_inside, is_own_class}
+use Rattle.cjc_check.specs.Classes.{interfaces_at, classes_at, is_own_class}
 use Rattle.cjc_check.specs.Members.{class_methods, is_cell_at, is_cell, is_method_start}
 
 -- ---- Export

@@ -8,13 +8,14 @@ use Rattle.cjc_capread.specs.declared.tree.FieldDescriptor.{FieldDescriptor}
 use Rattle.cjc_capread.specs.declared.tree.FieldPlace.{FieldPlace}
 use Rattle.cjc_capread.specs.declared.tree.FieldPlace.TheVariants.{Static, Instance}
 use Rattle.cjc_capread.specs.declared.tree.MethodDescriptor.{MethodDescriptor}
+use Rattle.cjc_capread.specs.ClassRefs.{is_inside, same_class}
 use Rattle.cjc_export.specs.declared.tree.ExportClass.{ExportClass}
 use Rattle.cjc_export.specs.declared.tree.ExportTree.{ExportTree}
 use Rattle.cjc_export.specs.Words.{is_static, is_interface}
 use Rattle.cjc_export.specs.Members.{is_unbound}
 use Rattle.cjc_check.specs.Complete.{Complete}
 use Rattle.cjc_check.specs.Placed.{Placed, item_at}
-use Rattle.cjc_check.specs.Classes.{classes_at, imported, imported_named, is_own_class, is_inside, same_class}
+use Rattle.cjc_check.specs.Classes.{classes_at, imported, imported_named, is_own_class}
 
 -- ---- methods of the package
 

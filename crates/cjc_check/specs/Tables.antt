@@ -6,11 +6,12 @@ use Rattle.cjc_capread.specs.declared.tree.ClassRef.TheVariants.{Inside, Outside
 use Rattle.cjc_capread.specs.declared.tree.ClassEntry.{ClassEntry}
 use Rattle.cjc_capread.specs.declared.tree.ImplementedInterface.{ImplementedInterface}
 use Rattle.cjc_capread.specs.declared.tree.ClassDescriptor.{ClassDescriptor}
+use Rattle.cjc_capread.specs.ClassRefs.{is_inside}
 use Rattle.cjc_export.specs.declared.tree.ExportClass.{ExportClass}
 use Rattle.cjc_export.specs.declared.tree.ExportTree.{ExportTree}
 use Rattle.cjc_check.specs.Complete.{Complete}
 use Rattle.cjc_check.specs.Placed.{Placed}
-use Rattle.cjc_check.specs.Classes.{classes_at, imported, is_inside}
+use Rattle.cjc_check.specs.Classes.{classes_at, imported}
 use Rattle.cjc_check.specs.Members.{is_method_start, has_virtual}
 
 -- ---- tables

@@ -6,7 +6,6 @@ ghost use Rattle.cjc_export.specs.declared.tree.ExportTree.{ExportTree};
 ghost use Rattle.cjc_export.specs.Tokens.{HaveOwnTokens};
 ghost use Rattle.cjc_convert.specs.FirstForm.{PackageLine, IsFirstForm};
 ghost use Rattle.cjc_convert.specs.Converted.{converted};
-ghost use Rattle.cjc_card.specs.Exported.{ExportsWhatIsDescribed};
 ghost use Rattle.cjc_convert.specs.BehaveAlike.{BehaveAlike};
 
 /// A package of the first form and the components that are written for it behave alike, for every script. Of
@@ -14,10 +13,4 @@ ghost use Rattle.cjc_convert.specs.BehaveAlike.{BehaveAlike};
 #[tactic(auto, using(crate::proofs::BehavesAlike::form_behaves_alike))]
 pub fn first_form_behaves_alike()
     ensures { (line : PackageLine) (tree : Tree) (form : IsFirstForm line tree) (exports : List ExportTree) → HaveOwnTokens exports → BehaveAlike (tree ∷ []) exports (converted line tree form) }
-{}
-
-/// What is exported of a package of the first form is what its members are described to be.
-#[tactic(auto, unfolding(crate::specs::Converted::tree_for))]
-pub fn first_form_exports()
-    ensures { (line : PackageLine) (tree : Tree) (form : IsFirstForm line tree) → ExportsWhatIsDescribed (converted line tree form) }
 {}

@@ -13,7 +13,7 @@ mod form;
 mod lang;
 mod selected;
 
-pub use alike::{first_form_behaves_alike, first_form_exports};
+pub use alike::first_form_behaves_alike;
 pub use cjc_capwrite::CapFiles;
 pub use cjc_list::{List, read_list};
 pub use consistent::first_form_is_consistent;
