@@ -26,7 +26,7 @@ use Rattle.cjc_check.specs.Consistent.{sentences, counts_as_true}
 
 -- the numbers of the sentences that are false, and don't count as true
 abbrev pub broken : CapTree → List ExportTree → List ℕ
-broken cap exports = map (λ s. s.number) (filter (λ s. not (counts_as_true (sentences cap exports) s)) (sentences cap exports))
+broken cap exports = map (λ s. s.number) (filter (λ s. not (counts_as_true s)) (sentences cap exports))
 
 -- where the instructions of these bytes begin, and their jumps; none where they are no instructions
 abbrev pub insns_of : Option (List Instruction) → List Instruction
@@ -41,6 +41,7 @@ jumps_of bytes = flat_map jumps (insns_of (instructions 0 bytes))
 
 -- ---- java/lang with Object and ArithmeticException
 
+-- a public class with its constructor and `equals`
 abbrev pub exported_class : (token : ℕ) → (name : List ℕ) → (supers : List (List ℕ)) → ExportClass
 exported_class token name supers = record {
   token = token;

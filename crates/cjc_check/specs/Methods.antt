@@ -10,7 +10,8 @@ use Rattle.cjc_check.specs.Complete.{Complete}
 use Rattle.cjc_check.specs.Members.{class_methods}
 use Rattle.cjc_check.specs.Instructions.{Instruction, instructions, lies_between, jumps, ends_code, IndexOperand, indices}
 
--- the code of a method: whether it is abstract, the offset of its first byte from the start of the info of Method, and its instructions
+-- the code of a method: whether it is abstract, where it begins and ends in bytes from the start of the info of Method, and its
+-- instructions
 pub record Code : Type 0 where
   pub is_abstract : Bool
   pub first : ℕ

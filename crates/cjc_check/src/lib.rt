@@ -2,5 +2,7 @@
 #![tactic(auto)]
 
 mod example;
+mod laws;
 
 pub use example::{example_is_consistent, worked_codes_are_cut};
+pub use laws::consistent_where_unbroken;

@@ -6,7 +6,7 @@ use Rattle.cjc_bytes.specs.Found.{each, all_of}
 use Rattle.cjc_bytes.specs.Reading.{front, digits, read_file}
 use Rattle.cjc_bytes.specs.Spots.{after, bad_at, types_from, parts_of, desc_of}
 use Rattle.cjc_bytes.proofs.Laws.{file_ok, one_value}
-use Rattle.cjc_export.specs.declared.tree.ExportClass.{ExportClass}
+use Rattle.cjc_check.specs.Example.{exported_class}
 use Rattle.cjc_export.specs.declared.tree.ExportTree.{ExportTree}
 use Rattle.cjc_export.specs.ExportFile.{new_name_at, class_tree, front_part, export_file}
 use Rattle.cjc_export.specs.Members.{grown, text_field, class_field, desc_at, desc_field, class_method, method}
@@ -14,20 +14,6 @@ use Rattle.cjc_export.specs.Package.{package_at, package_field}
 use Rattle.cjc_export.specs.Pool.{index, counted, content, entry, text_at, tested_name, tested, class_name_at}
 use Rattle.cjc_convert.specs.Converted.{lang_aid}
 use Rattle.cjc_convert.specs.declared.lang.TheConstants.{LANG}
-
-abbrev lang_class : (token : ℕ) (name : List ℕ) (supers : List (List ℕ)) → ExportClass
-lang_class token name supers = record {
-  token = token;
-  flags = 0x0001;
-  name = name;
-  supers = supers;
-  interfaces = [];
-  fields = [];
-  methods =
-      record { token = 0; flags = 0x0001; name = codes "<init>"; desc = codes "()V" }
-      ∷ record { token = 0; flags = 0x0001; name = codes "equals"; desc = codes "(Ljava/lang/Object;)Z" }
-      ∷ [];
-}
 
 abbrev above_exception : List (List ℕ)
 above_exception = codes "java/lang/Throwable" ∷ codes "java/lang/Object" ∷ []
@@ -46,17 +32,17 @@ lang_tree = record {
   minor = 0;
   library = true;
   classes =
-      lang_class 0 (codes "java/lang/Object") []
-      ∷ lang_class 1 (codes "java/lang/Throwable") (codes "java/lang/Object" ∷ [])
-      ∷ lang_class 2 (codes "java/lang/Exception") above_exception
-      ∷ lang_class 3 (codes "java/lang/RuntimeException") above_runtime
-      ∷ lang_class 4 (codes "java/lang/ArithmeticException") above_most
-      ∷ lang_class 5 (codes "java/lang/ClassCastException") above_most
-      ∷ lang_class 6 (codes "java/lang/NullPointerException") above_most
-      ∷ lang_class 7 (codes "java/lang/IndexOutOfBoundsException") above_most
-      ∷ lang_class 8 (codes "java/lang/ArrayIndexOutOfBoundsException") (codes "java/lang/IndexOutOfBoundsException" ∷ above_most)
-      ∷ lang_class 9 (codes "java/lang/NegativeArraySizeException") above_most
-      ∷ lang_class 10 (codes "java/lang/ArrayStoreException") above_most
+      exported_class 0 (codes "java/lang/Object") []
+      ∷ exported_class 1 (codes "java/lang/Throwable") (codes "java/lang/Object" ∷ [])
+      ∷ exported_class 2 (codes "java/lang/Exception") above_exception
+      ∷ exported_class 3 (codes "java/lang/RuntimeException") above_runtime
+      ∷ exported_class 4 (codes "java/lang/ArithmeticException") above_most
+      ∷ exported_class 5 (codes "java/lang/ClassCastException") above_most
+      ∷ exported_class 6 (codes "java/lang/NullPointerException") above_most
+      ∷ exported_class 7 (codes "java/lang/IndexOutOfBoundsException") above_most
+      ∷ exported_class 8 (codes "java/lang/ArrayIndexOutOfBoundsException") (codes "java/lang/IndexOutOfBoundsException" ∷ above_most)
+      ∷ exported_class 9 (codes "java/lang/NegativeArraySizeException") above_most
+      ∷ exported_class 10 (codes "java/lang/ArrayStoreException") above_most
       ∷ [];
 }
 
