@@ -1,5 +1,5 @@
 -- A package with an interface, two classes, fields, a handler and an array, and what is false of it where one item is another.
-use Rattle.std.specs.Prelude.{ℕ, codes, List, [], ◌∷◌, map, filter, flat_map, not, Bool, true, false, Option, Some, None, ℤ}
+use Rattle.std.specs.Prelude.{ℕ, codes, List, [], ◌∷◌, map, filter, flat_map, reverse, not, Bool, true, false, Option, Some, None, ℤ}
 use Rattle.cjc_capread.specs.declared.tree.ClassRef.{ClassRef}
 use Rattle.cjc_capread.specs.declared.tree.Header.{Header}
 use Rattle.cjc_capread.specs.declared.tree.Directory.{Directory}
@@ -7,6 +7,7 @@ use Rattle.cjc_capread.specs.declared.tree.Applet.{Applet}
 use Rattle.cjc_capread.specs.declared.tree.Import.{Import}
 use Rattle.cjc_capread.specs.declared.tree.ConstantPool.{ConstantPool}
 use Rattle.cjc_capread.specs.declared.tree.ClassInfo.{ClassInfo}
+use Rattle.cjc_capread.specs.declared.tree.Handler.{Handler}
 use Rattle.cjc_capread.specs.declared.tree.Method.{Method}
 use Rattle.cjc_capread.specs.declared.tree.StaticField.{StaticField}
 use Rattle.cjc_capread.specs.declared.tree.ReferenceLocation.{ReferenceLocation}
@@ -21,6 +22,8 @@ use Rattle.cjc_capread.specs.declared.tree.FieldType.TheVariants.{Short, Describ
 use Rattle.cjc_capread.specs.declared.tree.CapTree.{CapTree}
 use Rattle.cjc_export.specs.declared.tree.ExportClass.{ExportClass}
 use Rattle.cjc_export.specs.declared.tree.ExportTree.{ExportTree}
+use Rattle.cjc_check.specs.Classes.{classes_at}
+use Rattle.cjc_check.specs.Members.{has_token}
 use Rattle.cjc_check.specs.Instructions.{Instruction, instructions, jumps}
 use Rattle.cjc_check.specs.Consistent.{sentences, counts_as_true}
 
@@ -264,4 +267,53 @@ altered =
     ∷ record example { statics = Some (statics_of 2) }
     ∷ record example { export = Some (export_of 16) }
     ∷ record example { descriptor = Some (descriptor_of 13) }
+    ∷ []
+
+-- ---- tables
+
+-- a class whose superclass is java/lang/Object, with two entries in its public table and one in its package table, and a subclass at 18
+-- that adds nothing
+abbrev pub two_classes : ClassInfo
+two_classes = record {
+  interfaces = [];
+  classes =
+      record {
+        flags = 0;
+        superclass = Outside 0 0;
+        declared_instance_size = 0;
+        first_reference_token = 0xFF;
+        reference_count = 0;
+        public_base = 1;
+        package_base = 0;
+        public_methods = 8 ∷ 0xFFFF ∷ [];
+        package_methods = 20 ∷ [];
+        interfaces = [];
+      }
+      ∷ record {
+        flags = 0;
+        superclass = Inside 2;
+        declared_instance_size = 0;
+        first_reference_token = 0xFF;
+        reference_count = 0;
+        public_base = 3;
+        package_base = 1;
+        public_methods = [];
+        package_methods = [];
+        interfaces = [];
+      }
+      ∷ [];
+}
+
+-- which of these tokens the class at an offset has
+abbrev pub tokens_at : (offset : ℕ) → List ℕ → List Bool
+tokens_at offset tokens = map (has_token (reverse (classes_at two_classes)) (lang ∷ []) (Inside offset)) tokens
+
+-- ---- handlers
+
+-- of a method at 17 whose code is sload_0, sload_0, sdiv, sreturn and three times pop, a constant and sreturn: one for the class at index 1
+-- over the division, and one for any exception over all three
+abbrev pub two_handlers : (stop : Bool) → List Handler
+two_handlers stop =
+    record { start = 0x15; stop = stop; length = 1; handler = 0x17; catch_index = 1 }
+    ∷ record { start = 0x13; stop = true; length = 3; handler = 0x1D; catch_index = 0 }
     ∷ []

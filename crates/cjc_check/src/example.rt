@@ -1,9 +1,12 @@
 //! A worked package: which sentences are false of it, by computation.
 
-ghost use Rattle.std.specs.Prelude.{◌≡◌, [], ◌∷◌, map, pos};
+ghost use Rattle.std.specs.Prelude.{◌≡◌, [], ◌∷◌, map, pos, true, false};
+ghost use Rattle.cjc_capread.specs.declared.tree.ClassRef.TheVariants.{Inside as inside, Outside as outside};
+ghost use Rattle.cjc_check.specs.ClassRefs.{in_nibbles};
 ghost use Rattle.cjc_check.specs.Consistent.{Consistent};
-ghost use Rattle.cjc_check.specs.Example.{example, with_applet, altered, lang, broken, starts_of, jumps_of};
-ghost use Rattle.cjc_check.specs.Locations.{distances};
+ghost use Rattle.cjc_check.specs.Example.{example, with_applet, altered, lang, broken, starts_of, jumps_of, tokens_at, two_handlers};
+ghost use Rattle.cjc_check.specs.Handlers.{do_not_fall, stop_bits};
+ghost use Rattle.cjc_check.specs.Locations.{distances, catch_places};
 
 /// The example is consistent with java/lang, also with an applet, and each alteration breaks one sentence of it.
 pub fn example_is_consistent()
@@ -23,4 +26,16 @@ pub fn worked_codes_are_cut()
     ensures falling { starts_of (0x75 ∷ 0 ∷ 12 ∷ 0 ∷ 2 ∷ 0 ∷ 5 ∷ 0 ∷ 12 ∷ 0 ∷ 5 ∷ 0 ∷ 12 ∷ []) ≡ [] }
     ensures crossed { starts_of (0x73 ∷ 0 ∷ 9 ∷ 0 ∷ 5 ∷ 0 ∷ 4 ∷ 0 ∷ 9 ∷ []) ≡ [] }
     ensures cut_short { starts_of (0x8B ∷ 0 ∷ []) ≡ [] }
+{}
+
+/// Tokens are found upwards, an imported implementation counted; a token of the package table has its high bit set. Class references
+/// in types. Two handlers whose ranges meet: the stop bit of the first is 0, and only its catch index has a place.
+pub fn worked_items_are_found()
+    ensures class { tokens_at 2 (0 ∷ 1 ∷ 2 ∷ 3 ∷ 0x80 ∷ 0x81 ∷ []) ≡ true ∷ true ∷ true ∷ false ∷ true ∷ false ∷ [] }
+    ensures subclass { tokens_at 18 (0 ∷ 1 ∷ 2 ∷ 3 ∷ 0x80 ∷ 0x81 ∷ []) ≡ true ∷ true ∷ true ∷ false ∷ true ∷ false ∷ [] }
+    ensures types { in_nibbles (4 ∷ 6 ∷ 0 ∷ 0 ∷ 0 ∷ 2 ∷ 0xE ∷ 8 ∷ 0 ∷ 0 ∷ 4 ∷ 1 ∷ []) ≡ inside 2 ∷ outside 0 4 ∷ [] }
+    ensures order { do_not_fall (two_handlers false) ≡ true }
+    ensures stops { stop_bits (two_handlers false) ≡ true }
+    ensures no_stop { stop_bits (two_handlers true) ≡ false }
+    ensures places { distances 0 (catch_places 1 (two_handlers false)) ≡ 7 ∷ [] }
 {}

@@ -4,5 +4,5 @@
 mod example;
 mod laws;
 
-pub use example::{example_is_consistent, worked_codes_are_cut};
+pub use example::{example_is_consistent, worked_codes_are_cut, worked_items_are_found};
 pub use laws::consistent_where_unbroken;
