@@ -1,0 +1,21 @@
+use Rattle.std.proofs.Common.{sym, ap, ◌∙◌}
+use Rattle.std.specs.Prelude.{position}
+use Rattle.cjc_world.specs.Classes.{Member, field_of_class, field_of_export}
+use Rattle.cjc_world.specs.Known.{class_of}
+use Rattle.cjc_world.specs.Lookup.{is_called}
+use Rattle.cjc_world.proofs.Places.{position_of_map}
+use Rattle.cjc_world.proofs.class.Known.field_place.Goals as goal
+
+pub returns-in-Declared : goal.returns-in-Declared
+returns-in-Declared c =
+    let test = λ (f : Member). is_called c.args.name.now c.args.desc.now f in
+    c.class_field.ensures ∙ ap (λ fs. position (λ f. test (field_of_class f)) fs) c.items.ensures
+    ∙ sym (position_of_map test field_of_class c.in-Declared.class.now.fields)
+    ∙ ap (λ k. position test (class_of k).fields) (sym c.in-Declared.is)
+
+pub returns-in-Imported : goal.returns-in-Imported
+returns-in-Imported c =
+    let test = λ (f : Member). is_called c.args.name.now c.args.desc.now f in
+    c.export_field.ensures ∙ ap (λ fs. position (λ f. test (field_of_export f)) fs) c.items-in-Imported.ensures
+    ∙ sym (position_of_map test field_of_export c.in-Imported.class.now.fields)
+    ∙ ap (λ k. position test (class_of k).fields) (sym c.in-Imported.is)

@@ -1,0 +1,129 @@
+-- The classes of a package and of its export files, seen alike, in the order of the list.
+use Rattle.std.specs.Prelude.{ℕ, ◌+◌, List, [], ◌∷◌, ◌++◌, map, length, slice_get, Bool, true, false, nat_lt, bit_and, if◌then◌else◌, Option, Some, None}
+use Rattle.std.specs.Str.{bytes_eq}
+use Rattle.cjc_bytes.specs.declared.settings.FileLine.{FileLine}
+use Rattle.cjc_classfile.specs.declared.tree.ClassTree.{ClassTree}
+use Rattle.cjc_classfile.specs.declared.tree.FieldTree.{FieldTree}
+use Rattle.cjc_classfile.specs.declared.tree.MethodTree.{MethodTree}
+use Rattle.cjc_export.specs.declared.tree.ExportClass.{ExportClass}
+use Rattle.cjc_export.specs.declared.tree.ExportField.{ExportField}
+use Rattle.cjc_export.specs.declared.tree.ExportMethod.{ExportMethod}
+use Rattle.cjc_export.specs.declared.tree.ExportTree.{ExportTree}
+use Rattle.cjc_world.specs.Files.{Files}
+
+-- a field or a method
+pub record Member : Type 0 where
+  pub flags : ℕ
+  pub name : List ℕ
+  pub desc : List ℕ
+  -- in an export file
+  pub token : ℕ
+
+-- A class or interface of a class file or of an export file.
+pub record Class : Type 0 where
+  -- of an export file
+  pub is_imported : Bool
+  -- the place among the package's classes, or among the classes of all export files
+  pub number : ℕ
+  pub flags : ℕ
+  pub name : List ℕ
+  -- of a class file its superclass alone, of an export file the supers that it lists
+  pub supers : List (List ℕ)
+  pub interfaces : List (List ℕ)
+  pub fields : List Member
+  pub methods : List Member
+
+abbrev pub has : ℕ → ℕ → Bool
+has flags flag = nat_lt 0 (bit_and flags flag)
+
+-- ---- access flags (Java Virtual Machine Specification, sections 4.1, 4.5 and 4.6)
+
+abbrev pub is_public : ℕ → Bool
+is_public flags = has flags 0x0001
+
+abbrev pub is_private : ℕ → Bool
+is_private flags = has flags 0x0002
+
+abbrev pub is_protected : ℕ → Bool
+is_protected flags = has flags 0x0004
+
+abbrev pub is_static : ℕ → Bool
+is_static flags = has flags 0x0008
+
+abbrev pub is_interface : ℕ → Bool
+is_interface flags = has flags 0x0200
+
+abbrev pub is_abstract : ℕ → Bool
+is_abstract flags = has flags 0x0400
+
+-- ---- the view of a class of either kind of file
+
+abbrev pub field_of_class : FieldTree → Member
+field_of_class f = record { flags = f.flags; name = f.name; desc = f.desc; token = 0 }
+
+abbrev pub method_of_class : MethodTree → Member
+method_of_class m = record { flags = m.flags; name = m.name; desc = m.desc; token = 0 }
+
+abbrev pub declared : ℕ → ClassTree → Class
+declared number c = record {
+  is_imported = false;
+  number = number;
+  flags = c.flags;
+  name = c.name;
+  supers = c.superclass ∷ [];
+  interfaces = c.interfaces;
+  fields = map field_of_class c.fields;
+  methods = map method_of_class c.methods;
+}
+
+abbrev pub field_of_export : ExportField → Member
+field_of_export f = record { flags = f.flags; name = f.name; desc = f.desc; token = f.token }
+
+abbrev pub method_of_export : ExportMethod → Member
+method_of_export m = record { flags = m.flags; name = m.name; desc = m.desc; token = m.token }
+
+abbrev pub imported : ℕ → ExportClass → Class
+imported number c = record {
+  is_imported = true;
+  number = number;
+  flags = c.flags;
+  name = c.name;
+  supers = c.supers;
+  interfaces = c.interfaces;
+  fields = map field_of_export c.fields;
+  methods = map method_of_export c.methods;
+}
+
+-- ---- all of them, in the order of the list's lines; those of an export file as they stand in it
+
+abbrev pub of_class_file : ℕ → Option ClassTree → List Class
+of_class_file number None = []
+of_class_file number (Some c) = declared number c ∷ []
+
+abbrev pub numbered : ℕ → List ExportClass → List Class
+numbered number [] = []
+numbered number (c ∷ cs) = imported number c ∷ numbered (number + 1) cs
+
+abbrev pub of_export_file : ℕ → Option ExportTree → List Class
+of_export_file number None = []
+of_export_file number (Some t) = numbered number t.classes
+
+abbrev pub size : Option ExportTree → ℕ
+size None = 0
+size (Some t) = length t.classes
+
+-- the classes of these lines, where so many class files, export files and classes of export files stand before
+unfoldable pub classes_from : Files → (class_files export_files imports : ℕ) → List FileLine → List Class
+classes_from files c e i [] = []
+classes_from files c e i (line ∷ lines) =
+    if line.class_file
+    then of_class_file c (slice_get files.classes c) ++ classes_from files (c + 1) e i lines
+    else of_export_file i (slice_get files.exports e) ++ classes_from files c (e + 1) (i + size (slice_get files.exports e)) lines
+
+unfoldable pub all_classes : Files → List Class
+all_classes files = classes_from files 0 0 0 files.lines
+
+-- the first class of a name
+unfoldable pub class_named : List Class → List ℕ → Option Class
+class_named [] name = None
+class_named (c ∷ cs) name = if bytes_eq c.name name then Some c else class_named cs name

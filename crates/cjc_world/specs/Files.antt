@@ -1,0 +1,13 @@
+-- What a world is made of.
+use Rattle.std.specs.Prelude.{ℕ, List}
+use Rattle.cjc_bytes.specs.declared.settings.FileLine.{FileLine}
+use Rattle.cjc_classfile.specs.declared.tree.ClassTree.{ClassTree}
+use Rattle.cjc_export.specs.declared.tree.ExportTree.{ExportTree}
+
+-- The package's name, the lines of the list that name files, the class files and the export files, each in
+-- the order of the list.
+pub record Files : Type 0 where
+  pub package_name : List ℕ
+  pub lines : List FileLine
+  pub classes : List ClassTree
+  pub exports : List ExportTree

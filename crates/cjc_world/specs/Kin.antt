@@ -1,0 +1,76 @@
+-- What stands above the classes of a world (Java Virtual Machine Specification, section 5.4): superclasses and
+-- superinterfaces over steps, as a relation and as a tree.
+use Rattle.std.specs.Prelude.{◌≡◌, ℕ, zero, suc, List, [], ◌∷◌, ◌++◌, length, Bool, false, ◌||◌, Option, Some, None}
+use Rattle.std.specs.Str.{bytes_eq}
+use Rattle.cjc_world.specs.Classes.{Class, class_named}
+
+pub data Lists (name : List ℕ) : List (List ℕ) → Type 0 where
+  foremost : {xs : List (List ℕ)} → Lists name (name ∷ xs)
+  after : {x : List ℕ} {xs : List (List ℕ)} → Lists name xs → Lists name (x ∷ xs)
+
+-- The second is a superclass or superinterface of the first, over one step or more. A step goes from the class
+-- of a name to a name that its file lists.
+pub data Above (w : List Class) : List ℕ → List ℕ → Type 0 where
+  directly : {x y : List ℕ} (c : Class) → class_named w x ≡ Some c → Lists y (c.supers ++ c.interfaces) → Above w x y
+  onwards : {x y z : List ℕ} (c : Class) → class_named w x ≡ Some c → Lists y (c.supers ++ c.interfaces) → Above w y z → Above w x z
+
+-- No class is its own superclass or superinterface over steps.
+abbrev pub IsAcyclic : List Class → Type 0
+IsAcyclic w = (x : List ℕ) → Above w x x → ⊥
+
+-- Some names in a row, each with its class, that class's supers and its interfaces; a name of no class stands alone.
+pub data Kin : Type 0 where
+  End : Kin
+  Unknown : (name : List ℕ) (next : Kin) → Kin
+  Known : (class : Class) (supers interfaces : Kin) (next : Kin) → Kin
+
+-- The tree is that of the names in the world. A name on a cycle has none.
+pub data IsKin (w : List Class) : List (List ℕ) → Kin → Type 0 where
+  ends : IsKin w [] End
+  unknown_here : {x : List ℕ} {xs : List (List ℕ)} {next : Kin} → class_named w x ≡ None → IsKin w xs next → IsKin w (x ∷ xs) (Unknown x next)
+  known_here : {x : List ℕ} {xs : List (List ℕ)} {c : Class} {supers interfaces next : Kin} → class_named w x ≡ Some c → IsKin w c.supers supers → IsKin w c.interfaces interfaces → IsKin w xs next → IsKin w (x ∷ xs) (Known c supers interfaces next)
+
+-- ---- the tree as a function: where no class stands above itself it is the one of the relation
+
+abbrev pub known_as : (List (List ℕ) → Kin) → List ℕ → Option Class → Kin → Kin
+known_as above name None next = Unknown name next
+known_as above name (Some c) next = Known c (above c.supers) (above c.interfaces) next
+
+abbrev pub in_a_row : List Class → (List (List ℕ) → Kin) → List (List ℕ) → Kin
+in_a_row w above [] = End
+in_a_row w above (x ∷ xs) = known_as above x (class_named w x) (in_a_row w above xs)
+
+-- so many steps upwards
+unfoldable pub grown : List Class → ℕ → List (List ℕ) → Kin
+grown w zero names = End
+grown w (suc n) names = in_a_row w (grown w n) names
+
+-- As many steps as there are classes reach all of them, and one more the names of no class.
+unfoldable pub kin : List Class → List (List ℕ) → Kin
+kin w names = grown w (suc (length w)) names
+
+-- whether the name stands anywhere in the tree
+abbrev pub stands : List ℕ → Kin → Bool
+stands name End = false
+stands name (Unknown x next) = bytes_eq x name || stands name next
+stands name (Known c supers interfaces next) = bytes_eq c.name name || stands name supers || stands name interfaces || stands name next
+
+abbrev pub above_of : List Class → Option Class → Kin
+above_of w None = End
+above_of w (Some c) = kin w (c.supers ++ c.interfaces)
+
+-- whether the second name stands above the class of the first; in every world this is the relation
+unfoldable pub stands_above : List Class → List ℕ → List ℕ → Bool
+stands_above w x y = stands y (above_of w (class_named w x))
+
+-- ---- going upwards
+
+-- The classes, each followed by its supers in the order of its file and theirs. One that is reached twice stands twice.
+abbrev pub upwards : Kin → List Class
+upwards End = []
+upwards (Unknown name next) = upwards next
+upwards (Known c supers interfaces next) = c ∷ upwards supers ++ upwards next
+
+-- the class of a name and its superclasses
+unfoldable pub line : List Class → List ℕ → List Class
+line w name = upwards (kin w (name ∷ []))

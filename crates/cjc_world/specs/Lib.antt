@@ -1,0 +1,10 @@
+pub mod Files
+pub mod Classes
+pub mod Kin
+pub mod Interfaces
+pub mod Lookup
+pub mod Subtype
+pub mod Access
+pub mod Added
+pub mod Known
+pub mod Spots

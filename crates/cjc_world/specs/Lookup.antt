@@ -1,0 +1,71 @@
+-- Look-up of fields and methods by name and descriptor, and selection (Java Virtual Machine Specification,
+-- sections 5.4.3 and 6.5, invokevirtual).
+use Rattle.std.specs.Prelude.{ℕ, ◌+◌, List, [], ◌∷◌, length, position, Bool, true, false, not, ◌&&◌, ◌==◌, if◌then◌else◌, Option, Some, None, option_map, codes}
+use Rattle.std.specs.Str.{bytes_eq}
+use Rattle.cjc_world.specs.declared.found.Found.{Found}
+use Rattle.cjc_world.specs.Classes.{Member, Class, is_private, is_static}
+use Rattle.cjc_world.specs.Kin.{Kin, End, Unknown, Known, kin, line}
+use Rattle.cjc_world.specs.Interfaces.{known, gathered}
+
+abbrev pub or_else : Option Found → Option Found → Option Found
+or_else (Some f) second = Some f
+or_else None second = second
+
+-- what the first class that has it answers
+unfoldable pub first : (Class → Option Found) → List Class → Option Found
+first own [] = None
+first own (c ∷ cs) = or_else (own c) (first own cs)
+
+abbrev pub is_called : List ℕ → List ℕ → Member → Bool
+is_called name desc m = bytes_eq m.name name && bytes_eq m.desc desc
+
+-- the member at a place of a class; fields are counted first, then methods
+abbrev pub member_at : Class → ℕ → Found
+member_at c i = record { imported = c.is_imported; class = c.number; member = i }
+
+-- ---- fields
+
+-- a class's own field
+unfoldable pub own_field : List ℕ → List ℕ → Class → Option Found
+own_field name desc c = option_map (λ i. member_at c i) (position (λ f. is_called name desc f) c.fields)
+
+-- The class, then in the same way each listed interface in order, then in the same way the superclass, or each
+-- listed super in order.
+abbrev pub field_in : (Class → Option Found) → Kin → Option Found
+field_in own End = None
+field_in own (Unknown name next) = field_in own next
+field_in own (Known c supers interfaces next) = or_else (or_else (own c) (or_else (field_in own interfaces) (field_in own supers))) (field_in own next)
+
+unfoldable pub find_field : List Class → (class name desc : List ℕ) → Option Found
+find_field w class name desc = field_in (own_field name desc) (kin w (class ∷ []))
+
+-- ---- methods
+
+-- neither private nor static
+abbrev pub is_selectable : ℕ → Bool
+is_selectable flags = not (is_private flags) && not (is_static flags)
+
+-- whether a look-up or a selection may end at a method with these flags
+abbrev pub is_wanted : (selecting : Bool) → ℕ → Bool
+is_wanted true flags = is_selectable flags
+is_wanted false flags = true
+
+-- a class's own method; selection passes over private and static ones
+unfoldable pub own_method : (selecting : Bool) → List ℕ → List ℕ → Class → Option Found
+own_method selecting name desc c = option_map (λ i. member_at c (length c.fields + i)) (position (λ m. is_wanted selecting m.flags && is_called name desc m) c.methods)
+
+-- The class, then its superclasses going upwards, then its interfaces in order.
+unfoldable pub find_method : List Class → (class name desc : List ℕ) → Option Found
+find_method w class name desc = or_else (first (own_method false name desc) (line w class)) (first (own_method false name desc) (known (gathered false (kin w (class ∷ [])))))
+
+abbrev pub object : List ℕ
+object = codes "java/lang/Object"
+
+-- an array, whose name begins with [, counts as java/lang/Object
+abbrev pub receiver : List ℕ → List ℕ
+receiver [] = []
+receiver (b ∷ bs) = if b == 91 then object else b ∷ bs
+
+-- The first method from the class upwards through its superclasses that is neither private nor static.
+unfoldable pub selected : List Class → (class name desc : List ℕ) → Option Found
+selected w class name desc = first (own_method true name desc) (line w (receiver class))

@@ -1,0 +1,11 @@
+//! The classes of a package and of the export files that it stands on: subtypes, look-up and selection by
+//! name (Java Virtual Machine Specification, section 5.4). It knows no instruction and no token.
+#![tactic(auto)]
+
+mod class;
+mod found;
+mod spot;
+mod world;
+
+pub use found::Found;
+pub use world::World;

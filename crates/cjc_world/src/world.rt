@@ -1,0 +1,286 @@
+//! The world of a package, and look-up in it. Nothing here takes memory.
+
+ghost use Rattle.std.specs.Prelude.{◌≡◌, suc, [], ◌∷◌, length, false, option_map, IfSome};
+ghost use Rattle.cjc_world.specs.Classes.{all_classes, class_named};
+ghost use Rattle.cjc_world.specs.Kin.{grown, upwards, stands};
+ghost use Rattle.cjc_world.specs.Interfaces.{gathered, known};
+ghost use Rattle.cjc_world.specs.Known.{class_of};
+ghost use Rattle.cjc_world.specs.Spots.{at, IsCounted, IsIndexed};
+ghost use Rattle.cjc_world.specs.Lookup.{first, own_field, own_method, field_in, find_field, find_method, receiver, selected};
+
+use crate::class::Known;
+use crate::found::Found;
+use crate::spot::Spot;
+use cjc_bytes::{Bytes, FileLine, MemberId, Row};
+use cjc_classfile::ClassTree;
+use cjc_export::ExportTree;
+use std::marker::Model;
+
+const OBJECT: &[u8] = b"java/lang/Object";
+
+/// A package with the export files that it stands on.
+#[derive(Drop)]
+pub struct World<'a> {
+    package: Bytes,
+    lines: Row<FileLine>,
+    classes: Row<ClassTree<'a>>,
+    exports: Row<ExportTree>,
+    spots: Row<Spot>,
+}
+
+impl<'a> Model for World<'a> {
+    ghost use Rattle.cjc_world.specs.Files.{Files};
+    ghost use Rattle.cjc_world.specs.Spots.{IsIndexed};
+
+    ghost Value = { Files };
+
+    ghost view = { λ w. record { package_name = w.package; lines = w.lines; classes = w.classes; exports = w.exports } };
+
+    ghost invariant = { λ w. IsIndexed (record { package_name = w.package; lines = w.lines; classes = w.classes; exports = w.exports }) w.spots };
+}
+
+impl<'a> World<'a> {
+    /// The class files, in list order.
+    pub fn classes(&self) -> &Row<ClassTree<'a>>
+        ensures { result.now ≡ self.now.classes }
+    {
+        &self.classes
+    }
+
+    /// The export files, in list order.
+    pub fn exports(&self) -> &Row<ExportTree>
+        ensures { result.now ≡ self.now.exports }
+    {
+        &self.exports
+    }
+
+    /// The lines of the list that name files.
+    pub fn lines(&self) -> &Row<FileLine>
+        ensures { result.now ≡ self.now.lines }
+    {
+        &self.lines
+    }
+
+    /// The package's name.
+    pub fn package(&self) -> &[u8]
+        ensures { result.now ≡ self.now.package_name }
+    {
+        self.package.items()
+    }
+
+    /// Where all classes stand, in the order of the list.
+    fn spots(&self) -> &[Spot]
+        ensures { IsIndexed self.now result.now }
+    {
+        self.spots.items()
+    }
+
+    /// The class that a spot means.
+    fn at(&self, spot: &Spot) -> Option<Known<'_, 'a>>
+        ensures { option_map class_of result ≡ at self.now spot.now }
+    {
+        if spot.imported {
+            let tree = self.exports.items().get(spot.tree as usize)?;
+            let class = tree.classes.items().get(spot.class as usize)?;
+            Some(Known::Imported(spot.number, class))
+        } else {
+            let class = self.classes.items().get(spot.tree as usize)?;
+            Some(Known::Declared(spot.number, class))
+        }
+    }
+
+    /// The first class of a name, in the order of the list.
+    fn class_named(&self, name: &[u8]) -> Option<Known<'_, 'a>>
+        ensures named { option_map class_of result ≡ class_named (all_classes self.now) name.now }
+        ensures counted { IfSome result (λ k. IsCounted (class_of k)) }
+    {
+        for spot in self.spots() {
+            if let Some(class) = self.at(spot) {
+                if class.name() == name {
+                    return Some(class);
+                }
+            }
+        }
+        None
+    }
+
+    /// The first method of this name and descriptor in a class or upwards, so many steps far.
+    fn method_above(
+        &self,
+        selecting: bool,
+        class: &[u8],
+        name: &[u8],
+        desc: &[u8],
+        steps: usize,
+    ) -> Option<Found>
+        ensures { result ≡ first (own_method selecting name.now desc.now) (upwards (grown (all_classes self.now) steps (class.now ∷ []))) }
+    {
+        if steps == 0 {
+            return None;
+        }
+        let class = self.class_named(class)?;
+        if let Some(found) = class.method(selecting, name, desc) {
+            return Some(found);
+        }
+        for sup in class.supers() {
+            if let Some(found) = self.method_above(selecting, sup.items(), name, desc, steps - 1) {
+                return Some(found);
+            }
+        }
+        None
+    }
+
+    /// The first method of this name and descriptor among the interfaces of a class in their order, so many steps
+    /// far. A class that is a listed interface itself follows its own.
+    fn interface_method(
+        &self,
+        listed: bool,
+        class: &[u8],
+        name: &[u8],
+        desc: &[u8],
+        steps: usize,
+    ) -> Option<Found>
+        ensures { result ≡ first (own_method false name.now desc.now) (known (gathered listed (grown (all_classes self.now) steps (class.now ∷ [])))) }
+    {
+        if steps == 0 {
+            return None;
+        }
+        let class = self.class_named(class)?;
+        for sup in class.supers() {
+            if let Some(found) = self.interface_method(false, sup.items(), name, desc, steps - 1) {
+                return Some(found);
+            }
+        }
+        for interface in class.interfaces() {
+            if let Some(found) = self.interface_method(
+                true,
+                interface.items(),
+                name,
+                desc,
+                steps - 1,
+            ) {
+                return Some(found);
+            }
+        }
+        if listed {
+            class.method(false, name, desc)
+        } else {
+            None
+        }
+    }
+
+    /// The field of this name and descriptor that a class has, so many steps far.
+    fn field_above(&self, class: &[u8], name: &[u8], desc: &[u8], steps: usize) -> Option<Found>
+        ensures { result ≡ field_in (own_field name.now desc.now) (grown (all_classes self.now) steps (class.now ∷ [])) }
+    {
+        if steps == 0 {
+            return None;
+        }
+        let class = self.class_named(class)?;
+        if let Some(found) = class.field(name, desc) {
+            return Some(found);
+        }
+        for interface in class.interfaces() {
+            if let Some(found) = self.field_above(interface.items(), name, desc, steps - 1) {
+                return Some(found);
+            }
+        }
+        for sup in class.supers() {
+            if let Some(found) = self.field_above(sup.items(), name, desc, steps - 1) {
+                return Some(found);
+            }
+        }
+        None
+    }
+
+    /// Whether the name is that of the class, or stands above it, so many steps far.
+    fn stands(&self, class: &[u8], name: &[u8], steps: usize) -> bool
+        ensures { result ≡ stands name.now (grown (all_classes self.now) steps (class.now ∷ [])) }
+    {
+        if steps == 0 {
+            return false;
+        }
+        let known = match self.class_named(class) {
+            Some(known) => known,
+            None => return class == name,
+        };
+        if known.name() == name {
+            return true;
+        }
+        for sup in known.supers() {
+            if self.stands(sup.items(), name, steps - 1) {
+                return true;
+            }
+        }
+        for interface in known.interfaces() {
+            if self.stands(interface.items(), name, steps - 1) {
+                return true;
+            }
+        }
+        false
+    }
+
+    /// As many steps as reach all that stands above a class.
+    fn steps(&self) -> usize
+        ensures { result ≡ suc (length (all_classes self.now)) }
+    {
+        self.spots().len() + 1
+    }
+
+    /// The field that is found by its class, name and descriptor: in the class, then in the same way in each
+    /// interface that it lists, then in the same way in its superclass, or of an imported class in each super that
+    /// its file lists (Java Virtual Machine Specification, section 5.4.3.2). None where there is none.
+    #[tactic(auto, unfolding(crate::specs::Lookup::find_field, crate::specs::Kin::kin))]
+    pub fn find_field(&self, id: &MemberId) -> Option<Found>
+        ensures { result ≡ find_field (all_classes self.now) id.now.class id.now.name id.now.desc }
+    {
+        self.field_above(
+            id.class.items(),
+            id.name.items(),
+            id.desc.items(),
+            self.steps(),
+        )
+    }
+
+    /// The method that is found by its class, name and descriptor: in the class, then in its superclasses upwards,
+    /// then in its interfaces in order (sections 5.4.3.3 and 5.4.3.4). None where there is none.
+    #[tactic(auto, unfolding(crate::specs::Lookup::find_method, crate::specs::Kin::line, crate::specs::Kin::kin))]
+    pub fn find_method(&self, id: &MemberId) -> Option<Found>
+        ensures { result ≡ find_method (all_classes self.now) id.now.class id.now.name id.now.desc }
+    {
+        let class = id.class.items();
+        let name = id.name.items();
+        let desc = id.desc.items();
+        let steps = self.steps();
+        match self.method_above(false, class, name, desc, steps) {
+            Some(found) => Some(found),
+            None => self.interface_method(false, class, name, desc, steps),
+        }
+    }
+
+    /// The method that is selected on an object of a class: the first of this name and descriptor from the class
+    /// upwards through its superclasses that is neither private nor static (section 6.5, invokevirtual). An array
+    /// counts as java/lang/Object. None where there is none.
+    #[tactic(auto, unfolding(crate::specs::Lookup::selected, crate::specs::Kin::line, crate::specs::Kin::kin))]
+    pub fn selected(&self, class: &[u8], id: &MemberId) -> Option<Found>
+        ensures { result ≡ selected (all_classes self.now) class.now id.now.name id.now.desc }
+    {
+        self.method_above(
+            true,
+            receiver(class),
+            id.name.items(),
+            id.desc.items(),
+            self.steps(),
+        )
+    }
+}
+
+/// The class whose methods an object of this class has.
+fn receiver(class: &[u8]) -> &[u8]
+    ensures { result.now ≡ receiver class.now }
+{
+    match class {
+        [b'[', ..] => OBJECT,
+        _ => class,
+    }
+}
