@@ -1,3 +1,10 @@
 pub mod Places
 pub mod Named
 pub mod Rising
+pub mod Settled
+pub mod Cycles
+pub mod Subtypes
+pub mod Fronts
+pub mod Languages
+pub mod Heads
+pub mod Indexing

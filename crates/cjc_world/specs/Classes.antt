@@ -113,15 +113,15 @@ size None = 0
 size (Some t) = length t.classes
 
 -- the classes of these lines, where so many class files, export files and classes of export files stand before
-unfoldable pub classes_from : Files → (class_files export_files imports : ℕ) → List FileLine → List Class
-classes_from files c e i [] = []
-classes_from files c e i (line ∷ lines) =
+unfoldable pub classes_from : List ClassTree → List ExportTree → (class_files export_files imports : ℕ) → List FileLine → List Class
+classes_from classes exports c e i [] = []
+classes_from classes exports c e i (line ∷ lines) =
     if line.class_file
-    then of_class_file c (slice_get files.classes c) ++ classes_from files (c + 1) e i lines
-    else of_export_file i (slice_get files.exports e) ++ classes_from files c (e + 1) (i + size (slice_get files.exports e)) lines
+    then of_class_file c (slice_get classes c) ++ classes_from classes exports (c + 1) e i lines
+    else of_export_file i (slice_get exports e) ++ classes_from classes exports c (e + 1) (i + size (slice_get exports e)) lines
 
 unfoldable pub all_classes : Files → List Class
-all_classes files = classes_from files 0 0 0 files.lines
+all_classes files = classes_from files.classes files.exports 0 0 0 files.lines
 
 -- the first class of a name
 unfoldable pub class_named : List Class → List ℕ → Option Class

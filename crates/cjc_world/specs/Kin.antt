@@ -1,6 +1,6 @@
 -- What stands above the classes of a world (Java Virtual Machine Specification, section 5.4): superclasses and
 -- superinterfaces over steps, as a relation and as a tree.
-use Rattle.std.specs.Prelude.{◌≡◌, ℕ, zero, suc, List, [], ◌∷◌, ◌++◌, length, Bool, false, ◌||◌, Option, Some, None}
+use Rattle.std.specs.Prelude.{◌≡◌, ℕ, zero, suc, List, [], ◌∷◌, ◌++◌, length, Bool, true, false, ◌||◌, Option, Some, None}
 use Rattle.std.specs.Str.{bytes_eq}
 use Rattle.cjc_world.specs.Classes.{Class, class_named}
 
@@ -59,9 +59,13 @@ abbrev pub above_of : List Class → Option Class → Kin
 above_of w None = End
 above_of w (Some c) = kin w (c.supers ++ c.interfaces)
 
--- whether the second name stands above the class of the first; in every world this is the relation
+-- whether the second name stands above the class of the first
 unfoldable pub stands_above : List Class → List ℕ → List ℕ → Bool
 stands_above w x y = stands y (above_of w (class_named w x))
+
+-- it does so exactly where it stands above it by the relation
+abbrev pub StandsWhereAbove : List Class → Type 0
+StandsWhereAbove w = (x y : List ℕ) → (stands_above w x y ≡ true → Above w x y) × (Above w x y → stands_above w x y ≡ true)
 
 -- ---- going upwards
 

@@ -1,28 +1,41 @@
 -- Where the world keeps its classes.
-use Rattle.std.specs.Prelude.{◌≡◌, ◌<◌, ◌+◌, ◌^◌, List, [], ◌∷◌, ◌++◌, length, slice_get, All, if◌then◌else◌, Option, option_map, option_and_then, option_to_list}
+use Rattle.std.specs.Prelude.{ℕ, zero, suc, true, ◌≡◌, ◌<◌, ◌+◌, ◌^◌, List, [], ◌∷◌, ◌++◌, length, slice_get, All, if◌then◌else◌, Option, option_map, option_and_then, option_to_list}
+use Rattle.cjc_bytes.specs.declared.settings.FileLine.{FileLine}
+use Rattle.cjc_classfile.specs.declared.tree.ClassTree.{ClassTree}
+use Rattle.cjc_export.specs.declared.tree.ExportTree.{ExportTree}
 use Rattle.cjc_world.specs.declared.spot.Spot.{Spot}
-use Rattle.cjc_world.specs.Files.{Files}
-use Rattle.cjc_world.specs.Classes.{Class, declared, imported, all_classes}
+use Rattle.cjc_world.specs.Classes.{Class, declared, imported, classes_from}
 
 -- the class that a spot means
-abbrev pub at : Files → Spot → Option Class
-at files s =
+abbrev pub at : List ClassTree → List ExportTree → Spot → Option Class
+at classes exports s =
     if s.imported
-    then option_map (λ c. imported s.number c) (option_and_then (λ t. slice_get t.classes s.class) (slice_get files.exports s.tree))
-    else option_map (λ c. declared s.number c) (slice_get files.classes s.tree)
+    then option_map (λ c. imported s.number c) (option_and_then (λ t. slice_get t.classes s.class) (slice_get exports s.tree))
+    else option_map (λ c. declared s.number c) (slice_get classes s.tree)
 
 -- the classes of these spots
-abbrev pub stood : Files → List Spot → List Class
-stood files [] = []
-stood files (s ∷ ss) = option_to_list (at files s) ++ stood files ss
+abbrev pub stood : List ClassTree → List ExportTree → List Spot → List Class
+stood classes exports [] = []
+stood classes exports (s ∷ ss) = option_to_list (at classes exports s) ++ stood classes exports ss
+
+-- so many spots of classes of an export file, from one of its classes on
+unfoldable pub spots_from : (export_file number class count : ℕ) → List Spot
+spots_from e i p zero = []
+spots_from e i p (suc n) = record { imported = true; tree = e; class = p; number = i + p } ∷ spots_from e i (p + 1) n
 
 -- 32 bits count the members of a class.
 abbrev pub IsCounted : Class → Type 0
 IsCounted c = length c.fields + length c.methods < 2 ^ 32
 
+-- These classes were put at the end.
+pub record Grows (classes : List ClassTree) (exports : List ExportTree) (old new : List Spot) (more : List Class) : Type 0 where
+  pub all : stood classes exports new ≡ stood classes exports old ++ more
+  pub count : length new ≡ length old + length more
+  pub counted : All IsCounted more
+
 -- The spots are those of all classes, in order.
-pub record IsIndexed (files : Files) (spots : List Spot) : Type 0 where
-  pub all : stood files spots ≡ all_classes files
-  pub count : length spots ≡ length (all_classes files)
+pub record IsIndexed (lines : List FileLine) (classes : List ClassTree) (exports : List ExportTree) (spots : List Spot) : Type 0 where
+  pub all : stood classes exports spots ≡ classes_from classes exports 0 0 0 lines
+  pub count : length spots ≡ length (classes_from classes exports 0 0 0 lines)
   pub few : length spots < 2 ^ 32
-  pub counted : All IsCounted (all_classes files)
+  pub counted : All IsCounted (classes_from classes exports 0 0 0 lines)

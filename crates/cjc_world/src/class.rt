@@ -1,8 +1,9 @@
 //! A class of either kind of file, lent by a world.
 
-ghost use Rattle.std.specs.Prelude.{◌≡◌, ◌<◌, ◌+◌, ◌^◌, ◌&&◌, length, position};
+ghost use Rattle.std.specs.Prelude.{◌≡◌, ◌<◌, ◌+◌, ◌^◌, ◌&&◌, get_or, length, position};
 ghost use Rattle.std.specs.Str.{bytes_eq};
-ghost use Rattle.cjc_world.specs.Classes.{has};
+ghost use Rattle.cjc_world.specs.Classes.{Member, has, is_interface};
+ghost use Rattle.cjc_world.specs.Rules.{members};
 ghost use Rattle.cjc_world.specs.Known.{class_of};
 ghost use Rattle.cjc_world.specs.Lookup.{is_called, is_selectable, is_wanted, member_at, own_field, own_method};
 
@@ -94,6 +95,24 @@ impl<'w, 'a> Known<'w, 'a> {
         }
     }
 
+    pub(crate) fn is_imported(self) -> bool
+        ensures { result ≡ (class_of self.entry).is_imported }
+    {
+        match self {
+            Known::Declared(..) => false,
+            Known::Imported(..) => true,
+        }
+    }
+
+    pub(crate) fn is_interface(self) -> bool
+        ensures { result ≡ is_interface (class_of self.entry).flags }
+    {
+        match self {
+            Known::Declared(_, class) => has(class.flags, 0x0200),
+            Known::Imported(_, class) => has(class.flags, 0x0200),
+        }
+    }
+
     pub(crate) fn supers(self) -> &'w [Bytes]
         ensures { result.now ≡ (class_of self.entry).supers }
     {
@@ -137,7 +156,7 @@ impl<'w, 'a> Known<'w, 'a> {
         }
     }
 
-    fn field_count(self) -> usize
+    pub(crate) fn field_count(self) -> usize
         ensures { result ≡ length (class_of self.entry).fields }
     {
         match self {
@@ -146,7 +165,7 @@ impl<'w, 'a> Known<'w, 'a> {
         }
     }
 
-    fn member(self, place: u32) -> Found
+    fn found(self, place: u32) -> Found
         ensures { result ≡ member_at (class_of self.entry) place }
     {
         match self {
@@ -170,7 +189,7 @@ impl<'w, 'a> Known<'w, 'a> {
         ensures { result ≡ own_field name.now desc.now (class_of self.entry) }
     {
         let place = self.field_place(name, desc)?;
-        Some(self.member(place as u32))
+        Some(self.found(place as u32))
     }
 
     /// The class's own method of this name and descriptor; in selecting neither a private nor a static one.
@@ -180,6 +199,76 @@ impl<'w, 'a> Known<'w, 'a> {
         ensures { result ≡ own_method selecting name.now desc.now (class_of self.entry) }
     {
         let place = self.method_place(selecting, name, desc)?;
-        Some(self.member((self.field_count() + place) as u32))
+        Some(self.found((self.field_count() + place) as u32))
+    }
+
+    /// How many fields or methods there are.
+    pub(crate) fn member_count(self, field: bool) -> usize
+        ensures { result ≡ length (members field (class_of self.entry)) }
+    {
+        match self {
+            Known::Declared(_, class) if field => class.fields.items().len(),
+            Known::Declared(_, class) => class.methods.items().len(),
+            Known::Imported(_, class) if field => class.fields.items().len(),
+            Known::Imported(_, class) => class.methods.items().len(),
+        }
+    }
+
+    /// The place of the first field or method of this name and descriptor.
+    pub(crate) fn place(self, field: bool, name: &[u8], desc: &[u8]) -> Option<usize>
+        ensures { result ≡ position (λ m. is_called name.now desc.now m) (members field (class_of self.entry)) }
+    {
+        if field {
+            self.field_place(name, desc)
+        } else {
+            self.method_place(false, name, desc)
+        }
+    }
+
+    fn field_at(self, place: usize) -> (&'w [u8], &'w [u8])
+        requires { place < length (class_of self).fields }
+        ensures name { (d : Member) → result.0.now ≡ (get_or (class_of self.entry).fields place d).name }
+        ensures desc { (d : Member) → result.1.now ≡ (get_or (class_of self.entry).fields place d).desc }
+    {
+        match self {
+            Known::Declared(_, class) => {
+                let field = &class.fields.items()[place];
+                (field.name.items(), field.desc.items())
+            }
+            Known::Imported(_, class) => {
+                let field = &class.fields.items()[place];
+                (field.name.items(), field.desc.items())
+            }
+        }
+    }
+
+    fn method_at(self, place: usize) -> (&'w [u8], &'w [u8])
+        requires { place < length (class_of self).methods }
+        ensures name { (d : Member) → result.0.now ≡ (get_or (class_of self.entry).methods place d).name }
+        ensures desc { (d : Member) → result.1.now ≡ (get_or (class_of self.entry).methods place d).desc }
+    {
+        match self {
+            Known::Declared(_, class) => {
+                let method = &class.methods.items()[place];
+                (method.name.items(), method.desc.items())
+            }
+            Known::Imported(_, class) => {
+                let method = &class.methods.items()[place];
+                (method.name.items(), method.desc.items())
+            }
+        }
+    }
+
+    /// The name and the descriptor of the field or method at a place.
+    pub(crate) fn member_at(self, field: bool, place: usize) -> (&'w [u8], &'w [u8])
+        requires { place < length (members field (class_of self)) }
+        ensures name { (d : Member) → result.0.now ≡ (get_or (members field (class_of self.entry)) place d).name }
+        ensures desc { (d : Member) → result.1.now ≡ (get_or (members field (class_of self.entry)) place d).desc }
+    {
+        if field {
+            self.field_at(place)
+        } else {
+            self.method_at(place)
+        }
     }
 }

@@ -2,8 +2,10 @@
 //! name (Java Virtual Machine Specification, section 5.4). It knows no instruction and no token.
 #![tactic(auto)]
 
+mod broken;
 mod class;
 mod found;
+mod rules;
 mod spot;
 mod world;
 

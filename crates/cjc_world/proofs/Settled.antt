@@ -1,0 +1,166 @@
+-- Without cycles, as many steps as there are classes reach all that stands above a class.
+use Rattle.std.proofs.Common.{◌≡◌, ℕ, zero, suc, ◌<◌, ◌≤◌, refl, sym, ap, subst, ◌∙◌, arith, Bool, true, false, List, [], ◌∷◌, ◌++◌, length, inl, inr, ⊎_elim}
+use Rattle.std.specs.Prelude.{◌||◌, ◌⊎◌, Option, Some, None, if◌then◌else◌}
+use Rattle.std.specs.Str.{bytes_eq}
+use Rattle.std.proofs.lemmas.Slice.Eq.{bytes_eq-Decides}
+use Rattle.cjc_world.specs.Classes.{Class, class_named}
+use Rattle.cjc_world.specs.Kin.{Kin, End, Unknown, Known, known_as, in_a_row, grown, kin, IsKin, ends, unknown_here, known_here, Lists, foremost, after, Above, directly, onwards, IsAcyclic}
+
+pub bytes-true : (x y : List ℕ) → bytes_eq x y ≡ true → x ≡ y
+unfolding class_named grown kin
+bytes-true x y e = grind (arith, bytes_eq-Decides)
+
+pub bytes-refl : (x : List ℕ) → bytes_eq x x ≡ true
+unfolding class_named grown kin
+bytes-refl x = grind (arith, bytes_eq-Decides)
+
+-- every way upwards from the name ends within so many steps
+data Settles (w : List Class) : ℕ → List ℕ → Type 0 where
+  nothing : {n : ℕ} {x : List ℕ} → class_named w x ≡ None → Settles w (suc n) x
+  something : {n : ℕ} {x : List ℕ} (c : Class) → class_named w x ≡ Some c → ((y : List ℕ) → Lists y (c.supers ++ c.interfaces) → Settles w n y) → Settles w (suc n) x
+
+-- ---- names that are left
+
+unfoldable pub is_left : List (List ℕ) → List ℕ → Bool
+is_left [] x = false
+is_left (y ∷ ys) x = bytes_eq y x || is_left ys x
+
+unfoldable pub without : List ℕ → List (List ℕ) → List (List ℕ)
+without x [] = []
+without x (y ∷ ys) = if bytes_eq y x then without x ys else y ∷ without x ys
+
+without-length : (x : List ℕ) (ys : List (List ℕ)) → length (without x ys) ≤ length ys
+unfolding without class_named grown kin
+without-length x [] = omega arith
+without-length x (y ∷ ys) = by (bytes_eq y x) (without-length x ys)
+  where
+    by : (b : Bool) → length (without x ys) ≤ length ys → length (if b then without x ys else y ∷ without x ys) ≤ length (y ∷ ys)
+    by true h = omega arith
+    by false h = omega arith
+
+pub without-less : (x : List ℕ) (ys : List (List ℕ)) → is_left ys x ≡ true → length (without x ys) < length ys
+unfolding without is_left class_named grown kin
+without-less x [] e = cc
+without-less x (y ∷ ys) e = by (bytes_eq y x) e (without-length x ys) (without-less x ys)
+  where
+    by : (b : Bool) → (b || is_left ys x) ≡ true → length (without x ys) ≤ length ys → (is_left ys x ≡ true → length (without x ys) < length ys) → length (if b then without x ys else y ∷ without x ys) < length (y ∷ ys)
+    by true e h rest = omega arith
+    by false e h rest = let r = rest e in omega arith
+
+pub without-left : (x z : List ℕ) (ys : List (List ℕ)) → bytes_eq x z ≡ false → is_left ys z ≡ true → is_left (without x ys) z ≡ true
+unfolding without is_left class_named grown kin
+without-left x z [] n e = cc
+without-left x z (y ∷ ys) n e = by (bytes_eq y x) (bytes_eq y z) refl refl e (without-left x z ys n)
+  where
+    by : (b a : Bool) → bytes_eq y x ≡ b → bytes_eq y z ≡ a → (a || is_left ys z) ≡ true → (is_left ys z ≡ true → is_left (without x ys) z ≡ true) → is_left (if b then without x ys else y ∷ without x ys) z ≡ true
+    by true true f g e rest = let p = bytes-true y x f in let q : bytes_eq x z ≡ true = ap (λ r. bytes_eq r z) (sym p) ∙ g in cc
+    by true false f g e rest = rest e
+    by false true f g e rest = ap (λ q. q || is_left (without x ys) z) g
+    by false false f g e rest = ap (λ q. q || is_left (without x ys) z) g ∙ rest e
+
+pub none_left : (left : List (List ℕ)) (x : List ℕ) → length left ≤ 0 → is_left left x ≡ true → ⊥
+unfolding is_left class_named grown kin
+none_left [] x le e = cc
+none_left (y ∷ left) x le e = absurd (omega arith)
+
+pub lists-front : (y : List ℕ) (a b : List (List ℕ)) → Lists y a → Lists y (a ++ b)
+unfolding class_named grown kin
+lists-front y [] b i = elim i [ ]
+lists-front y (x ∷ a) b foremost = foremost
+lists-front y (x ∷ a) b (after i) = after (lists-front y a b i)
+
+pub lists-behind : (y : List ℕ) (a b : List (List ℕ)) → Lists y b → Lists y (a ++ b)
+unfolding class_named grown kin
+lists-behind y [] b i = i
+lists-behind y (x ∷ a) b i = after (lists-behind y a b i)
+
+-- ---- every class settles within as many steps as there are classes
+module _ (w : List Class) (acyclic : IsAcyclic w) where
+  -- every class from x on upwards is left
+  AllLeft : List (List ℕ) → List ℕ → Type 0
+  AllLeft left x = (z : List ℕ) (c : Class) → (x ≡ z) ⊎ Above w x z → class_named w z ≡ Some c → is_left left z ≡ true
+
+  reach : (x y z : List ℕ) (c : Class) → class_named w x ≡ Some c → Lists y (c.supers ++ c.interfaces) → (y ≡ z) ⊎ Above w y z → Above w x z
+  unfolding class_named grown kin
+  reach x y z c e i way = ⊎_elim (λ is. directly c e (subst (λ q. Lists q (c.supers ++ c.interfaces)) is i)) (λ far. onwards c e i far) way
+
+  settles : (n : ℕ) (left : List (List ℕ)) (x : List ℕ) → length left ≤ n → AllLeft left x → Settles w (suc n) x
+  unfolding AllLeft class_named grown kin
+  settles zero left x le all = by (class_named w x) refl
+    where
+      by : (o : Option Class) → class_named w x ≡ o → Settles w (suc zero) x
+      by None e = nothing e
+      by (Some c) e = absurd (none_left left x le (all x c (inl refl) e))
+  settles (suc n) left x le all = by (class_named w x) refl (settles n (without x left))
+    where
+      by : (o : Option Class) → class_named w x ≡ o → ((y : List ℕ) → length (without x left) ≤ n → AllLeft (without x left) y → Settles w (suc n) y) → Settles w (suc (suc n)) x
+      by None e rest = nothing e
+      by (Some c) e rest =
+          let less = without-less x left (all x c (inl refl) e) in
+          something c e (λ y i. rest y (omega arith) (λ z d way f. without-left x z left (other z (reach x y z c e i way) (bytes_eq x z) refl) (all z d (inr (reach x y z c e i way)) f)))
+        where
+          other : (z : List ℕ) → Above w x z → (b : Bool) → bytes_eq x z ≡ b → bytes_eq x z ≡ false
+          other z far true g = absurd (acyclic x (subst (λ q. Above w x q) (sym (bytes-true x z g)) far))
+          other z far false g = g
+
+unfoldable pub names : List Class → List (List ℕ)
+names [] = []
+names (c ∷ cs) = c.name ∷ names cs
+
+pub names-length : (w : List Class) → length (names w) ≡ length w
+unfolding names class_named grown kin
+names-length [] = refl
+names-length (c ∷ w) = ap suc (names-length w)
+
+pub named-left : (w : List Class) (x : List ℕ) (c : Class) → class_named w x ≡ Some c → is_left (names w) x ≡ true
+unfolding names is_left class_named grown kin
+named-left [] x c e = cc
+named-left (d ∷ w) x c e = by (bytes_eq d.name x) e (named-left w x c)
+  where
+    by : (b : Bool) → (if b then Some d else class_named w x) ≡ Some c → (class_named w x ≡ Some c → is_left (names w) x ≡ true) → (b || is_left (names w) x) ≡ true
+    by true e rest = refl
+    by false e rest = rest e
+
+every_settles : (w : List Class) → IsAcyclic w → (x : List ℕ) → Settles w (suc (length w)) x
+unfolding AllLeft class_named grown kin
+every_settles w acyclic x = let n = names-length w in settles w acyclic (length w) (names w) x (omega arith) (λ z c way e. named-left w z c e)
+
+-- ---- the steps reach the whole tree where all settles
+
+grown-IsKin : (w : List Class) (n : ℕ) (xs : List (List ℕ)) → ((y : List ℕ) → Lists y xs → Settles w n y) → IsKin w xs (grown w n xs)
+unfolding class_named grown kin
+grown-IsKin w zero [] all = ends
+grown-IsKin w zero (x ∷ xs) all = elim (all x foremost) [ ]
+grown-IsKin w (suc n) xs all = row (grown-IsKin w n) xs all
+  where
+    node : ((ys : List (List ℕ)) → ((y : List ℕ) → Lists y ys → Settles w n y) → IsKin w ys (grown w n ys)) → (x : List ℕ) (xs : List (List ℕ)) (next : Kin) → IsKin w xs next → Settles w (suc n) x → IsKin w (x ∷ xs) (known_as (grown w n) x (class_named w x) next)
+    node rec x xs next k (nothing e) = subst (λ o. IsKin w (x ∷ xs) (known_as (grown w n) x o next)) (sym e) (unknown_here e k)
+    node rec x xs next k (something c e all) =
+        subst (λ o. IsKin w (x ∷ xs) (known_as (grown w n) x o next)) (sym e)
+        (known_here e (rec c.supers (λ y i. all y (lists-front y c.supers c.interfaces i))) (rec c.interfaces (λ y i. all y (lists-behind y c.supers c.interfaces i))) k)
+
+    row : ((ys : List (List ℕ)) → ((y : List ℕ) → Lists y ys → Settles w n y) → IsKin w ys (grown w n ys)) → (xs : List (List ℕ)) → ((y : List ℕ) → Lists y xs → Settles w (suc n) y) → IsKin w xs (in_a_row w (grown w n) xs)
+    row rec [] all = ends
+    row rec (x ∷ xs) all = node rec x xs (in_a_row w (grown w n) xs) (row rec xs (λ y i. all y (after i))) (all x foremost)
+
+-- ---- The laws of a world without cycles: the tree is there, and there is one.
+pub kin-IsKin : (w : List Class) → IsAcyclic w → (xs : List (List ℕ)) → IsKin w xs (kin w xs)
+unfolding class_named grown kin
+kin-IsKin w acyclic xs = grown-IsKin w (suc (length w)) xs (λ y i. every_settles w acyclic y)
+
+pub IsKin-one : (w : List Class) (xs : List (List ℕ)) (j k : Kin) → IsKin w xs j → IsKin w xs k → j ≡ k
+unfolding class_named grown kin
+IsKin-one w xs j k ends ends = refl
+IsKin-one w (x ∷ xs) j k (unknown_here {next = p} e a) (unknown_here {next = q} f b) = ap (λ r. Unknown x r) (IsKin-one w xs p q a b)
+IsKin-one w xs j k (unknown_here e a) (known_here f s i b) = cc
+IsKin-one w xs j k (known_here e s i a) (unknown_here f b) = cc
+IsKin-one w (x ∷ xs) j k (known_here {c = c} {supers = p} {interfaces = q} {next = r} e s i a) (known_here {c = d} {supers = p'} {interfaces = q'} {next = r'} f s' i' b) =
+    let is : c ≡ d = cc in
+    let ps = IsKin-one w c.supers p p' s (subst (λ (k : Class). IsKin w k.supers p') (sym is) s') in
+    let qs = IsKin-one w c.interfaces q q' i (subst (λ (k : Class). IsKin w k.interfaces q') (sym is) i') in
+    let rs = IsKin-one w xs r r' a b in
+    cc
+
+pub kin-known : (w : List Class) → IsAcyclic w → (x : List ℕ) (c : Class) → class_named w x ≡ Some c → kin w (x ∷ []) ≡ Known c (kin w c.supers) (kin w c.interfaces) End
+unfolding class_named grown kin
+kin-known w acyclic x c e = IsKin-one w (x ∷ []) (kin w (x ∷ [])) (Known c (kin w c.supers) (kin w c.interfaces) End) (kin-IsKin w acyclic (x ∷ [])) (known_here e (kin-IsKin w acyclic c.supers) (kin-IsKin w acyclic c.interfaces) ends)
