@@ -1,12 +1,12 @@
 -- One class stands above another exactly where its name stands in the tree, in any world.
 use Rattle.std.proofs.Common.{◌≡◌, ℕ, zero, suc, ◌≤◌, refl, sym, ap, subst, ◌∙◌, arith, Bool, true, false, List, [], ◌∷◌, ◌++◌, length, inl, inr, ⊎_elim}
-use Rattle.std.specs.Prelude.{◌&&◌, not, ◌||◌, ◌⊎◌, Option, Some, None, if◌then◌else◌}
+use Rattle.std.specs.Prelude.{◌||◌, ◌⊎◌, Option, Some, None, if◌then◌else◌}
 use Rattle.std.specs.Str.{bytes_eq}
 use Rattle.cjc_world.specs.Classes.{Class, class_named}
 use Rattle.cjc_world.specs.Kin.{Kin, known_as, in_a_row, grown, kin, Lists, foremost, after, Above, directly, onwards, stands, above_of, stands_above, StandsWhereAbove}
 use Rattle.cjc_world.proofs.Settled.{bytes-true, bytes-refl, is_left, without, without-less, without-left, none_left, lists-front, lists-behind, names, names-length, named-left}
 
-class_named-name : (w : List Class) (x : List ℕ) (c : Class) → class_named w x ≡ Some c → c.name ≡ x
+pub class_named-name : (w : List Class) (x : List ℕ) (c : Class) → class_named w x ≡ Some c → c.name ≡ x
 unfolding class_named grown kin stands_above
 class_named-name [] x c e = cc
 class_named-name (d ∷ w) x c e = by (bytes_eq d.name x) refl e (class_named-name w x c)
@@ -33,10 +33,10 @@ or_split false b e = inr e
 module _ (w : List Class) where
   -- ---- what stands in the tree stands above
 
-  From : List ℕ → List (List ℕ) → Type 0
+  unfoldable pub From : List ℕ → List (List ℕ) → Type 0
   From y xs = (z : List ℕ) × Lists z xs × ((z ≡ y) ⊎ Above w z y)
 
-  tree-above : (n : ℕ) (y : List ℕ) (xs : List (List ℕ)) → stands y (grown w n xs) ≡ true → From y xs
+  pub tree-above : (n : ℕ) (y : List ℕ) (xs : List (List ℕ)) → stands y (grown w n xs) ≡ true → From y xs
   unfolding From class_named grown kin stands_above
   tree-above zero y xs e = cc
   tree-above (suc n) y xs e = row xs e (tree-above n y)
@@ -72,11 +72,11 @@ module _ (w : List Class) where
 
   -- ---- what stands above stands in the tree: a way that comes back to a class can be cut short
 
-  data Through (left : List (List ℕ)) : List ℕ → List ℕ → Type 0 where
+  pub data Through (left : List (List ℕ)) : List ℕ → List ℕ → Type 0 where
     step : {x y : List ℕ} (c : Class) → class_named w x ≡ Some c → is_left left x ≡ true → Lists y (c.supers ++ c.interfaces) → Through left x y
     steps : {x y z : List ℕ} (c : Class) → class_named w x ≡ Some c → is_left left x ≡ true → Lists z (c.supers ++ c.interfaces) → Through left z y → Through left x y
 
-  above-through : {x y : List ℕ} → Above w x y → Through (names w) x y
+  pub above-through : {x y : List ℕ} → Above w x y → Through (names w) x y
   unfolding class_named grown kin stands_above
   above-through {x} {y} (directly c e i) = step c e (named-left w x c e) i
   above-through {x} {y} (onwards c e i rest) = steps c e (named-left w x c e) i (above-through rest)
@@ -124,7 +124,7 @@ module _ (w : List Class) where
       by None h = or_right (bytes_eq x y) (stands y (in_a_row w (grown w n) xs)) h
       by (Some c) h = or_right (bytes_eq c.name y || stands y (grown w n c.supers) || stands y (grown w n c.interfaces)) (stands y (in_a_row w (grown w n) xs)) h
 
-  stands-itself : (n : ℕ) (y : List ℕ) (next : Kin) → stands y (known_as (grown w n) y (class_named w y) next) ≡ true
+  pub stands-itself : (n : ℕ) (y : List ℕ) (next : Kin) → stands y (known_as (grown w n) y (class_named w y) next) ≡ true
   unfolding class_named grown kin stands_above
   stands-itself n y next = by (class_named w y) refl
     where
@@ -135,7 +135,7 @@ module _ (w : List Class) where
           or_left (bytes_eq c.name y || stands y (grown w n c.supers) || stands y (grown w n c.interfaces)) (stands y next)
           (or_left (bytes_eq c.name y || stands y (grown w n c.supers)) (stands y (grown w n c.interfaces)) (or_left (bytes_eq c.name y) (stands y (grown w n c.supers)) same_name))
 
-  stands-append : (n : ℕ) (y : List ℕ) (a b : List (List ℕ)) → stands y (grown w n (a ++ b)) ≡ true → (stands y (grown w n a) ≡ true) ⊎ (stands y (grown w n b) ≡ true)
+  pub stands-append : (n : ℕ) (y : List ℕ) (a b : List (List ℕ)) → stands y (grown w n (a ++ b)) ≡ true → (stands y (grown w n a) ≡ true) ⊎ (stands y (grown w n b) ≡ true)
   unfolding class_named grown kin stands_above
   stands-append zero y a b e = cc
   stands-append (suc n) y [] b e = inr e
@@ -156,7 +156,7 @@ module _ (w : List Class) where
           (λ h. ⊎_elim (λ g. inl (or_right front (stands y (in_a_row w (grown w n) a)) g)) (λ g. inr g) (rest h))
           (or_split front (stands y (in_a_row w (grown w n) (a ++ b))) e)
 
-  through-tree : (n : ℕ) (left : List (List ℕ)) (x y : List ℕ) (c : Class) → length left ≤ n → class_named w x ≡ Some c → Through left x y → stands y (grown w n (c.supers ++ c.interfaces)) ≡ true
+  pub through-tree : (n : ℕ) (left : List (List ℕ)) (x y : List ℕ) (c : Class) → length left ≤ n → class_named w x ≡ Some c → Through left x y → stands y (grown w n (c.supers ++ c.interfaces)) ≡ true
   unfolding Leaves class_named grown kin stands_above
   through-tree zero left x y c le e way = absurd (none_left left x le (through-class left x y way).2)
   through-tree (suc n) left x y c le e way = by (avoid left x x y way) (through-tree n (without x left))
@@ -181,7 +181,7 @@ module _ (w : List Class) where
           (stands-append n y d.0.supers d.0.interfaces h)))
           r.3.2)
 
-  above-class : (x y : List ℕ) → Above w x y → (c : Class) × (class_named w x ≡ Some c)
+  pub above-class : (x y : List ℕ) → Above w x y → (c : Class) × (class_named w x ≡ Some c)
   unfolding class_named grown kin stands_above
   above-class x y (directly c e i) = (c, e)
   above-class x y (onwards c e i rest) = (c, e)

@@ -1,6 +1,6 @@
 -- The first of lists that are put together, and of what is broken.
 use Rattle.std.proofs.Common.{◌≡◌, ℕ, suc, ◌<◌, ◌≤◌, ◌+◌, refl, sym, ap, ◌∙◌, arith, List, [], ◌∷◌, ◌++◌, length, get_or, drop, add-one}
-use Rattle.std.specs.Prelude.{map, Bool, true, false, Option, Some, None, option_map, slice_get, if◌then◌else◌}
+use Rattle.std.specs.Prelude.{map, Bool, true, false, Some, None, option_map, slice_get, if◌then◌else◌}
 use Rattle.cjc_bytes.specs.declared.settings.FileLine.{FileLine}
 use Rattle.cjc_export.specs.declared.tree.ExportClass.{ExportClass}
 use Rattle.cjc_world.specs.Files.{Files}

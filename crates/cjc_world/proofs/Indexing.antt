@@ -1,6 +1,6 @@
 -- Spots that are put one after the other are those of all classes.
-use Rattle.std.proofs.Common.{◌≡◌, ℕ, zero, suc, ◌<◌, ◌≤◌, ◌+◌, ◌-◌, ◌^◌, refl, sym, ap, subst, ◌∙◌, arith, Bool, true, false, List, [], ◌∷◌, ◌++◌, length, get_or, drop, add-one, append_assoc, length-append}
-use Rattle.std.specs.Prelude.{All, map, slice_get, Option, Some, None, option_to_list, option_map, option_and_then, if◌then◌else◌}
+use Rattle.std.proofs.Common.{◌≡◌, ℕ, zero, suc, ◌<◌, ◌≤◌, ◌+◌, ◌-◌, ◌^◌, refl, sym, ap, subst, ◌∙◌, arith, true, false, List, [], ◌∷◌, ◌++◌, length, get_or, drop, add-one, append_assoc, length-append}
+use Rattle.std.specs.Prelude.{All, slice_get, Option, Some, None, option_to_list, option_map, option_and_then, if◌then◌else◌}
 use Rattle.std.proofs.Math.Seq.{drop-cons}
 use Rattle.std.proofs.lemmas.List.{append-nil, length-map}
 use Rattle.std.proofs.lemmas.List.Elements.{All-append}

@@ -8,3 +8,4 @@ pub mod Fronts
 pub mod Languages
 pub mod Heads
 pub mod Indexing
+pub mod Upwards

@@ -47,7 +47,7 @@ unfolding first
 first-append own [] ds = refl
 first-append own (c ∷ cs) ds = ap (or_else (own c)) (first-append own cs ds) ∙ sym (or_else-assoc (own c) (first own cs) (first own ds))
 
-known-append : (is js : List Interface) → known (is ++ js) ≡ known is ++ known js
+pub known-append : (is js : List Interface) → known (is ++ js) ≡ known is ++ known js
 unfolding known
 known-append [] js = refl
 known-append (i ∷ is) js = by i.class (known-append is js)

@@ -11,3 +11,4 @@ pub mod Spots
 pub mod Order
 pub mod Rules
 pub mod Broken
+pub mod Laws

@@ -5,9 +5,11 @@
 mod broken;
 mod class;
 mod found;
+mod laws;
 mod rules;
 mod spot;
 mod world;
 
 pub use found::Found;
+pub use laws::{lookup_laws, subtype_laws};
 pub use world::World;

@@ -1,0 +1,18 @@
+use Rattle.cjc_world.proofs.Settled.{kin-IsKin, IsKin-one}
+use Rattle.cjc_world.proofs.Upwards.{line_goes_up, selection_goes_up, lookup_goes_up}
+use Rattle.cjc_world.proofs.laws.lookup_laws.Goals as goal
+
+pub returns-clause-is_kin : goal.returns-clause-is_kin
+returns-clause-is_kin c = kin-IsKin
+
+pub returns-clause-one_kin : goal.returns-clause-one_kin
+returns-clause-one_kin c = IsKin-one
+
+pub returns-clause-line : goal.returns-clause-line
+returns-clause-line c = line_goes_up
+
+pub returns-clause-selection : goal.returns-clause-selection
+returns-clause-selection c = selection_goes_up
+
+pub returns-clause-lookup : goal.returns-clause-lookup
+returns-clause-lookup c = lookup_goes_up

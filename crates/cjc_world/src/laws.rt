@@ -1,0 +1,24 @@
+//! What holds of look-up, selection and subtypes, for every caller. Nothing here runs.
+
+ghost use Rattle.std.specs.Prelude.{◌≡◌, ℕ, List};
+ghost use Rattle.cjc_world.specs.Classes.{Class};
+ghost use Rattle.cjc_world.specs.Kin.{IsAcyclic, IsKin, Kin, StandsWhereAbove, kin};
+ghost use Rattle.cjc_world.specs.Laws.{IsReflexive, IsTransitive, LineGoesUp, LookupGoesUp, SelectionGoesUp};
+
+/// In every world, one with cycles too: one class stands above another exactly where its name stands in the tree,
+/// and subtypes are reflexive and transitive.
+pub fn subtype_laws()
+    ensures stands { (w : List Class) → StandsWhereAbove w }
+    ensures reflexive { (w : List Class) → IsReflexive w }
+    ensures transitive { (w : List Class) → IsTransitive w }
+{}
+
+/// Without cycles there is one tree of what stands above some names, and `kin` is it. Look-up and selection from
+/// a class go through its superclass.
+pub fn lookup_laws()
+    ensures is_kin { (w : List Class) → IsAcyclic w → (xs : List (List ℕ)) → IsKin w xs (kin w xs) }
+    ensures one_kin { (w : List Class) (xs : List (List ℕ)) (j k : Kin) → IsKin w xs j → IsKin w xs k → j ≡ k }
+    ensures line { (w : List Class) → IsAcyclic w → LineGoesUp w }
+    ensures selection { (w : List Class) → IsAcyclic w → SelectionGoesUp w }
+    ensures lookup { (w : List Class) → IsAcyclic w → LookupGoesUp w }
+{}
