@@ -9,3 +9,4 @@ pub mod Languages
 pub mod Heads
 pub mod Indexing
 pub mod Upwards
+pub mod Sorted

@@ -264,4 +264,4 @@ pub record IsFirst (b : Break) (bs : List Break) : Type 0 where
 
 -- The error is the refusal of the first break, or that memory ran out.
 abbrev pub IsFirstRefusal : List Break → Fault → Type 0
-IsFirstRefusal bs e = (e ≡ faults.NoMemory) ⊎ ((b : Break) × (head bs ≡ Some b) × (e ≡ faults.Refused b.refusal))
+IsFirstRefusal bs e = (e ≡ faults.NoMemory) ⊎ ((b : Break) × IsFirst b bs × (e ≡ faults.Refused b.refusal))
