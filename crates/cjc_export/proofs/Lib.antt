@@ -5,3 +5,6 @@ pub mod Putting
 pub mod Numbering
 pub mod Fitting
 pub mod Spelling
+pub mod Worth
+pub mod Inverse
+pub mod Spelt

@@ -1,5 +1,5 @@
 -- Which trees some export file spells, said of the tree alone.
-use Rattle.std.specs.Prelude.{◌≡◌, ◌<◌, ◌^◌, ℕ, ℤ, Bool, true, false, ◌&&◌, List, [], ◌∷◌, ◌++◌, length, Option, Some, None, is_none, FitsSigned}
+use Rattle.std.specs.Prelude.{◌≡◌, ◌<◌, ◌^◌, ℕ, ℤ, Bool, true, false, ◌&&◌, List, [], ◌∷◌, ◌++◌, length, All, Option, Some, None, is_none, FitsSigned}
 use Rattle.std.specs.List.{AllByRecursion}
 use Rattle.std.specs.Int.{w32}
 use Rattle.cjc_export.specs.declared.tree.ExportField.{ExportField}
@@ -76,6 +76,10 @@ pub record ClassFits (before : List ExportClass) (c : ExportClass) : Type 0 wher
   pub fields : EachAfter FieldFits [] c.fields
   pub count : method_count (is_interface c.flags) (length c.methods) ≡ Some (length c.methods)
   pub methods : EachAfter (MethodStands (is_interface c.flags) (length c.methods)) [] c.methods
+
+-- Each number is one of a file's bytes.
+abbrev pub AreBytes : List ℕ → Type 0
+AreBytes bytes = All (λ b. b < 2 ^ 8) bytes
 
 -- Some file spells the tree: its numbers and texts fit their fields, its tokens and names are apart, and its
 -- constants have indices.

@@ -1,6 +1,6 @@
 //! Whole export files.
 
-ghost use Rattle.std.specs.Prelude.{◌≡◌, ◌<◌, ◌^◌, ◌⊎◌, ℕ, List, [], length, IfOk, IfErr};
+ghost use Rattle.std.specs.Prelude.{◌≡◌, ◌<◌, ◌≤◌, ◌^◌, ◌⊎◌, ℕ, List, [], length, IfOk, IfErr};
 ghost use Rattle.std.specs.Option.{option_copied};
 ghost use Rattle.cjc_bytes.specs.Format.{repeated, iterated, FileSpells, FileBreaks};
 ghost use Rattle.cjc_bytes.specs.Found.{Finds};
@@ -10,6 +10,8 @@ ghost use Rattle.cjc_bytes.specs.declared.fault.Fault.TheVariants as faults;
 ghost use Rattle.cjc_export.specs.declared.tree.ExportTree.{ExportTree as Tree};
 ghost use Rattle.cjc_export.specs.Members.{grown, class_field};
 ghost use Rattle.cjc_export.specs.Package.{package_field};
+ghost use Rattle.cjc_export.specs.Writable.{AreBytes, IsWritable};
+ghost use Rattle.cjc_export.specs.Written.{written};
 ghost use Rattle.cjc_export.specs.ExportFile.{token_taken, class_token, name_taken, new_name_at, class_tree, front_part, export_file};
 
 use crate::flags::is_interface;
@@ -224,6 +226,10 @@ pub fn read(alloc: Global, file: &[u8], bytes: &[u8]) -> Result<ExportTree, Faul
     ensures found { IfOk result (λ t. FileSpells export_file t bytes.now) }
     ensures only { (t : Tree) → FileSpells export_file t bytes.now → IsUnlessNoMemory result (Ok t) }
 
+    // What is read can be written again, in no more bytes.
+    ensures writable { IfOk result IsWritable }
+    ensures no_longer { IfOk result (λ t. length (written t) ≤ length bytes.now) }
+
     // A refusal is where they break, and where they break is refused.
     ensures refused { IfErr result (IsBreak export_file bytes.now (refusal file.now 104)) }
     ensures breaks { (k : ℕ) → FileBreaks export_file bytes.now k → IsUnlessNoMemory result (Err (faults.Refused (refusal file.now 104 k))) }
@@ -235,10 +241,14 @@ pub fn read(alloc: Global, file: &[u8], bytes: &[u8]) -> Result<ExportTree, Faul
     }
 }
 
-/// The bytes of a file spell one tree at most, or break at one place, and not both.
+/// The bytes of a file spell one tree at most, or break at one place, and not both. The trees that bytes spell are
+/// those that can be written, and no bytes that spell a tree are fewer than the written ones.
 pub fn readings()
     ensures tree { (s t : Tree) (bytes : List ℕ) → FileSpells export_file s bytes → FileSpells export_file t bytes → s ≡ t }
     ensures place { (j k : ℕ) (bytes : List ℕ) → FileBreaks export_file bytes j → FileBreaks export_file bytes k → j ≡ k }
     ensures both { (t : Tree) (k : ℕ) (bytes : List ℕ) → FileSpells export_file t bytes → FileBreaks export_file bytes k → ⊥ }
     ensures either { (bytes : List ℕ) → ((t : Tree) × FileSpells export_file t bytes) ⊎ ((k : ℕ) × FileBreaks export_file bytes k) }
+    ensures writable { (t : Tree) (bytes : List ℕ) → AreBytes bytes → FileSpells export_file t bytes → IsWritable t }
+    ensures written { (t : Tree) → IsWritable t → FileSpells export_file t (written t) }
+    ensures shortest { (t : Tree) (bytes : List ℕ) → AreBytes bytes → FileSpells export_file t bytes → length (written t) ≤ length bytes }
 {}

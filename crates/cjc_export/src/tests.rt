@@ -1,5 +1,5 @@
 use super::*;
-use cjc_bytes::{Fault, Rule};
+use cjc_bytes::{Bytes, Fault, Rule};
 use std::test::*;
 
 /// A package p with a public class p/T and its static method f(S)S.
@@ -149,6 +149,16 @@ const CHANGES: [(usize, u8, u32); 27] = [
     (264, 0, 271), // two virtual methods with one token
     (153, 1, 182), // one class, and bytes behind it
 ];
+
+/// The bytes, read and written again.
+fn again(rt: &HostRuntime, bytes: &[u8]) -> Option<Bytes> {
+    if bytes.len() > 1000 {
+        return None;
+    }
+    let tree = read(rt.alloc(), b"some.exp", bytes).ok()?;
+    write(rt.alloc(), &tree).ok()
+}
+
 /// The offset of the refusal by rule 104, or nothing.
 fn refusal(rt: &HostRuntime, bytes: &[u8]) -> Option<u32> {
     if bytes.len() > 1000 {
@@ -200,6 +210,25 @@ fn fields_and_interfaces(rt: HostRuntime) -> Result<(), Fail> {
             assert_eq!(rt; field.constant, if is_k { Some(-2) } else { None });
         }
     }
+    Ok(())
+}
+
+#[test]
+fn written_again(rt: HostRuntime) -> Result<(), Fail> {
+    let row = again(&rt, &ROW).ok_or("the row")?;
+    assert_eq!(rt; row.items(), ROW.as_slice());
+    let lang = again(&rt, &LANG).ok_or("java/lang")?;
+    assert_eq!(rt; lang.items(), LANG.as_slice());
+    let quick = again(&rt, &QUICK).ok_or("q")?;
+    assert_eq!(rt; quick.items(), QUICK.as_slice());
+    let framework = again(&rt, &FRAMEWORK).ok_or("javacard/framework")?;
+    assert_eq!(rt; framework.items(), FRAMEWORK.as_slice());
+
+    // Version 2.1, flags and attributes that are not kept.
+    let rich = again(&rt, &RICH).ok_or("r")?;
+    assert!(rt; rich.items().len() < RICH.len());
+    let rich_again = again(&rt, rich.items()).ok_or("r again")?;
+    assert_eq!(rt; rich_again.items(), rich.items());
     Ok(())
 }
 
