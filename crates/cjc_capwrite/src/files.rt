@@ -230,7 +230,7 @@ fn is_too_large(infos: &Infos) -> bool
         || is_long(&infos.descriptor)
 }
 
-fn broken_limit(infos: &Infos) -> Option<u16>
+pub(crate) fn broken_limit(infos: &Infos) -> Option<u16>
     ensures { result ≡ broken_limit infos.now }
 {
     if infos.types.items().len() > 32767 {
