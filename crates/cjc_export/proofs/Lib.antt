@@ -7,4 +7,5 @@ pub mod Fitting
 pub mod Spelling
 pub mod Worth
 pub mod Inverse
+pub mod Entries
 pub mod Spelt
