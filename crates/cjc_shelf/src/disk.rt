@@ -1,6 +1,6 @@
 //! The files of the system. Only counts are known of them; what they hold, a test shows.
 
-ghost use Rattle.std.specs.Prelude.{◌≡◌, ◌≤◌, ◌+◌, [], length, IsErrOf};
+ghost use Rattle.std.specs.Prelude.{◌≡◌, ◌≤◌, ◌+◌, [], None, length, IsErrOf};
 
 use crate::{LONGEST, ReadEnd, Shelf, WriteEnd};
 use cjc_bytes::{Bytes, Row};
@@ -70,8 +70,12 @@ fn open<R: Files>(rt: &R, name: &[u8]) -> Result<R::File, ReadEnd>
 }
 
 impl<'a, R: Files> DiskShelf<'a, R> {
+    ghost use Rattle.cjc_shelf.specs.Disk.{disk_shelved};
+
     /// The files that the system has, with nothing counted.
-    pub fn new(rt: &'a R) -> DiskShelf<'a, R> {
+    pub fn new(rt: &'a R) -> DiskShelf<'a, R>
+        ensures { disk_shelved result ≡ record { files = None; last = []; misses = 0; faults = 0; wants = 0; taken = 0 } }
+    {
         DiskShelf {
             rt,
             misses: 0,

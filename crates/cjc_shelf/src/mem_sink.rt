@@ -25,7 +25,7 @@ pub struct MemSink {
 }
 
 impl MemSink {
-    ghost use Rattle.cjc_shelf.specs.MemSink.{sink_sunk, room_of, IsNewSink};
+    ghost use Rattle.cjc_shelf.specs.MemSink.{sink_sunk, room_of, failing_puts, next_put, IsNewSink};
 
     /// A sink with nothing in it and no room. Takes no memory.
     pub fn new(alloc: Global, failing: Row<u32>) -> MemSink
@@ -51,6 +51,8 @@ impl MemSink {
     pub fn reserve(&mut self) -> Result<(), NoMemory>
         ensures same { sink_sunk self.new ≡ sink_sunk self.old }
         ensures room { OnOk result (room_of self.new ≡ (if room_of self.old == 0 then ROOM else room_of self.old)) }
+        ensures next { next_put self.new ≡ next_put self.old }
+        ensures failing { failing_puts self.new ≡ failing_puts self.old }
     {
         if self.room == 0 {
             let Ok(()) = self.held.reserve(ROOM) else {

@@ -118,7 +118,7 @@ pub(crate) fn is_listed(failing: &[u32], call: u64) -> bool
 }
 
 impl MemShelf {
-    ghost use Rattle.cjc_shelf.specs.Memory.{mem_shelved, with_file, files_of, IsNewShelf, IsListed, CallInMemory};
+    ghost use Rattle.cjc_shelf.specs.Memory.{mem_shelved, with_file, files_of, failing_calls, next_call, IsNewShelf, IsListed, CallInMemory};
 
     /// No files; the calls of the list are to fail. Takes no memory.
     pub fn new(alloc: Global, failing: Row<u32>) -> MemShelf
@@ -136,6 +136,8 @@ impl MemShelf {
     pub fn add(&mut self, name: &[u8], bytes: &[u8]) -> Result<(), NoMemory>
         ensures ok { OnOk result (mem_shelved self.new ≡ with_file name.now bytes.now (mem_shelved self.old)) }
         ensures err { OnErr result (mem_shelved self.new ≡ mem_shelved self.old) }
+        ensures next { next_call self.new ≡ next_call self.old }
+        ensures failing { failing_calls self.new ≡ failing_calls self.old }
     {
         self.store.add(name, bytes)
     }

@@ -1,5 +1,7 @@
 //! A stream of the system as a sink.
 
+ghost use Rattle.std.specs.Prelude.{◌≡◌, None};
+
 use crate::disk::put_all;
 use crate::{Sink, SinkFailed};
 use std::io::Write;
@@ -12,8 +14,12 @@ pub struct StdSink<W: Write + Drop> {
 }
 
 impl<W: Write + Drop> StdSink<W> {
+    ghost use Rattle.cjc_shelf.specs.Disk.{stream_sunk};
+
     /// The stream, with no fault so far.
-    pub fn new(stream: W) -> StdSink<W> {
+    pub fn new(stream: W) -> StdSink<W>
+        ensures { stream_sunk result ≡ record { written = None; faults = 0 } }
+    {
         StdSink { stream, faults: 0 }
     }
 }

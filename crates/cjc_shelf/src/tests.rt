@@ -1,6 +1,6 @@
 //! What no contract tells: what the system's files hold, and what a stream of the system gets.
 
-use crate::{DiskShelf, LONGEST, ReadEnd, Shelf, Sink, SinkFailed, StdSink, WriteEnd};
+use crate::{CleanShelf, DiskShelf, LONGEST, ReadEnd, Shelf, Sink, SinkFailed, StdSink, WriteEnd};
 use std::io::{self, ErrorKind, Write};
 use std::test::Fail;
 use std::{env, fs, process};
@@ -60,6 +60,19 @@ fn a_stream_gets_all_in_order_or_a_prefix(rt: HostRuntime) -> Result<(), Fail> {
         assert_eq!(rt; stream.taken.as_slice(), want, "{step} {room}");
         assert_eq!(rt; ended.is_ok(), want.len() == 17, "{step} {room}");
     }
+    Ok(())
+}
+
+#[test]
+fn files_in_memory_are_written_and_read(rt: HostRuntime) -> Result<(), Fail> {
+    let alloc = rt.alloc();
+    let mut shelf = CleanShelf::new(alloc);
+    shelf.add(b"first", b"\0\xff")?;
+    shelf.write(b"second", b"short")?;
+    shelf.write(b"second", b"other")?;
+    assert!(rt; shelf.read(alloc, b"first")?.items() == b"\0\xff".as_slice());
+    assert!(rt; shelf.read(alloc, b"second")?.items() == b"other".as_slice());
+    assert!(rt; matches!(shelf.read(alloc, b"third"), Err(ReadEnd::Absent)));
     Ok(())
 }
 
