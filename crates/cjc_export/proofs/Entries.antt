@@ -15,7 +15,7 @@ use Rattle.cjc_export.specs.Pool.{counted, index, aid_length, content, entry, te
 use Rattle.cjc_export.specs.Constant.{Constant, text, integer, class, this}
 use Rattle.cjc_export.specs.Writable.{IsText}
 use Rattle.cjc_export.proofs.Worth.{total, total-append}
-use Rattle.cjc_export.proofs.Inverse.{InBytes, with_inner, number8, u1_is, u2_is, u4_is, raw_is, here_is, given}
+use Rattle.cjc_bytes.proofs.Inverse.{InBytes, with_inner, number8, u1_is, u2_is, u4_is, raw_is, here_is, given}
 
 -- ---- the pool
 

@@ -6,6 +6,5 @@ pub mod Numbering
 pub mod Fitting
 pub mod Spelling
 pub mod Worth
-pub mod Inverse
 pub mod Entries
 pub mod Spelt

@@ -7,6 +7,7 @@ use Rattle.std.specs.Int.{w8, w16, w32, to_be_bytes, from_be_bytes, cast_signed,
 use Rattle.std.proofs.lemmas.Nat.{from_be_bytes-to_be_bytes_2, from_be_bytes-to_be_bytes_4}
 use Rattle.std.proofs.lemmas.Int.{to_z-of_z}
 use Rattle.std.proofs.lemmas.List.{append-nil}
+use Rattle.cjc_bytes.proofs.Inverse.{all_at}
 use Rattle.cjc_bytes.specs.Format.{Format, number, looked_up, gives, ◌>>=◌, Spells, FileSpells, repeated, iterated, u1, u2, u4, raw}
 use Rattle.cjc_bytes.specs.Found.{kept, all_of, ◌>>=◌ as ◌>>>◌}
 use Rattle.cjc_export.specs.declared.pool.Index.{Index}
@@ -158,11 +159,6 @@ static_first false b wrong e = refl
 flag_back : (b : Bool) → is_library (library_flag b) ≡ b
 flag_back true = refl
 flag_back false = refl
-
-all_at : {A : Type 0} (P : A → Type 0) (xs : List A) (i : ℕ) (x : A) → AllByRecursion P xs → slice_get xs i ≡ Some x → P x
-all_at P [] i x h e = absurd cc
-all_at P (y ∷ ys) zero x h e = let same_item : y ≡ x = cc in subst P same_item h.0
-all_at P (y ∷ ys) (suc i) x h e = all_at P ys i x h.1 e
 
 abbrev passed : Result Unit ℕ
 passed = Ok tt

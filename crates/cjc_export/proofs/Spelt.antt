@@ -32,15 +32,10 @@ use Rattle.cjc_export.specs.Written.{value_name, class_needs, value_needs, field
 use Rattle.cjc_export.specs.Writable.{IsText, ValueFits, FieldFits, MethodStands, ClassFits, AreBytes, IsWritable, EachAfter}
 use Rattle.cjc_export.proofs.Numbering.{Has, all_append}
 use Rattle.cjc_export.proofs.Worth.{total, or_right, worth_at_most}
-use Rattle.cjc_export.proofs.Inverse.{InBytes, with_inner, number8, number16, number32, u1_is, u2_is, found_is, here_is, given, mapped}
+use Rattle.cjc_bytes.proofs.Inverse.{all_at, InBytes, with_inner, number8, number16, number32, u1_is, u2_is, found_is, here_is, given, mapped}
 use Rattle.cjc_export.proofs.Entries.{entry_sizes, EntryFits, cond_same, cond_other, chosen, entries_read, named, meant, size_of, one_each, meant_sizes, meant_ones}
 
 -- ---- what is found in the pool
-
-all_at : {A : Type 0} (P : A → Type 0) (xs : List A) (i : ℕ) (x : A) → AllByRecursion P xs → slice_get xs i ≡ Some x → P x
-all_at P [] i x h e = absurd cc
-all_at P (y ∷ ys) zero x h e = let same_item : y ≡ x = cc in subst P same_item h.0
-all_at P (y ∷ ys) (suc i) x h e = all_at P ys i x h.1 e
 
 own : (c : Constant) (cs : List Constant) → Has (c ∷ cs) c
 own c cs = let itself : same c c ≡ true = (same-Decides c c).1 refl in rw itself refl

@@ -5,7 +5,7 @@ use Rattle.cjc_bytes.specs.declared.settings.FileLine.{FileLine}
 use Rattle.cjc_classfile.specs.declared.tree.ClassTree.{ClassTree}
 use Rattle.cjc_export.specs.declared.tree.ExportTree.{ExportTree}
 use Rattle.cjc_world.specs.Files.{Files}
-use Rattle.cjc_world.specs.Order.{numbers, AreUpTo}
+use Rattle.cjc_bytes.specs.Order.{numbers, AreUpTo}
 use Rattle.cjc_world.specs.Classes.{Member, Class, declared, numbered, size, all_classes}
 use Rattle.cjc_world.specs.Rules.{Break, when, head, at_class, at_member, told, members, members_before, class_rules, member_rules, members_from, class_breaks, classes_breaks, class_file_breaks, export_file_breaks, breaks_from, breaks, Among, foremost, after, IsFirst, is_of_package, is_second, lists_missing, is_own_super, lists_wrong, is_twice, is_desc_missing, is_second_package, has_language}
 

@@ -8,7 +8,6 @@ pub mod Access
 pub mod Added
 pub mod Known
 pub mod Spots
-pub mod Order
 pub mod Rules
 pub mod Broken
 pub mod Laws

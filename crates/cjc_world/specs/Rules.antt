@@ -14,7 +14,7 @@ use Rattle.cjc_world.specs.Files.{Files}
 use Rattle.cjc_world.specs.Classes.{Member, Class, declared, numbered, size, is_interface, all_classes, class_named}
 use Rattle.cjc_world.specs.Kin.{stands_above, line}
 use Rattle.cjc_world.specs.Lookup.{is_called, object}
-use Rattle.cjc_world.specs.Order.{Rank, NotAfter}
+use Rattle.cjc_bytes.specs.Order.{Rank, NotAfter}
 
 -- ---- 201: the name of a class of the package is not the package's name, a slash and one name part
 

@@ -1,13 +1,27 @@
 -- What bytes that spell a value by a format say of it and of their number.
-use Rattle.std.proofs.Common.{◌≡◌, ℕ, ◌+◌, ◌<◌, ◌^◌, List, [], ◌∷◌, ◌++◌, Option, Some, None, Result, Ok, option_map, length, refl, sym, ap, subst, ◌∙◌, arith, length-append}
-use Rattle.std.specs.List.{AllByRecursion}
+use Rattle.std.proofs.Common.{◌≡◌, ℕ, zero, suc, ◌+◌, ◌<◌, ◌^◌, List, [], ◌∷◌, ◌++◌, Option, Some, None, Result, Ok, option_map, length, refl, sym, ap, subst, ◌∙◌, arith, length-append}
+use Rattle.std.specs.List.{AllByRecursion, slice_get}
 use Rattle.std.specs.Int.{w8, w16, w32, from_be_bytes}
 use Rattle.cjc_bytes.specs.Format.{Format, number, here, looked_up, gives, followed_by, Spells, u1, u2, u4, raw}
-use Rattle.cjc_export.proofs.Numbering.{all_front, all_back}
 
 -- each is a byte
 abbrev pub InBytes : List ℕ → Type 0
 InBytes bytes = AllByRecursion (λ b. b < 256) bytes
+
+-- what holds of all items holds of those in front, and of those behind
+all_front : {A : Type 0} (P : A → Type 0) (xs ys : List A) → AllByRecursion P (xs ++ ys) → AllByRecursion P xs
+all_front P [] ys h = tt
+all_front P (x ∷ xs) ys h = (h.0, all_front P xs ys h.1)
+
+all_back : {A : Type 0} (P : A → Type 0) (xs ys : List A) → AllByRecursion P (xs ++ ys) → AllByRecursion P ys
+all_back P [] ys h = h
+all_back P (x ∷ xs) ys h = all_back P xs ys h.1
+
+-- what holds of all items holds of the one at an index
+pub all_at : {A : Type 0} (P : A → Type 0) (xs : List A) (i : ℕ) (x : A) → AllByRecursion P xs → slice_get xs i ≡ Some x → P x
+all_at P [] i x h e = absurd cc
+all_at P (y ∷ ys) zero x h e = let same : y ≡ x = cc in subst P same h.0
+all_at P (y ∷ ys) (suc i) x h e = all_at P ys i x h.1 e
 
 -- the two parts of a format that follows another
 pub record Inner {A B : Type 0} (p : Format B) (f : B → Format A) (at : ℕ) (a : A) (bytes : List ℕ) : Type 0 where
@@ -20,7 +34,7 @@ pub record Inner {A B : Type 0} (p : Format B) (f : B → Format A) (at : ℕ) (
   pub one : Spells p at x front
   pub rest : Spells (f x) (at + length front) a back
 
-inner : {A B : Type 0} (p : Format B) (f : B → Format A) (at : ℕ) (a : A) (bytes : List ℕ) → InBytes bytes → Spells (followed_by p f) at a bytes → Inner p f at a bytes
+pub inner : {A B : Type 0} (p : Format B) (f : B → Format A) (at : ℕ) (a : A) (bytes : List ℕ) → InBytes bytes → Spells (followed_by p f) at a bytes → Inner p f at a bytes
 unfolding Spells
 inner p f at a bytes ok h =
     let all : InBytes (h.1 ++ h.2) = subst InBytes h.3 ok in
