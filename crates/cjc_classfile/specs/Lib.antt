@@ -7,3 +7,4 @@ pub mod Code
 pub mod CodeAttribute
 pub mod Methods
 pub mod ClassFile
+pub mod Fits

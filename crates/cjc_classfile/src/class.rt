@@ -7,6 +7,8 @@ ghost use Rattle.cjc_bytes.specs.Reading.{Reads, read_file};
 ghost use Rattle.cjc_bytes.specs.Refused.{IsUnlessNoMemory, IsBreak};
 ghost use Rattle.cjc_bytes.specs.declared.fault.Fault.TheVariants as faults;
 ghost use Rattle.cjc_classfile.specs.declared.tree.ClassTree.{ClassTree as Tree};
+ghost use Rattle.std.specs.List.{AllByRecursion};
+ghost use Rattle.cjc_classfile.specs.Fits.{ClassFits};
 ghost use Rattle.cjc_classfile.specs.Members.{class_field};
 ghost use Rattle.cjc_classfile.specs.ClassFile.{front_part, back_part, class_file, refusal_at};
 
@@ -152,4 +154,11 @@ pub fn readings()
     ensures place { (j k : ℕ) (bytes : List ℕ) → FileBreaks class_file bytes j → FileBreaks class_file bytes k → j ≡ k }
     ensures both { (t : Tree) (k : ℕ) (bytes : List ℕ) → FileSpells class_file t bytes → FileBreaks class_file bytes k → ⊥ }
     ensures either { (bytes : List ℕ) → ((t : Tree) × FileSpells class_file t bytes) ⊎ ((k : ℕ) × FileBreaks class_file bytes k) }
+{}
+
+/// A class that the bytes of a file spell keeps to the widths of the file's fields: its texts have at most 65,535
+/// bytes, and so has each code, which is not empty.
+#[tactic(auto, using(crate::proofs::Fitting::spelt_fits))]
+pub fn spelt_classes_fit()
+    ensures { (t : Tree) (bytes : List ℕ) → AllByRecursion (λ b. b < 256) bytes → FileSpells class_file t bytes → ClassFits t }
 {}

@@ -10,7 +10,7 @@ mod methods;
 mod pool;
 mod tree;
 
-pub use class::{read, readings};
+pub use class::{read, readings, spelt_classes_fit};
 pub use tree::{Catch, ClassTree, Code, FieldTree, MethodTree, PoolItem};
 
 #[cfg(test)]
