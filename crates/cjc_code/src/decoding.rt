@@ -18,9 +18,11 @@ use std::alloc::Global;
 
 /// A rule that a code breaks, and the offset of its first place.
 #[derive(Clone, Copy)]
-pub(crate) struct Broken {
-    pub(crate) rule: u16,
-    pub(crate) offset: u32,
+pub struct Broken {
+    /// 103 or 303.
+    pub rule: u16,
+    /// In bytes, from the start of the code.
+    pub offset: u32,
 }
 
 /// Why a code gave no instructions.

@@ -7,6 +7,7 @@ mod decoding;
 mod insn;
 mod items;
 mod laws;
+mod method_code;
 mod named;
 mod numbers;
 mod raw;
@@ -14,6 +15,7 @@ mod starts;
 mod table;
 mod unfit;
 
-pub use decoding::decode;
+pub use decoding::{Broken, decode};
 pub use insn::{JCase, JInsn, JOp};
 pub use laws::{cuts, opcodes, rules, samples};
+pub use method_code::{Codes, MethodCode};
