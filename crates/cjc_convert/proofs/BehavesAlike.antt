@@ -13,9 +13,9 @@ use Rattle.cjc_classfile.specs.declared.tree.MethodTree.{MethodTree}
 use Rattle.cjc_classfile.specs.declared.tree.ClassTree.{ClassTree}
 use Rattle.cjc_classfile.specs.declared.tree.Catch.{Catch}
 use Rattle.cjc_code.specs.declared.insn.JInsn.{JInsn}
-use Rattle.cjc_code.specs.Cut.{cut}
+use Rattle.cjc_code.specs.Decoded.{decoding, decoded, insns_of}
 use Rattle.cjc_export.specs.declared.tree.ExportTree.{ExportTree}
-use Rattle.cjc_ncode.specs.Linked.{Method, Linked, linked, declared_methods, method_of, method_with, is_static, insns_of, initialiser, declares_class, has_class, exported, entered_among, is_subtype, has_plain_class}
+use Rattle.cjc_ncode.specs.Linked.{Method, Linked, linked, declared_methods, method_of, method_with, is_static, initialiser, declares_class, has_class, exported, entered_among, is_subtype, has_plain_class}
 use Rattle.cjc_ncode.specs.ByName
 use Rattle.cjc_script.specs.declared.report.Outcome.{Outcome}
 use Rattle.cjc_script.specs.declared.report.Outcome.TheVariants.{Done, Running, Waiting, Unfit, Stuck}
@@ -183,14 +183,14 @@ module _ (line : PackageLine) (tree : ClassTree) (form : IsFirstForm line tree) 
   }
 
   declared_is : declared_methods (tree ∷ []) ≡ made true form.insns [] ∷ []
-  unfolding declared_methods
+  unfolding declared_methods decoded
   declared_is =
       let m = form.is_sum in
-      ap (λ ms. flat_map (method_of tree.name) ms ++ []) form.methods
-      ∙ ap (λ t. (method_with tree.name form.method t form.method.code ++ []) ++ []) small.types
-      ∙ ap (λ c. (method_with tree.name form.method (Some (record { params = replicate form.params Short; result = Some Short })) c ++ []) ++ []) m.has_code
-      ∙ ap (λ f. made (is_static f) (insns_of (cut form.code.bytes)) form.code.catches ∷ []) m.flags
-      ∙ ap (λ r. made true (insns_of r) form.code.catches ∷ []) m.is_sum.are_cut
+      ap (λ ms. flat_map (method_of tree) ms ++ []) form.methods
+      ∙ ap (λ t. (method_with tree form.method t form.method.code ++ []) ++ []) small.types
+      ∙ ap (λ c. (method_with tree form.method (Some (record { params = replicate form.params Short; result = Some Short })) c ++ []) ++ []) m.has_code
+      ∙ ap (λ f. made (is_static f) (insns_of (decoding tree form.method form.code)) form.code.catches ∷ []) m.flags
+      ∙ ap (λ r. made true (insns_of r) form.code.catches ∷ []) form.are_decoded
       ∙ ap (λ c. made true form.insns c ∷ []) m.is_sum.catches
 
   linked_is : linked (tree ∷ []) exports ≡ Steps.by_name exports tree.name there id form.params room nlocals form.insns

@@ -1,7 +1,7 @@
 -- From the parts of a conversion to the whole.
-use Rattle.std.proofs.Common.{◌≡◌, ℕ, zero, suc, ◌+◌, ◌<◌, ◌⊎◌, ⊎_elim, inl, inr, Bool, true, false, List, [], ◌∷◌, Option, Some, None, Result, Ok, Err, IfOk, IfSome, IfNone, length, get_or, refl, sym, ap, subst, ◌∙◌, arith}
+use Rattle.std.proofs.Common.{◌≡◌, ℕ, zero, suc, ◌+◌, ◌<◌, ◌⊎◌, ⊎_elim, inl, inr, Bool, true, false, List, [], ◌∷◌, count_by, not, if◌then◌else◌, Option, Some, None, Result, Ok, Err, IfOk, IfSome, IfNone, length, get_or, refl, sym, ap, subst, ◌∙◌, arith}
 use Rattle.std.specs.Prelude.{slice_get}
-use Rattle.std.proofs.lemmas.Bool.{cases_lt}
+use Rattle.std.proofs.lemmas.List.Sums.{sum_by-cons}
 use Rattle.cjc_bytes.specs.Format.{FileSpells, FileBreaks}
 use Rattle.cjc_bytes.proofs.Laws.{one_value, one_place, spelt_or_broken}
 use Rattle.cjc_bytes.specs.declared.stop.NoMemory.{NoMemory}
@@ -13,14 +13,19 @@ use Rattle.cjc_classfile.specs.ClassFile.{class_file, refusal_at}
 use Rattle.cjc_classfile.specs.Code.{CodeTree}
 use Rattle.cjc_classfile.specs.declared.tree.ClassTree.{ClassTree}
 use Rattle.cjc_code.specs.declared.insn.JInsn.{JInsn}
+use Rattle.cjc_code.specs.declared.method_code.MethodCode.{MethodCode}
 use Rattle.cjc_capread.specs.declared.tree.CapTree.{CapTree}
 use Rattle.cjc_list.specs.Listed.{ListTree}
 use Rattle.cjc_convert.specs.declared.lang.TheConstants.{LANG}
 use Rattle.cjc_convert.specs.declared.conversion.Converted.{Converted}
 use Rattle.cjc_convert.specs.FirstForm.{PackageLine, IsFirstForm, ops_of}
 use Rattle.cjc_convert.specs.Converted.{tree_for}
-use Rattle.cjc_convert.specs.Order.{NotAfter}
 use Rattle.cjc_convert.specs.Tests.{IsFormWith}
+use Rattle.cjc_convert.proofs.Forms.{one_code}
+use Rattle.cjc_convert.specs.Codes.{code_with, all_codes, first_insns}
+use Rattle.cjc_convert.specs.Trees.{FileTree, of_class, of_export, AllSpelt, classes_of, AreRead, AllRead, ReadsFiles}
+use Rattle.cjc_convert.specs.declared.reading.Trees.{Trees}
+use Rattle.cjc_convert.proofs.Files.{unbroken, foreign_is_first}
 use Rattle.cjc_convert.specs.Conversion
 use Rattle.cjc_convert.specs.Conversion.{exported}
 use Rattle.cjc_export.specs.ExportFile.{export_file}
@@ -39,32 +44,37 @@ cap_found line tree params insns code (Err x) f is e = tt
 
 -- ---- the pair of files
 
-step_class : (c : Bool) (bytes : List ℕ) (rest : List ClassTree → Type 0) (trees : List ClassTree) → c ≡ true → Conversion.SpeltStep c bytes rest trees
-    → (t : ClassTree) × (ts : List ClassTree) × (trees ≡ t ∷ ts) × FileSpells class_file t bytes × rest ts
-step_class true bytes rest [] e h = absurd h
-step_class true bytes rest (t ∷ ts) e h = (t, ts, refl, h.0, h.1)
-step_class false bytes rest trees e h = absurd cc
+-- the one class file of a pair
+pub pair_tree : (lines : List FileLine) (files : List (List ℕ)) (bytes export : List ℕ) (read : Trees) → Conversion.IsPair lines files bytes export → AreRead lines files read
+    → (t : ClassTree) × (read.classes ≡ t ∷ []) × FileSpells class_file t bytes
+pair_tree lines files bytes export read (a, b, l, choice) all =
+    let here : AllSpelt (a ∷ b ∷ []) files all.trees = subst (λ (ls : List FileLine). AllSpelt ls files all.trees) l all.spelt in
+    let found : (t : ClassTree) × (classes_of all.trees ≡ t ∷ []) × FileSpells class_file t bytes = elim choice [
+      | inl (ca, cb, f) ↦ first_class a b bytes export all.trees ca cb (subst (λ (fs : List (List ℕ)). AllSpelt (a ∷ b ∷ []) fs all.trees) f here)
+      | inr (ca, cb, f) ↦ second_class a b bytes export all.trees ca cb (subst (λ (fs : List (List ℕ)). AllSpelt (a ∷ b ∷ []) fs all.trees) f here)
+    ] in
+    (found.0, all.classes ∙ found.1, found.2)
+  where
+    no : {P : Type 0} (l : FileLine) → l.class_file ≡ true → l.class_file ≡ false → P
+    no l e f = absurd (let g : true ≡ false = sym e ∙ f in cc)
 
-step_other : (c : Bool) (bytes : List ℕ) (rest : List ClassTree → Type 0) (trees : List ClassTree) → c ≡ false → Conversion.SpeltStep c bytes rest trees → rest trees
-step_other true bytes rest trees e h = absurd cc
-step_other false bytes rest trees e h = h
+    first_class : (a b : FileLine) (bytes export : List ℕ) (trees : List FileTree) → a.class_file ≡ true → b.class_file ≡ false → AllSpelt (a ∷ b ∷ []) (bytes ∷ export ∷ []) trees
+        → (t : ClassTree) × (classes_of trees ≡ t ∷ []) × FileSpells class_file t bytes
+    first_class a b bytes export [] ca cb all = absurd all
+    first_class a b bytes export (x ∷ []) ca cb all = absurd all.1
+    first_class a b bytes export (of_class t ∷ of_export u ∷ []) ca cb all = (t, refl, all.0.1)
+    first_class a b bytes export (of_class t ∷ of_class u ∷ []) ca cb all = no b all.1.0.0 cb
+    first_class a b bytes export (of_export t ∷ u ∷ []) ca cb all = no a ca all.0.0
+    first_class a b bytes export (x ∷ y ∷ z ∷ more) ca cb all = absurd (let e = all.1.1.1 in cc)
 
-pub pair_tree : (lines : List FileLine) (files : List (List ℕ)) (bytes export : List ℕ) (trees : List ClassTree) → Conversion.IsPair lines files bytes export → Conversion.AllSpelt lines files trees
-    → (t : ClassTree) × (trees ≡ t ∷ []) × FileSpells class_file t bytes
-pair_tree lines files bytes export trees (a, b, l, choice) all = elim choice [
-  | inl (ca, cb, f) ↦ (
-      let here = subst (λ (ls : List FileLine). Conversion.AllSpelt ls files trees) l all in
-      let both = subst (λ (fs : List (List ℕ)). Conversion.AllSpelt (a ∷ b ∷ []) fs trees) f here in
-      let first = step_class a.class_file bytes (Conversion.AllSpelt (b ∷ []) (export ∷ [])) trees ca both in
-      let none = step_other b.class_file export (Conversion.AllSpelt [] []) first.1 cb first.4 in
-      (first.0, first.2 ∙ ap (λ ts. first.0 ∷ ts) none, first.3))
-  | inr (ca, cb, f) ↦ (
-      let here = subst (λ (ls : List FileLine). Conversion.AllSpelt ls files trees) l all in
-      let both = subst (λ (fs : List (List ℕ)). Conversion.AllSpelt (a ∷ b ∷ []) fs trees) f here in
-      let rest = step_other a.class_file export (Conversion.AllSpelt (b ∷ []) (bytes ∷ [])) trees ca both in
-      let second = step_class b.class_file bytes (Conversion.AllSpelt [] []) trees cb rest in
-      (second.0, second.2 ∙ ap (λ ts. second.0 ∷ ts) second.4, second.3))
-]
+    second_class : (a b : FileLine) (bytes export : List ℕ) (trees : List FileTree) → a.class_file ≡ false → b.class_file ≡ true → AllSpelt (a ∷ b ∷ []) (export ∷ bytes ∷ []) trees
+        → (t : ClassTree) × (classes_of trees ≡ t ∷ []) × FileSpells class_file t bytes
+    second_class a b bytes export [] ca cb all = absurd all
+    second_class a b bytes export (x ∷ []) ca cb all = absurd all.1
+    second_class a b bytes export (of_export t ∷ of_class u ∷ []) ca cb all = (u, refl, all.1.0.1)
+    second_class a b bytes export (of_export t ∷ of_export u ∷ []) ca cb all = no b cb all.1.0.0
+    second_class a b bytes export (of_class t ∷ u ∷ []) ca cb all = no a all.0.0 ca
+    second_class a b bytes export (x ∷ y ∷ z ∷ more) ca cb all = absurd (let e = all.1.1.1 in cc)
 
 pub pair_once : (lines : List FileLine) (files : List (List ℕ)) (c d export : List ℕ) → Conversion.IsPair lines files c export → Conversion.IsPair lines files d export → c ≡ d
 pair_once lines files c d export (a, b, l, one) (a', b', l', other) =
@@ -79,13 +89,13 @@ pair_once lines files c d export (a, b, l, one) (a', b', l', other) =
 same_tree : (t : ClassTree) (ts us : List ClassTree) (u : ClassTree) → ts ≡ t ∷ [] → ts ≡ u ∷ [] → t ≡ u
 same_tree t ts us u e f = let g = sym e ∙ f in cc
 
-pub form_found : (list : ListTree) (files : List (List ℕ)) (trees : List ClassTree) (tree : ClassTree) (result : Result (Option (ℕ × List JInsn)) NoMemory)
-    → Conversion.HasPair list files → Conversion.AllSpelt list.lines files trees → trees ≡ tree ∷ [] → IfOk result (λ o. IfSome o (λ f. IsFormWith (Conversion.line_of list) tree f.0 f.1))
-    → IfOk result (λ o. IfSome o (λ f. Conversion.FormOf list files trees f.0 f.1))
-form_found list files trees tree (Ok None) (applets, (bytes, pair)) all is h = tt
-form_found list files trees tree (Ok (Some f)) (applets, (bytes, pair)) all is h =
-    let p = pair_tree list.lines files bytes LANG trees pair all in
-    let same : p.0 ≡ tree = same_tree p.0 trees [] tree p.1 is in
+pub form_found : (list : ListTree) (files : List (List ℕ)) (read : Trees) (tree : ClassTree) (result : Option ℕ)
+    → Conversion.HasPair list files → AreRead list.lines files read → read.classes ≡ tree ∷ [] → IfSome result (λ params. IsFormWith (Conversion.line_of list) tree params (first_insns read.codes))
+    → IfSome result (λ params. Conversion.FormOf list files read.classes params (first_insns read.codes))
+form_found list files read tree None (applets, (bytes, pair)) all is h = tt
+form_found list files read tree (Some params) (applets, (bytes, pair)) all is h =
+    let p = pair_tree list.lines files bytes LANG read pair all in
+    let same : p.0 ≡ tree = same_tree p.0 read.classes [] tree p.1 is in
     record {
       tree = tree;
       trees_are = is;
@@ -93,94 +103,81 @@ form_found list files trees tree (Ok (Some f)) (applets, (bytes, pair)) all is h
       params_are = h.params_are;
       insns_are = h.insns_are;
     }
-form_found list files trees tree (Err e) pair all is h = tt
 
-not_form : (list : ListTree) (files : List (List ℕ)) (trees : List ClassTree) (tree other : ClassTree) → Conversion.HasPair list files → Conversion.AllSpelt list.lines files trees → trees ≡ tree ∷ []
+not_form : (list : ListTree) (files : List (List ℕ)) (read : Trees) (tree other : ClassTree) → Conversion.HasPair list files → AreRead list.lines files read → read.classes ≡ tree ∷ []
     → (IsFirstForm (Conversion.line_of list) tree → ⊥) → Conversion.IsForm list files other → ⊥
-not_form list files trees tree other (applets, (bytes, pair)) all is none_of form =
-    let p = pair_tree list.lines files bytes LANG trees pair all in
-    let same : p.0 ≡ tree = same_tree p.0 trees [] tree p.1 is in
+not_form list files read tree other (applets, (bytes, pair)) all is none_of form =
+    let p = pair_tree list.lines files bytes LANG read pair all in
+    let same : p.0 ≡ tree = same_tree p.0 read.classes [] tree p.1 is in
     let once : form.bytes ≡ bytes = pair_once list.lines files form.bytes bytes LANG form.pair pair in
     let spelt = subst (λ (b : List ℕ). FileSpells class_file other b) once form.spelt in
     let is_tree : other ≡ tree = one_value class_file bytes other p.0 spelt p.2 ∙ same in
     none_of (subst (λ (t : ClassTree). IsFirstForm (Conversion.line_of list) t) is_tree form.form)
 
-pub form_none : (list : ListTree) (files : List (List ℕ)) (trees : List ClassTree) (tree : ClassTree) (result : Result (Option (ℕ × List JInsn)) NoMemory)
-    → Conversion.HasPair list files → Conversion.AllSpelt list.lines files trees → trees ≡ tree ∷ [] → IfOk result (λ o. IfNone o (IsFirstForm (Conversion.line_of list) tree → ⊥))
-    → IfOk result (λ o. IfNone o ((other : ClassTree) → Conversion.IsForm list files other → ⊥))
-form_none list files trees tree (Ok None) pair all is h = λ other form. not_form list files trees tree other pair all is h form
-form_none list files trees tree (Ok (Some f)) pair all is h = tt
-form_none list files trees tree (Err e) pair all is h = tt
+pub form_none : (list : ListTree) (files : List (List ℕ)) (read : Trees) (tree : ClassTree) (result : Option ℕ)
+    → Conversion.HasPair list files → AreRead list.lines files read → read.classes ≡ tree ∷ [] → IfNone result (IsFirstForm (Conversion.line_of list) tree → ⊥)
+    → IfNone result ((other : ClassTree) → Conversion.IsForm list files other → ⊥)
+form_none list files read tree None pair all is h = λ other form. not_form list files read tree other pair all is h form
+form_none list files read tree (Some params) pair all is h = tt
 
-pub pair_length : (list : ListTree) (files : List (List ℕ)) (trees : List ClassTree) → Conversion.HasPair list files → Conversion.AllSpelt list.lines files trees → length trees ≡ 1
-pair_length list files trees (applets, (bytes, pair)) all = ap length (pair_tree list.lines files bytes LANG trees pair all).1
+pub pair_length : (list : ListTree) (files : List (List ℕ)) (read : Trees) → Conversion.HasPair list files → AreRead list.lines files read → length read.classes ≡ 1
+pair_length list files read (applets, (bytes, pair)) all = ap length (pair_tree list.lines files bytes LANG read pair all).1
 
 -- ---- refusals
 
-all_fine : (lines : List FileLine) (files : List (List ℕ)) (trees : List ClassTree) → Conversion.AllSpelt lines files trees → (i : ℕ) → Conversion.IsFine lines files i
-all_fine [] files trees all i line bytes e f c = absurd cc
-all_fine (l ∷ ls) [] trees all i line bytes e f c = absurd all
-all_fine (l ∷ ls) (b ∷ bs) trees all zero line bytes e f c =
-    let is : l.class_file ≡ true = (let same : l ≡ line = cc in ap (λ (x : FileLine). x.class_file) same ∙ c) in
-    let here : b ≡ bytes = cc in
-    let p = step_class l.class_file b (Conversion.AllSpelt ls bs) trees is all in
-    (p.0, subst (λ (x : List ℕ). FileSpells class_file p.0 x) here p.3)
-all_fine (l ∷ ls) (b ∷ bs) trees all (suc i) line bytes e f c = behind (λ rest h. all_fine ls bs rest h i line bytes e f c) l.class_file refl
+count_both : (files : List FileLine) → length files ≡ count_by (λ (f : FileLine). f.class_file) files + count_by (λ (f : FileLine). not f.class_file) files
+count_both [] = refl
+count_both (f ∷ fs) =
+    let one = sum_by-cons (λ (x : FileLine). if x.class_file then 1 else 0) f fs in
+    let other = sum_by-cons (λ (x : FileLine). if not x.class_file then 1 else 0) f fs in
+    by f.class_file (length fs) (count_by (λ (x : FileLine). x.class_file) fs) (count_by (λ (x : FileLine). not x.class_file) fs) (count_both fs) ∙ sym (both _ _ _ _ one other)
   where
-    behind : ((rest : List ClassTree) → Conversion.AllSpelt ls bs rest → (t : ClassTree) × FileSpells class_file t bytes) → (k : Bool) → l.class_file ≡ k → (t : ClassTree) × FileSpells class_file t bytes
-    behind later true is = let p = step_class l.class_file b (Conversion.AllSpelt ls bs) trees is all in later p.1 p.4
-    behind later false is = later trees (step_other l.class_file b (Conversion.AllSpelt ls bs) trees is all)
+    by : (c : Bool) (n a b : ℕ) → n ≡ a + b → suc n ≡ ((if c then 1 else 0) + a) + ((if not c then 1 else 0) + b)
+    by true n a b e = omega arith
+    by false n a b e = omega arith
 
-fine_unbroken : (lines : List FileLine) (files : List (List ℕ)) (i k : ℕ) → Conversion.IsFine lines files i → Conversion.BreaksAt lines files i k → ⊥
-fine_unbroken lines files i k fine b =
-    let t = fine b.line b.bytes b.is_line b.is_file b.is_class in
-    spelt_or_broken class_file b.bytes t.0 k t.1 b.breaks
+    both : (a b c d : ℕ) → a ≡ b → c ≡ d → a + c ≡ b + d
+    both a b c d e f = omega arith
 
-pub unbroken : (lines : List FileLine) (files : List (List ℕ)) (trees : List ClassTree) → Conversion.AllSpelt lines files trees → (i k : ℕ) → Conversion.BreaksAt lines files i k → ⊥
-unbroken lines files trees all i k b = fine_unbroken lines files i k (all_fine lines files trees all i) b
+-- a list names fewer files than 32 bits count
+pub few_lines : (list : ListTree) (lines : List FileLine) → lines ≡ list.lines → Conversion.IsRead list → length lines < 4294967296
+few_lines list lines is read =
+    let within = read.2.0.3.within in
+    omega (arith, ap length is, count_both list.lines, within.classes, within.exports)
 
-some_is : {A : Type 0} (x y : A) (o : Option A) → o ≡ Some x → o ≡ Some y → x ≡ y
-some_is x y o e f = cc
-
-pub first_broken : (list : ListTree) (files : List (List ℕ)) (r : Refusal) → Conversion.StopsAtClass list.lines files r → Conversion.IsFirstBroken list files r
-first_broken list files r s = record { index = s.index; place = s.place; broken = s.broken; is = s.is; first = λ i k other. by i k other (compared s.index i) }
-  where
-    compared : (a b : ℕ) → (b < a) ⊎ ((a ≡ b) ⊎ (a < b))
-    compared a b = ⊎_elim (λ before. inl before) (λ not. ⊎_elim (λ later. inr (inr later)) (λ no. inr (inl (omega arith))) (cases_lt a b)) (cases_lt b a)
-
-    by : (i k : ℕ) (other : Conversion.BreaksAt list.lines files i k) → (i < s.index) ⊎ ((s.index ≡ i) ⊎ (s.index < i))
-        → NotAfter (Conversion.rank_of list.lines files s.index s.place s.broken) (Conversion.rank_of list.lines files i k other)
-    by i k other (inl before) = absurd (fine_unbroken list.lines files i k (s.before i before) other)
-    by i k other (inr (inl same)) =
-        let b = s.broken in
-        let is_line : slice_get list.lines s.index ≡ Some other.line = rw same other.is_line in
-        let is_file : slice_get files s.index ≡ Some other.bytes = rw same other.is_file in
-        let line : b.line ≡ other.line = some_is b.line other.line (slice_get list.lines s.index) b.is_line is_line in
-        let bytes : b.bytes ≡ other.bytes = some_is b.bytes other.bytes (slice_get files s.index) b.is_file is_file in
-        let breaks = subst (λ (x : List ℕ). FileBreaks class_file x k) (sym bytes) other.breaks in
-        let place : s.place ≡ k = one_place class_file b.bytes s.place k b.breaks breaks in
-        let rule : (refusal_at b.line.name b.bytes s.place).rule.0 ≡ (refusal_at other.line.name other.bytes k).rule.0 = ap (λ (x : List ℕ). (refusal_at [] x s.place).rule.0) bytes ∙ ap (λ (n : ℕ). (refusal_at [] other.bytes n).rule.0) place in
-        inr (refl, inr (ap (λ n. n + 1) same, inr (refl, inr (refl, inr (place, inr (rule, tt))))))
-    by i k other (inr (inr later)) = inr (refl, inl (omega arith))
-
-pub stopped : (list : ListTree) (files : List (List ℕ)) (e : Fault) → Conversion.ReadsClasses list.lines files (Err e)
+pub stopped : (list : ListTree) (files : List (List ℕ)) (e : Fault) → ReadsFiles list.lines files (Err e)
     → (e ≡ faults.NoMemory) ⊎ ((r : Refusal) × Conversion.IsRefused list files r × (e ≡ faults.Refused r))
-stopped list files (faults.Refused r) s = inr (r, inl (first_broken list files r s), refl)
+stopped list files (faults.Refused r) s = inr (r, inl s, refl)
 stopped list files faults.NoMemory s = inl refl
 
 -- the same where the lines and the files go by other names
-pub stopped_from : (list : ListTree) (files : List (List ℕ)) (lines : List FileLine) (fs : List (List ℕ)) (e : Fault) → lines ≡ list.lines → fs ≡ files → Conversion.ReadsClasses lines fs (Err e)
+pub stopped_from : (list : ListTree) (files : List (List ℕ)) (lines : List FileLine) (fs : List (List ℕ)) (e : Fault) → lines ≡ list.lines → fs ≡ files → ReadsFiles lines fs (Err e)
     → (e ≡ faults.NoMemory) ⊎ ((r : Refusal) × Conversion.IsRefused list files r × (e ≡ faults.Refused r))
 stopped_from list files lines fs e a b s =
-    stopped list files e (subst (λ (ls : List FileLine). Conversion.ReadsClasses ls files (Err e)) a (subst (λ (gs : List (List ℕ)). Conversion.ReadsClasses lines gs (Err e)) b s))
+    stopped list files e (subst (λ (ls : List FileLine). ReadsFiles ls files (Err e)) a (subst (λ (gs : List (List ℕ)). ReadsFiles lines gs (Err e)) b s))
 
-pub not_built_is : (list : ListTree) (files : List (List ℕ)) (trees : List ClassTree) (e : Fault) → Conversion.AllSpelt list.lines files trees → ((tree : ClassTree) → Conversion.IsForm list files tree → ⊥)
+-- the first refusal by rule 303
+pub unsupported_is : (list : ListTree) (files : List (List ℕ)) (lines : List FileLine) (fs : List (List ℕ)) (read : Trees) (r : Refusal) → lines ≡ list.lines → fs ≡ files → AllRead lines fs read → read.unsupported ≡ Some r
+    → (faults.Refused r ≡ faults.NoMemory) ⊎ ((x : Refusal) × Conversion.IsRefused list files x × (faults.Refused r ≡ faults.Refused x))
+unsupported_is list files lines fs read r a b all is =
+    let here = subst (λ (ls : List FileLine). AllRead ls files read) a (subst (λ (gs : List (List ℕ)). AllRead lines gs read) b all) in
+    inr (r, inl (foreign_is_first list.lines files read r here is), refl)
+
+pub not_built_is : (list : ListTree) (files : List (List ℕ)) (read : Trees) (e : Fault) → AllRead list.lines files read → read.unsupported ≡ None → ((tree : ClassTree) → Conversion.IsForm list files tree → ⊥)
     → (e ≡ faults.Refused (Conversion.not_built list)) ⊎ (e ≡ faults.NoMemory)
     → (e ≡ faults.NoMemory) ⊎ ((r : Refusal) × Conversion.IsRefused list files r × (e ≡ faults.Refused r))
-not_built_is list files trees e all none_of (inl is) = inr (Conversion.not_built list, inr (record { unbroken = unbroken list.lines files trees all; not_form = none_of }, refl), is)
-not_built_is list files trees e all none_of (inr is) = inl is
+not_built_is list files read e all fine none_of (inl is) = inr (Conversion.not_built list, inr (record { unbroken = unbroken list.lines files read all fine; not_form = none_of }, refl), is)
+not_built_is list files read e all fine none_of (inr is) = inl is
 
 -- ---- the whole
+
+-- a package of the form has its one code
+pub form_code : (list : ListTree) (files : List (List ℕ)) (lines : List FileLine) (fs : List (List ℕ)) (read : Trees) (params : ℕ) (insns : List JInsn) → AreRead lines fs read → Conversion.FormOf list files read.classes params insns
+    → (x : MethodCode) × (read.codes ≡ x ∷ [])
+form_code list files lines fs read params insns all f = (_, all.codes ∙ ap all_codes f.trees_are ∙ one_code f.tree f.form.form.method f.form.form.code f.form.form.methods f.form.form.is_sum.has_code ∙ ap (code_with 0 0) f.form.form.are_decoded)
+
+pub first_is : (codes : List MethodCode) (x y : MethodCode) → codes ≡ x ∷ [] → (get_or codes 0 y).insns ≡ first_insns codes
+first_is codes x y is = rw is refl
 
 pub form_with_tree : (list : ListTree) (files : List (List ℕ)) (trees : List ClassTree) (params : ℕ) (insns : List JInsn) (tree : ClassTree) → Conversion.FormOf list files trees params insns → tree ≡ get_or trees 0 tree
     → IsFormWith (Conversion.line_of list) tree params insns
@@ -188,16 +185,17 @@ form_with_tree list files trees params insns tree f is =
     let same : f.tree ≡ tree = sym (is ∙ ap (λ ts. get_or ts 0 tree) f.trees_are) in
     subst (λ (t : ClassTree). IsFormWith (Conversion.line_of list) t params insns) same (record { form = f.form.form; params_are = f.params_are; insns_are = f.insns_are })
 
-pub converted_from : (list : ListTree) (files : List (List ℕ)) (trees : List ClassTree) (params : ℕ) (insns : List JInsn) (tree : ClassTree) (result : Result Converted Fault) → Conversion.FormOf list files trees params insns → tree ≡ get_or trees 0 tree
-    → IfOk result (Conversion.IsMadeFor (Conversion.line_of list) tree params insns) → IfOk result (Conversion.IsConverted list files)
-converted_from list files trees params insns tree (Ok made) f is m =
+pub converted_from : (list : ListTree) (files : List (List ℕ)) (read : Trees) (params : ℕ) (insns : List JInsn) (tree : ClassTree) (result : Result Converted Fault) → AllRead list.lines files read → read.unsupported ≡ None
+    → Conversion.FormOf list files read.classes params insns → tree ≡ get_or read.classes 0 tree → IfOk result (Conversion.IsMadeFor (Conversion.line_of list) tree params insns) → IfOk result (Conversion.IsConverted list files)
+converted_from list files read params insns tree (Ok made) all none f is m =
     let same : f.tree ≡ tree = sym (is ∙ ap (λ ts. get_or ts 0 tree) f.trees_are) in
     record {
+      unbroken = unbroken list.lines files read all none;
       tree = tree;
       form = record { applets = f.form.applets; bytes = f.form.bytes; pair = f.form.pair; spelt = subst (λ (t : ClassTree). FileSpells class_file t f.form.bytes) same f.form.spelt; form = m.0 };
       is_made = m.3;
     }
-converted_from list files trees params insns tree (Err e) f is m = tt
+converted_from list files read params insns tree (Err e) all none f is m = tt
 
 pub made_from : (line : PackageLine) (tree : ClassTree) (params : ℕ) (insns : List JInsn) (cap : CapTree) (caps : CapFiles) (export : List ℕ) → Conversion.IsCapOf line tree params insns cap
     → (caps ≡ files_of cap) × IsSpelt cap caps → Conversion.IsExportOf line tree export → Conversion.IsMadeFor line tree params insns (record { caps = caps; export = export })

@@ -1,9 +1,10 @@
 pub mod Forms
 pub mod Cuts
-pub mod ClassFiles
+pub mod Decoding
+pub mod Files
 mod Words
 mod Codes
-mod Lists
+pub mod Lists
 mod Pushes
 mod Acts
 mod Steps

@@ -1,8 +1,10 @@
 -- Lists from a place on, and what is read there.
-use Rattle.std.proofs.Common.{◌≡◌, ℕ, zero, suc, ◌+◌, ◌-◌, ◌<◌, ◌≤◌, refl, sym, ap, ◌∙◌, arith, true, List, [], ◌∷◌, ◌++◌, length, drop, zero-add, add-zero}
+use Rattle.std.proofs.Common.{take, get_or, add-one, ◌≡◌, ℕ, zero, suc, ◌+◌, ◌-◌, ◌<◌, ◌≤◌, refl, sym, ap, ◌∙◌, arith, true, List, [], ◌∷◌, ◌++◌, length, drop, zero-add, add-zero}
 use Rattle.std.specs.Prelude.{Some, slice_get, nat_lt, nat_le, if◌then◌else◌}
 use Rattle.std.proofs.lemmas.Bool.Decides.{nat_tests}
+use Rattle.std.proofs.Math.Seq.{take-suc}
 use Rattle.std.proofs.lemmas.List.{drop_at}
+use Rattle.std.proofs.lemmas.Option.{slice_get-get_or}
 
 pub drop_drop : {A : Type 0} → (xs : List A) (n m : ℕ) → drop (n + m) xs ≡ drop m (drop n xs)
 drop_drop xs zero m = ap (λ k. drop k xs) (zero-add m)
@@ -33,3 +35,11 @@ from_next bytes place front back some e =
     let at : place + length front - 1 ≡ (place - 1) + length front = omega arith in
     ap (λ t. if t then drop (place + length front - 1) bytes else []) (le_test 1 (place + length front) (omega arith))
     ∙ ap (λ k. drop k bytes) at ∙ drop_drop bytes (place - 1) (length front) ∙ ap (λ l. drop (length front) l) here ∙ drop_at front back (length front) refl
+
+-- the item at an index below the length
+pub item_at : {A : Type 0} (xs : List A) (i : ℕ) (x : A) → i < length xs → x ≡ get_or xs i x → slice_get xs i ≡ Some x
+item_at xs i x lt is = slice_get-get_or xs i x lt ∙ ap Some (sym is)
+
+-- one item more from the front
+pub front_more : {A : Type 0} (xs : List A) (i : ℕ) (x : A) → i < length xs → x ≡ get_or xs i x → take (i + 1) xs ≡ take i xs ++ x ∷ []
+front_more xs i x lt is = rw add-one (take-suc xs i x lt ∙ ap (λ y. take i xs ++ y ∷ []) (sym is))

@@ -9,7 +9,7 @@ use Rattle.cjc_classfile.specs.Code.{CodeTree}
 use Rattle.cjc_code.specs.declared.insn.JOp.{JOp}
 use Rattle.cjc_code.specs.declared.insn.JOp.TheVariants.{Number, Load, Arith, Narrow, Return}
 use Rattle.cjc_code.specs.declared.insn.JInsn.{JInsn}
-use Rattle.cjc_code.specs.Cut.{cut}
+use Rattle.cjc_code.specs.Decoded.{decoding}
 use Rattle.cjc_convert.specs.Selected.{widest}
 
 -- what the list says of the package
@@ -84,7 +84,6 @@ ops_of insns = map (λ i. i.op) insns
 
 -- code that adds constants and parameters, cuts the sum to a short and returns it
 pub record IsSumCode (params : ℕ) (code : CodeTree) (insns : List JInsn) : Type 0 where
-  pub are_cut : cut code.bytes ≡ Ok insns
   -- as in each class file
   pub length : length code.bytes ≤ 65535
   pub is_sum : is_sum params (ops_of insns) ≡ true
@@ -128,5 +127,6 @@ pub record IsFirstForm (line : PackageLine) (tree : ClassTree) : Type 0 where
   pub methods : tree.methods ≡ method ∷ []
   pub code : CodeTree
   pub insns : List JInsn
+  pub are_decoded : decoding tree method code ≡ Ok insns
   pub params : ℕ
   pub is_sum : IsSumMethod params method code insns

@@ -4,5 +4,7 @@ pub mod Converted
 pub mod Example
 pub mod BehaveAlike
 pub mod Tests
-pub mod Order
+pub mod Codes
+pub mod Rules
+pub mod Trees
 pub mod Conversion

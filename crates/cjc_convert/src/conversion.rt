@@ -7,14 +7,16 @@ ghost use Rattle.cjc_classfile.specs.declared.tree.ClassTree.{ClassTree as Tree}
 ghost use Rattle.cjc_capwrite.specs.Files.{files_of};
 ghost use Rattle.cjc_capwrite.specs.Writable.{IsSpelt};
 ghost use Rattle.cjc_convert.specs.FirstForm.{IsFirstForm};
+ghost use Rattle.cjc_convert.specs.Codes.{first_insns};
 ghost use Rattle.cjc_convert.specs.Tests.{IsFormWith};
-ghost use Rattle.cjc_convert.specs.Conversion.{IsRead, AreFiles, AllSpelt, IsLang, IsSomePair, HasPair, IsForm, FormOf, IsCapOf, IsWithinLimits, IsExportOf, IsMadeFor, IsConverted, IsRefused, line_of};
+ghost use Rattle.cjc_convert.specs.Trees.{AreRead};
+ghost use Rattle.cjc_convert.specs.Conversion.{IsRead, AreFiles, IsLang, IsSomePair, HasPair, IsForm, FormOf, IsCapOf, IsWithinLimits, IsExportOf, IsMadeFor, IsConverted, IsRefused, line_of};
 
-use crate::classes::read_classes;
 use crate::components::tree_for;
 use crate::exported::exported;
 use crate::form::first_form;
 use crate::lang::LANG;
+use crate::reading::{Trees, read_files};
 use cjc_bytes::{Bytes, Fault, FileLine, NoMemory, Row, refused};
 use cjc_capread::CapTree;
 use cjc_capwrite::CapFiles;
@@ -60,24 +62,20 @@ fn has_pair(list: &List, files: &[Bytes]) -> bool
     list.applets.items().is_empty() && is_pair(list.lines.items(), files)
 }
 
-// The number of parameters and the instructions, where the package is of the form.
-fn form_of(
-    alloc: Global,
-    list: &List,
-    files: &[Bytes],
-    trees: &[ClassTree<'_>],
-) -> Result<Option<(u8, Row<JInsn>)>, NoMemory>
-    requires { AllSpelt list.now.lines files.now trees.now }
-    ensures found { IfOk result (λ o. IfSome o (λ f. FormOf list.now files.now trees.now f.0 f.1)) }
-    ensures none { IfOk result (λ o. IfNone o ((tree : Tree) → IsForm list.now files.now tree → ⊥)) }
+// The number of parameters, where the package is of the form.
+fn form_of(list: &List, files: &[Bytes], trees: &Trees<'_>) -> Option<u8>
+    requires { AreRead list.now.lines files.now trees.now }
+    ensures found { IfSome result (λ params. FormOf list.now files.now trees.now.classes params (first_insns trees.now.codes)) }
+    ensures none { IfNone result ((tree : Tree) → IsForm list.now files.now tree → ⊥) }
 {
     if !has_pair(list, files) {
-        return Ok(None);
+        return None;
     }
-    if trees.len() != 1 {
-        return Ok(None);
+    let classes = trees.classes.items();
+    if classes.len() != 1 {
+        return None;
     }
-    first_form(alloc, list.package.items(), &trees[0])
+    first_form(list.package.items(), &classes[0], trees.codes.items())
 }
 
 // The components of a package of the form, as trees.
@@ -140,8 +138,8 @@ fn made_for(
 ///
 /// # Errors
 ///
-/// The first broken rule: 101 or 102 of a class file, else 801 at the list where the package is not of the
-/// form that is converted so far.
+/// The first broken rule: 101 or 102 of a class file, 103 of a method, 104 of an export file; else 303 of a
+/// method; else 801 at the list where the package is not of the form that is converted so far.
 pub fn convert(alloc: Global, list: &List, files: &Row<Bytes>) -> Result<Converted, Fault>
     requires read { IsRead list.now }
     requires count { length files.now ≡ length list.now.lines }
@@ -149,9 +147,16 @@ pub fn convert(alloc: Global, list: &List, files: &Row<Bytes>) -> Result<Convert
     ensures converted { IfOk result (IsConverted list.now files.now) }
     ensures refused { IfErr result (λ e. (e ≡ faults.NoMemory) ⊎ ((r : Broken) × IsRefused list.now files.now r × (e ≡ faults.Refused r))) }
 {
-    let trees = read_classes(alloc, list.lines.items(), files.items())?;
-    match form_of(alloc, list, files.items(), trees.items())? {
-        Some((params, insns)) => { made_for(alloc, list, &trees.items()[0], params, insns.items()) }
+    let mut trees = read_files(alloc, list.lines.items(), files.items())?;
+    if let Some(refusal) = trees.unsupported.take() {
+        return Err(Fault::Refused(refusal));
+    }
+    match form_of(list, files.items(), &trees) {
+        Some(params) => {
+            let class = &trees.classes.items()[0];
+            let insns = trees.codes.items()[0].insns.items();
+            made_for(alloc, list, class, params, insns)
+        }
         None => Err(refused(alloc, list.name.items(), 801, 0)),
     }
 }

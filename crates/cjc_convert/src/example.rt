@@ -1,18 +1,18 @@
 //! A worked package: what is written for it and how it runs, by computation.
 
 ghost use Rattle.std.specs.Prelude.{◌≡◌, [], ◌∷◌, Some, Ok, negsuc};
-ghost use Rattle.cjc_code.specs.Cut.{cut};
+ghost use Rattle.cjc_code.specs.Decoded.{decoding};
 ghost use Rattle.cjc_script.specs.declared.report.Note.TheVariants.{Result as result_note};
 ghost use Rattle.cjc_script.specs.declared.report.Outcome.TheVariants.{Done as done};
 ghost use Rattle.cjc_script.specs.declared.value.Value.TheVariants.{Num as number};
 ghost use Rattle.cjc_convert.specs.FirstForm.{IsFirstForm, ops_of};
 ghost use Rattle.cjc_convert.specs.Converted.{converted, sizes, tree_for};
 ghost use Rattle.cjc_convert.specs.BehaveAlike.{by_name, by_token};
-ghost use Rattle.cjc_convert.specs.Example.{example_line, example_class, example_code, example_insns, example_script, example_export, example_acts, example_report};
+ghost use Rattle.cjc_convert.specs.Example.{example_line, example_class, example_method, example_code, example_insns, example_script, example_export, example_acts, example_report};
 
 /// The example is of the form, and its method's header and code are six bytes.
 pub fn example_is_converted()
-    ensures cut { cut example_code.bytes ≡ Ok example_insns }
+    ensures decoded { decoding example_class example_method example_code ≡ Ok example_insns }
     ensures method { (form : IsFirstForm example_line example_class) × ((converted example_line example_class form).method ≡ Some (record { handlers = []; methods = 0x02 ∷ 0x10 ∷ 0x1C ∷ 0x04 ∷ 0x41 ∷ 0x78 ∷ [] })) }
     ensures sizes { sizes example_line 1 6 ≡ 17 ∷ 33 ∷ 0 ∷ 11 ∷ 2 ∷ 12 ∷ 7 ∷ 10 ∷ 4 ∷ 7 ∷ 26 ∷ 0 ∷ [] }
 {}

@@ -3,15 +3,13 @@
 ghost use Rattle.std.specs.Prelude.{◌≡◌, ◌↔◌, ◌≤◌, ◌++◌, ◌∷◌, [], ℕ, List, IsTrue, IfOk, IfSome, IfNone, replicate, drop, length, sum_by};
 ghost use Rattle.std.specs.List.{list_all, list_any};
 ghost use Rattle.cjc_convert.specs.Selected.{widest as widest_lem};
-ghost use Rattle.cjc_code.specs.declared.insn.JInsn.{JInsn as Insn};
 ghost use Rattle.cjc_classfile.specs.Code.{CodeTree};
+ghost use Rattle.cjc_convert.specs.Codes.{all_codes, first_insns};
 ghost use Rattle.cjc_convert.specs.Tests.{HasPlainFrame, HasSum, IsSlashPart, IsInside, HasPlainHead, HasMethodsAlone, HasPlainClass, IsFormWith};
 ghost use Rattle.cjc_convert.specs.FirstForm.{PackageLine, IsFirstForm, IsPart, IsSumCode, IsSumMethod, shorts, is_name_byte as is_name_byte_lem, is_push as is_push_lem, is_iadd as is_iadd_lem, is_i2s as is_i2s_lem, is_ireturn as is_ireturn_lem, is_rest as is_rest_lem, is_sum as is_sum_lem, is_name_item as is_name_item_lem, ops_of};
 
-use cjc_bytes::{NoMemory, Row, Stop};
 use cjc_classfile::{ClassTree, Code, MethodTree, PoolItem};
-use cjc_code::{JInsn, JOp, cut};
-use std::alloc::Global;
+use cjc_code::{JInsn, JOp, MethodCode};
 
 // A digit, a letter, `_` or `$`.
 fn is_name_byte(c: u8) -> bool
@@ -179,24 +177,14 @@ fn has_plain_frame(params: u8, code: &Code<'_>) -> bool
         && code.attributes == 0
 }
 
-// The instructions of a code of the form.
-fn sum_code(alloc: Global, params: u8, code: &Code<'_>) -> Result<Option<Row<JInsn>>, NoMemory>
-    ensures found { IfOk result (λ o. IfSome o (λ insns. IsSumCode params code.now insns)) }
-    ensures none { IfOk result (λ o. IfNone o ((insns : List Insn) → IsSumCode params code.now insns → ⊥)) }
+// Whether a code with these instructions is of the form.
+fn is_sum_code(params: u8, code: &Code<'_>, insns: &[JInsn]) -> bool
+    ensures { IsTrue result ↔ IsSumCode params code.now insns.now }
 {
     if !has_plain_frame(params, code) {
-        return Ok(None);
+        return false;
     }
-    let insns = match cut(alloc, code.bytes) {
-        Ok(insns) => insns,
-        Err(Stop::Broken(_)) => return Ok(None),
-        Err(Stop::NoMemory) => return Err(NoMemory),
-    };
-    if has_sum(params, code.max_stack, insns.items()) {
-        Ok(Some(insns))
-    } else {
-        Ok(None)
-    }
+    has_sum(params, code.max_stack, insns)
 }
 
 // Whether the instructions are those of the form, for this stack.
@@ -212,23 +200,22 @@ fn is_method_name(name: &[u8]) -> bool
     is_part(name) && name.len() <= 65535
 }
 
-// The number of parameters and the instructions of a method of the form.
-fn sum_method(alloc: Global, method: &MethodTree<'_>) -> Result<Option<(u8, Row<JInsn>)>, NoMemory>
-    ensures found { IfOk result (λ o. IfSome o (λ f. (code : CodeTree) × IsSumMethod f.0 method.now code f.1)) }
-    ensures none { IfOk result (λ o. IfNone o ((params : ℕ) (code : CodeTree) (insns : List Insn) → IsSumMethod params method.now code insns → ⊥)) }
+// The number of parameters of a method of the form, which has these instructions.
+fn sum_method(method: &MethodTree<'_>, insns: &[JInsn]) -> Option<u8>
+    ensures found { IfSome result (λ params. (code : CodeTree) × IsSumMethod params method.now code insns.now) }
+    ensures none { IfNone result ((params : ℕ) (code : CodeTree) → IsSumMethod params method.now code insns.now → ⊥) }
 {
     if method.flags != 0x0009 || !is_method_name(method.name.items()) || method.attributes != 1 {
-        return Ok(None);
+        return None;
     }
-    let Some(params) = short_params(method.desc.items()) else {
-        return Ok(None);
-    };
+    let params = short_params(method.desc.items())?;
     let Some(code) = &method.code else {
-        return Ok(None);
+        return None;
     };
-    match sum_code(alloc, params, code)? {
-        Some(insns) => Ok(Some((params, insns))),
-        None => Ok(None),
+    if is_sum_code(params, code, insns) {
+        Some(params)
+    } else {
+        None
     }
 }
 
@@ -305,20 +292,20 @@ fn has_plain_class(owner: &[u8], tree: &ClassTree<'_>) -> bool
         && is_inside(owner, tree.name.items())
 }
 
-// The number of parameters and the instructions of the method of a package of the form.
-pub(crate) fn first_form(
-    alloc: Global,
-    owner: &[u8],
-    tree: &ClassTree<'_>,
-) -> Result<Option<(u8, Row<JInsn>)>, NoMemory>
-    ensures found { (line : PackageLine) → line.name ≡ owner.now → IfOk result (λ o. IfSome o (λ f. IsFormWith line tree.now f.0 f.1)) }
-    ensures none { (line : PackageLine) → line.name ≡ owner.now → IfOk result (λ o. IfNone o (IsFirstForm line tree.now → ⊥)) }
+// The number of parameters of the method of a package of the form, whose class has these codes.
+pub(crate) fn first_form(owner: &[u8], tree: &ClassTree<'_>, codes: &[MethodCode]) -> Option<u8>
+    requires { codes.now ≡ all_codes (tree.now ∷ []) }
+    ensures found { (line : PackageLine) → line.name ≡ owner.now → IfSome result (λ params. IsFormWith line tree.now params (first_insns codes.now)) }
+    ensures none { (line : PackageLine) → line.name ≡ owner.now → IfNone result (IsFirstForm line tree.now → ⊥) }
 {
     if !has_plain_class(owner, tree) {
-        return Ok(None);
+        return None;
     }
-    match tree.methods.items() {
-        [method] => sum_method(alloc, method),
-        _ => Ok(None),
-    }
+    let [method] = tree.methods.items() else {
+        return None;
+    };
+    let [code] = codes else {
+        return None;
+    };
+    sum_method(method, code.insns.items())
 }

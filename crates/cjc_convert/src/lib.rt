@@ -3,7 +3,6 @@
 #![tactic(auto)]
 
 mod alike;
-mod classes;
 mod components;
 mod consistent;
 mod conversion;
@@ -11,6 +10,7 @@ mod example;
 mod exported;
 mod form;
 mod lang;
+mod reading;
 mod selected;
 
 pub use alike::first_form_behaves_alike;

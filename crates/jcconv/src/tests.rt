@@ -194,14 +194,29 @@ fn refuses_and_writes_nothing(rt: HostRuntime) -> Result<(), Fail> {
     let mut broken = CLASS;
     broken[0] = 0;
     let long = vec![in rt.alloc(); 0u8; 262_145]?;
-    let cases: [(&[u8], &str); 4] = [
-        (&NO_I2S, "refused 801 list - - 0\n"),
-        (&broken, "refused 101 T.class - - 0\n"),
-        (&CLASS[..103], "refused 101 T.class - - 102\n"),
-        (long.as_slice(), "too long T.class\n"),
+    // nop at the end, ladd for iadd, and both
+    let mut falls = CLASS;
+    falls[97] = 0x00;
+    let mut longs = CLASS;
+    longs[95] = 0x61;
+    let mut both = longs;
+    both[97] = 0x00;
+    let cut = &LANG[..3];
+    let cases: [(&[u8], &[u8], &str); 10] = [
+        (&LANG, &NO_I2S, "refused 801 list - - 0\n"),
+        (&LANG, &broken, "refused 101 T.class - - 0\n"),
+        (&LANG, &CLASS[..103], "refused 101 T.class - - 102\n"),
+        (&LANG, &falls, "refused 103 T.class p/T f(S)S 4\n"),
+        (&LANG, &longs, "refused 303 T.class p/T f(S)S 2\n"),
+        (&LANG, &both, "refused 103 T.class p/T f(S)S 4\n"),
+        (cut, &CLASS, "refused 104 lang.exp - - 0\n"),
+        (cut, &falls, "refused 104 lang.exp - - 0\n"),
+        (cut, &longs, "refused 104 lang.exp - - 0\n"),
+        (&LANG, long.as_slice(), "too long T.class\n"),
     ];
-    for (class, want) in cases {
+    for (lang, class, want) in cases {
         let mut shelf = package(rt.alloc(), &[], class)?;
+        shelf.add(b"lang.exp", lang)?;
         let (text, end) = printed(rt.alloc(), &[], &CONVERT, &mut shelf)?;
         assert_eq!(rt; end.as_str(), want);
         assert_eq!(rt; text.as_str(), "");

@@ -1,4 +1,4 @@
-use Rattle.std.proofs.Common.{◌≡◌, [], ◌∷◌, rules, arith, sym}
+use Rattle.std.proofs.Common.{◌≡◌, [], ◌∷◌, ◌∙◌, rules, arith, sym, length, ap}
 use Rattle.cjc_convert.specs.Conversion.{HasPair, line_of}
 use Rattle.cjc_convert.proofs.Forms.{one_item}
 use Rattle.cjc_convert.proofs.Converting.{form_found, form_none, pair_length}
@@ -7,17 +7,18 @@ use Rattle.cjc_convert.proofs.conversion.form_of.Goals as goal
 pub returns-clause-found : goal.returns-clause-found
 returns-clause-found c =
     let pair : HasPair c.args.list.now c.args.files.now = c.has_pair.ensures.0 (search rules) in
-    let one : c.args.trees.now ≡ c.index-trees-0.result ∷ [] = one_item _ _ (omega arith) (omega arith) c.index-trees-0.is in
-    form_found _ _ _ _ _ pair c.requires one (c.first_form.ensures.found (line_of c.args.list.now) (sym c.items.ensures))
+    let one : c.items-classes.result.now ≡ c.index-classes-0.result ∷ [] = one_item _ _ (omega arith) (omega arith) c.index-classes-0.is in
+    form_found c.args.list.now _ c.args.trees.now _ _ pair c.requires (sym c.items-classes.ensures ∙ one) (rw c.items-2.ensures at c.first_form.ensures.found (line_of c.args.list.now) (sym c.items.ensures))
 
 pub returns-clause-none : goal.returns-clause-none
 returns-clause-none c =
     let pair : HasPair c.args.list.now c.args.files.now = c.has_pair.ensures.0 (search rules) in
-    let one : c.args.trees.now ≡ c.index-trees-0.result ∷ [] = one_item _ _ (omega arith) (omega arith) c.index-trees-0.is in
-    form_none _ _ _ _ _ pair c.requires one (c.first_form.ensures.none (line_of c.args.list.now) (sym c.items.ensures))
+    let one : c.items-classes.result.now ≡ c.index-classes-0.result ∷ [] = one_item _ _ (omega arith) (omega arith) c.index-classes-0.is in
+    form_none c.args.list.now _ c.args.trees.now _ _ pair c.requires (sym c.items-classes.ensures ∙ one) (c.first_form.ensures.none (line_of c.args.list.now) (sym c.items.ensures))
 
-pub returns-then-trees-ne1-clause-none : goal.returns-then-trees-ne1-clause-none
-returns-then-trees-ne1-clause-none c = λ tree form.
+pub returns-then-classes-ne1-clause-none : goal.returns-then-classes-ne1-clause-none
+returns-then-classes-ne1-clause-none c = λ tree form.
     let pair : HasPair c.args.list.now c.args.files.now = c.has_pair.ensures.0 (search rules) in
     let one = pair_length c.args.list.now c.args.files.now c.args.trees.now pair c.requires in
-    absurd (omega (arith, one))
+    let same = ap length c.items-classes.ensures in
+    absurd (omega (arith, one, same))

@@ -1,11 +1,17 @@
 use Rattle.std.proofs.Common.{refl}
 use Rattle.std.specs.Int.{int_wrap}
-use Rattle.cjc_bytes.specs.Format.{before}
-use Rattle.cjc_bytes.specs.Reading.{read_file, digits, front}
+use Rattle.cjc_bytes.specs.Format.{repeated, raw}
+use Rattle.cjc_bytes.specs.Reading.{front, digits}
+use Rattle.cjc_bytes.specs.Found.{each}
+use Rattle.cjc_bytes.specs.Spots.{desc_of, parts_of, bad_at, after, types_from}
+use Rattle.cjc_code.specs.Table.{row}
+use Rattle.cjc_code.specs.Instruction.{operand, operands, opcode_at, behind_opcode, behind_first, instruction}
+use Rattle.cjc_code.specs.Cut.{cut_rest, cut}
+use Rattle.cjc_code.specs.Unfit.{marks, starts, unfit_code}
+use Rattle.cjc_code.specs.Named.{named, all_named}
 use Rattle.cjc_card.specs.Naming.{loaded, header as read_header}
 use Rattle.cjc_card.specs.Rows.{fetch}
-use Rattle.cjc_code.specs.Cut.{cut, instruction}
-use Rattle.cjc_code.specs.Table.{row_of}
+use Rattle.cjc_code.specs.Decoded.{least, decoding, decoded}
 use Rattle.cjc_ncode.specs.ByName.{does}
 use Rattle.cjc_ncode.specs.Linked.{declared_methods}
 use Rattle.cjc_script.specs.Types.{signature}
@@ -14,7 +20,7 @@ use Rattle.cjc_convert.specs.Converted.{tree_for}
 use Rattle.cjc_convert.proofs.example.example_acts_run.Goals as goal
 
 pub returns-clause-named : goal.returns-clause-named
-unfolding cut instruction read_file digits front row_of before int_wrap declared_methods signature does
+unfolding row operand operands opcode_at behind_opcode behind_first instruction cut_rest cut marks starts unfit_code named all_named least decoding repeated raw front digits each desc_of parts_of bad_at after types_from decoded int_wrap declared_methods signature does
 returns-clause-named c = refl
 
 pub returns-clause-by_token : goal.returns-clause-by_token

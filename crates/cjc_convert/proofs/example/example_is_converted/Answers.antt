@@ -1,9 +1,15 @@
 use Rattle.std.proofs.Common.{◌≡◌, refl, [], ◌∷◌, inr, arith}
 use Rattle.std.specs.Prelude.{Ok}
-use Rattle.cjc_bytes.specs.Format.{before}
-use Rattle.cjc_bytes.specs.Reading.{read_file, digits, front}
-use Rattle.cjc_code.specs.Cut.{cut, instruction}
-use Rattle.cjc_code.specs.Table.{row_of}
+use Rattle.cjc_bytes.specs.Format.{repeated, raw}
+use Rattle.cjc_bytes.specs.Reading.{front, digits}
+use Rattle.cjc_bytes.specs.Found.{each}
+use Rattle.cjc_bytes.specs.Spots.{desc_of, parts_of, bad_at, after, types_from}
+use Rattle.cjc_code.specs.Table.{row}
+use Rattle.cjc_code.specs.Instruction.{operand, operands, opcode_at, behind_opcode, behind_first, instruction}
+use Rattle.cjc_code.specs.Cut.{cut_rest, cut}
+use Rattle.cjc_code.specs.Unfit.{marks, starts, unfit_code}
+use Rattle.cjc_code.specs.Named.{named, all_named}
+use Rattle.cjc_code.specs.Decoded.{decoding, least}
 use Rattle.cjc_convert.specs.Selected.{selected, selected_code, header}
 use Rattle.cjc_convert.specs.Converted.{tree_for}
 use Rattle.cjc_convert.specs.Example.{example_line, example_class, example_code, example_method, example_insns}
@@ -11,16 +17,15 @@ use Rattle.cjc_convert.specs.FirstForm.{IsFirstForm, IsSumCode, IsSumMethod}
 use Rattle.std.specs.Int.{int_wrap}
 use Rattle.cjc_convert.proofs.example.example_is_converted.Goals as goal
 
-are_cut : cut example_code.bytes ≡ Ok example_insns
-unfolding cut instruction read_file digits front row_of before int_wrap
-are_cut = refl
+are_decoded : decoding example_class example_method example_code ≡ Ok example_insns
+unfolding row operand operands opcode_at behind_opcode behind_first instruction cut_rest cut marks starts unfit_code named all_named least decoding repeated raw front digits each desc_of parts_of bad_at after types_from
+are_decoded = refl
 
-pub returns-clause-cut : goal.returns-clause-cut
-returns-clause-cut c = are_cut
+pub returns-clause-decoded : goal.returns-clause-decoded
+returns-clause-decoded c = are_decoded
 
 is_sum_code : IsSumCode 1 example_code example_insns
 is_sum_code = record {
-  are_cut = are_cut;
   length = omega arith;
   is_sum = refl;
   some_stack = omega arith;
@@ -63,6 +68,7 @@ is_first_form = record {
   methods = refl;
   code = example_code;
   insns = example_insns;
+  are_decoded = are_decoded;
   params = 1;
   is_sum = is_sum_method;
 }

@@ -1,0 +1,415 @@
+-- Reading one file after the other.
+use Rattle.std.proofs.Common.{◌≡◌, Ok, ℕ, zero, suc, ◌+◌, ◌<◌, ◌≤◌, ◌⊎◌, ⊎_elim, Bool, true, false, List, [], ◌∷◌, ◌++◌, Option, Some, None, Result, Err, inl, inr, length, take, get_or, refl, sym, ap, subst, ◌∙◌, append_assoc, append-nil, add-zero, length-append, arith, Fits, w8}
+use Rattle.std.specs.Prelude.{slice_get}
+use Rattle.std.proofs.lemmas.Bool.{cases_lt}
+use Rattle.std.proofs.lemmas.List.{take_all}
+use Rattle.std.proofs.lemmas.Option.{slice_get_within, slice_get_past}
+use Rattle.cjc_bytes.specs.Refused.{IsBreak, refusal}
+use Rattle.cjc_bytes.specs.declared.fault.Fault.{Fault}
+use Rattle.cjc_bytes.specs.declared.fault.Fault.TheVariants as faults
+use Rattle.cjc_bytes.specs.declared.fault.Refusal.{Refusal}
+use Rattle.cjc_bytes.specs.Format.{FileSpells, FileBreaks}
+use Rattle.cjc_bytes.specs.declared.settings.FileLine.{FileLine}
+use Rattle.cjc_bytes.proofs.Laws.{one_value, one_place, spelt_or_broken}
+use Rattle.cjc_bytes.proofs.Inverse.{InBytes}
+use Rattle.cjc_classfile.specs.ClassFile.{class_file, refusal_at}
+use Rattle.cjc_classfile.specs.Fits.{ClassFits}
+use Rattle.cjc_classfile.specs.declared.tree.MethodTree.{MethodTree}
+use Rattle.cjc_classfile.specs.declared.tree.ClassTree.{ClassTree}
+use Rattle.cjc_classfile.proofs.Fitting.{spelt_fits}
+use Rattle.cjc_code.specs.declared.decoding.Broken.{Broken}
+use Rattle.cjc_code.specs.Decoded.{of_method}
+use Rattle.cjc_code.specs.declared.method_code.MethodCode.{MethodCode}
+use Rattle.cjc_export.specs.ExportFile.{export_file}
+use Rattle.cjc_export.specs.declared.tree.ExportTree.{ExportTree}
+use Rattle.cjc_convert.specs.Codes.{codes_of_methods, codes_from, all_codes}
+use Rattle.cjc_bytes.specs.Order.{Rank, NotAfter}
+use Rattle.cjc_convert.specs.Rules.{CodeBreaks, method_rank, FileBreach, no_class_file, no_instructions, no_export_file, file_refusal, file_rank, FileAt, Foreign, foreign_rank, Breach, in_file, foreign, rank_of, IsFirstBroken}
+use Rattle.cjc_convert.specs.declared.reading.Trees.{Trees}
+use Rattle.cjc_convert.specs.Trees.{FileTree, of_class, of_export, FileIs, AllSpelt, classes_of, exports_of, AreRead, FirstForeign, FirstIn, ForeignIn, DecodesClass, IsFirstInFile, earlier, ReadsFile, AllRead, ReadsFiles}
+use Rattle.cjc_convert.proofs.Lists.{item_at, front_more}
+
+-- ---- one file
+
+no_true : {P : Type 0} (b : FileLine) → b.class_file ≡ true → b.class_file ≡ false → P
+no_true b e f = absurd (let g : true ≡ false = sym e ∙ f in cc)
+
+-- a file that is read breaks no rule of the first hundred
+pub fine : (line : FileLine) (bytes : List ℕ) (tree : FileTree) → FileIs line bytes tree → FileBreach line bytes → ⊥
+fine line bytes (of_class tree) (is, spelt, whole) (no_class_file place c breaks) = spelt_or_broken class_file bytes tree place spelt breaks
+fine line bytes (of_class tree) (is, spelt, whole) (no_instructions other method offset c again breaks) =
+    let same : other ≡ tree = one_value class_file bytes other tree again spelt in
+    whole method offset (subst (λ (t : ClassTree). CodeBreaks t method 103 offset) same breaks)
+fine line bytes (of_class tree) (is, spelt, whole) (no_export_file place c breaks) = no_true line is c
+fine line bytes (of_export tree) (is, spelt) (no_class_file place c breaks) = no_true line c is
+fine line bytes (of_export tree) (is, spelt) (no_instructions other method offset c again breaks) = no_true line c is
+fine line bytes (of_export tree) (is, spelt) (no_export_file place c breaks) = spelt_or_broken export_file bytes tree place spelt breaks
+
+-- an answer that memory ran out, or that the first rule of the file is broken
+stops : (line : FileLine) (bytes : List ℕ) (old new : Trees) (e : Fault) → (e ≡ faults.NoMemory) ⊎ ((r : Refusal) × (e ≡ faults.Refused r) × IsFirstInFile line bytes r) → ReadsFile line bytes old new (Err e)
+stops line bytes old new e (inl memory) = subst (λ (f : Fault). ReadsFile line bytes old new (Err f)) (sym memory) tt
+stops line bytes old new e (inr (r, is, first)) = subst (λ (f : Fault). ReadsFile line bytes old new (Err f)) (sym is) first
+
+class_first : (line : FileLine) (bytes : List ℕ) (k : ℕ) (is : line.class_file ≡ true) (breaks : FileBreaks class_file bytes k) (index : ℕ) (other : FileBreach line bytes)
+    → NotAfter (file_rank index line bytes (no_class_file k is breaks)) (file_rank index line bytes other)
+class_first line bytes k is breaks index (no_class_file place c other) =
+    let same : k ≡ place = one_place class_file bytes k place breaks other in
+    inr (refl, inr (refl, inr (refl, inr (refl, inr (same, inr (ap (λ n. (refusal_at line.name bytes n).rule.0) same, tt))))))
+class_first line bytes k is breaks index (no_instructions tree method offset c spelt other) = absurd (spelt_or_broken class_file bytes tree k spelt breaks)
+class_first line bytes k is breaks index (no_export_file place c other) = no_true line is c
+
+export_first : (line : FileLine) (bytes : List ℕ) (k : ℕ) (is : line.class_file ≡ false) (breaks : FileBreaks export_file bytes k) (index : ℕ) (other : FileBreach line bytes)
+    → NotAfter (file_rank index line bytes (no_export_file k is breaks)) (file_rank index line bytes other)
+export_first line bytes k is breaks index (no_class_file place c other) = no_true line c is
+export_first line bytes k is breaks index (no_instructions tree method offset c spelt other) = no_true line c is
+export_first line bytes k is breaks index (no_export_file place c other) =
+    let same : k ≡ place = one_place export_file bytes k place breaks other in
+    inr (refl, inr (refl, inr (refl, inr (refl, inr (same, inr (refl, tt))))))
+
+same_offset : (tree : ClassTree) (method rule a b : ℕ) → CodeBreaks tree method rule a → CodeBreaks tree method rule b → a ≡ b
+same_offset tree method rule a b e f =
+    let same : record { rule = rule; offset = a } ≡ record { rule = rule; offset = b } = (let g = sym e ∙ f in cc) in
+    ap (λ (x : Broken). x.offset) same
+
+compared : (a b : ℕ) → (b < a) ⊎ ((a ≡ b) ⊎ (a < b))
+compared a b = ⊎_elim (λ before. inl before) (λ not. ⊎_elim (λ later. inr (inr later)) (λ no. inr (inl (omega arith))) (cases_lt a b)) (cases_lt b a)
+
+-- of two methods the earlier one decides, and of one the one offset that it has
+method_first : (file : List ℕ) (tree : ClassTree) (rule : ℕ) (r : Refusal) (f : FirstIn file tree rule r) (k other : ℕ) → CodeBreaks tree k rule other
+    → (f.method < k) ⊎ ((f.method ≡ k) × (f.breaks.0 ≡ other))
+method_first file tree rule r f k other breaks = by (compared f.method k)
+  where
+    by : (k < f.method) ⊎ ((f.method ≡ k) ⊎ (f.method < k)) → (f.method < k) ⊎ ((f.method ≡ k) × (f.breaks.0 ≡ other))
+    by (inl before) = absurd (f.first k other before breaks)
+    by (inr (inl same)) = inr (same, same_offset tree k rule f.breaks.0 other (subst (λ n. CodeBreaks tree n rule f.breaks.0) same f.breaks.1) breaks)
+    by (inr (inr later)) = inl later
+
+code_first : (line : FileLine) (bytes : List ℕ) (tree : ClassTree) (r : Refusal) (is : line.class_file ≡ true) (spelt : FileSpells class_file tree bytes) (f : FirstIn line.name tree 103 r) (index : ℕ) (other : FileBreach line bytes)
+    → NotAfter (file_rank index line bytes (no_instructions tree f.method f.breaks.0 is spelt f.breaks.1)) (file_rank index line bytes other)
+code_first line bytes tree r is spelt f index (no_class_file place c breaks) = absurd (spelt_or_broken class_file bytes tree place spelt breaks)
+code_first line bytes tree r is spelt f index (no_instructions again k other c spelt_too breaks) =
+    let same : again ≡ tree = one_value class_file bytes again tree spelt_too spelt in
+    let here = subst (λ (t : ClassTree). CodeBreaks t k 103 other) same breaks in
+    elim (method_first line.name tree 103 r f k other here) [
+      | inl later ↦ (
+          let fields = ap (λ (t : ClassTree). length t.fields) same in
+          inr (refl, inr (refl, inr (refl, inl (omega (arith, fields))))))
+      | inr (at, offset) ↦ (
+          let fields = ap (λ (t : ClassTree). length t.fields) same in
+          let member : method_rank tree f.method ≡ method_rank again k = omega (arith, fields, at) in
+          inr (refl, inr (refl, inr (refl, inr (member, inr (offset, inr (refl, tt)))))))
+    ]
+code_first line bytes tree r is spelt f index (no_export_file place c breaks) = no_true line is c
+
+pub class_stops : (line : FileLine) (bytes : List ℕ) (old new : Trees) (e : Fault) → line.class_file ≡ true → IsBreak class_file bytes (refusal_at line.name bytes) e → ReadsFile line bytes old new (Err e)
+class_stops line bytes old new e is stop = stops line bytes old new e (elim stop [
+  | inl memory ↦ inl memory
+  | inr (k, breaks, refused) ↦ inr (refusal_at line.name bytes k, refused, record { breach = no_class_file k is breaks; is = refl; first = class_first line bytes k is breaks })
+])
+
+pub code_stops : (line : FileLine) (bytes : List ℕ) (old new : Trees) (number : ℕ) (tree : ClassTree) (from to : List MethodCode) (e : Fault) → line.class_file ≡ true → FileSpells class_file tree bytes
+    → DecodesClass line.name number tree from to (Err e) → ReadsFile line bytes old new (Err e)
+code_stops line bytes old new number tree from to (faults.Refused r) is spelt f = record { breach = no_instructions tree f.method f.breaks.0 is spelt f.breaks.1; is = f.breaks.2; first = code_first line bytes tree r is spelt f }
+code_stops line bytes old new number tree from to faults.NoMemory is spelt f = tt
+
+pub export_stops : (line : FileLine) (bytes : List ℕ) (old new : Trees) (e : Fault) → line.class_file ≡ false → IsBreak export_file bytes (refusal line.name 104) e → ReadsFile line bytes old new (Err e)
+export_stops line bytes old new e is stop = stops line bytes old new e (elim stop [
+  | inl memory ↦ inl memory
+  | inr (k, breaks, refused) ↦ inr (refusal line.name 104 k, refused, record { breach = no_export_file k is breaks; is = refl; first = export_first line bytes k is breaks })
+])
+
+-- a class that is read keeps to the widths of its fields
+pub class_fits : (bytes : List ℕ) (tree : ClassTree) → ((i : ℕ) → Fits w8 (get_or bytes i 0)) → FileSpells class_file tree bytes → ClassFits tree
+class_fits bytes tree small spelt = spelt_fits tree bytes (in_bytes bytes small) spelt
+  where
+    in_bytes : (bytes : List ℕ) → ((i : ℕ) → Fits w8 (get_or bytes i 0)) → InBytes bytes
+    in_bytes [] small = tt
+    in_bytes (b ∷ bs) small = (let e = small 0 in omega arith, in_bytes bs (λ i. small (suc i)))
+
+-- ---- all files
+
+one_spelt : (lines : List FileLine) (files : List (List ℕ)) (trees : List FileTree) (line : FileLine) (bytes : List ℕ) (tree : FileTree)
+    → AllSpelt lines files trees → FileIs line bytes tree → AllSpelt (lines ++ line ∷ []) (files ++ bytes ∷ []) (trees ++ tree ∷ [])
+one_spelt [] [] [] line bytes tree all is = (is, (refl, refl))
+one_spelt [] (b ∷ bs) trees line bytes tree all is = absurd (let e = all.0 in cc)
+one_spelt [] [] (t ∷ ts) line bytes tree all is = absurd (let e = all.1 in cc)
+one_spelt (l ∷ ls) [] trees line bytes tree all is = absurd all
+one_spelt (l ∷ ls) (b ∷ bs) [] line bytes tree all is = absurd all
+one_spelt (l ∷ ls) (b ∷ bs) (t ∷ ts) line bytes tree all is = (all.0, one_spelt ls bs ts line bytes tree all.1 is)
+
+pub classes_more : (trees : List FileTree) (tree : FileTree) → classes_of (trees ++ tree ∷ []) ≡ classes_of trees ++ classes_of (tree ∷ [])
+classes_more [] tree = refl
+classes_more (of_class t ∷ ts) tree = ap (λ xs. t ∷ xs) (classes_more ts tree)
+classes_more (of_export t ∷ ts) tree = classes_more ts tree
+
+pub exports_more : (trees : List FileTree) (tree : FileTree) → exports_of (trees ++ tree ∷ []) ≡ exports_of trees ++ exports_of (tree ∷ [])
+exports_more [] tree = refl
+exports_more (of_class t ∷ ts) tree = exports_more ts tree
+exports_more (of_export t ∷ ts) tree = ap (λ xs. t ∷ xs) (exports_more ts tree)
+
+-- the file at an index spells its tree
+spelt_at : (lines : List FileLine) (files : List (List ℕ)) (trees : List FileTree) → AllSpelt lines files trees → (i : ℕ) (at : FileAt lines files i)
+    → (tree : FileTree) × FileIs at.line at.bytes tree
+spelt_at [] files trees all i at = absurd (let e = at.is_line in cc)
+spelt_at (l ∷ ls) [] trees all i at = absurd all
+spelt_at (l ∷ ls) (b ∷ bs) [] all i at = absurd all
+spelt_at (l ∷ ls) (b ∷ bs) (t ∷ ts) all zero at =
+    let line : l ≡ at.line = (let e = at.is_line in cc) in
+    let bytes : b ≡ at.bytes = (let e = at.is_file in cc) in
+    (t, subst (λ (x : FileLine). FileIs x at.bytes t) line (subst (λ (x : List ℕ). FileIs l x t) bytes all.0))
+spelt_at (l ∷ ls) (b ∷ bs) (t ∷ ts) all (suc i) at = spelt_at ls bs ts all.1 i (record { line = at.line; bytes = at.bytes; is_line = at.is_line; is_file = at.is_file })
+
+-- files that are all read break no rule of the first hundred
+file_fine : (lines : List FileLine) (files : List (List ℕ)) (trees : List FileTree) → AllSpelt lines files trees → (i : ℕ) (at : FileAt lines files i) → FileBreach at.line at.bytes → ⊥
+file_fine lines files trees all i at breach = let t = spelt_at lines files trees all i at in fine at.line at.bytes t.0 t.1 breach
+
+-- files that are read, of which none breaks rule 303 either, break no rule
+pub unbroken : (lines : List FileLine) (files : List (List ℕ)) (read : Trees) → AllRead lines files read → read.unsupported ≡ None → Breach lines files → ⊥
+unbroken lines files read all none (in_file i at breach) = file_fine lines files all.are_read.trees all.are_read.spelt i at breach
+unbroken lines files read all none (foreign i f) =
+    let first : FirstForeign lines files (length lines) None = subst (FirstForeign lines files (length lines)) none all.unsupported in
+    first i (slice_get_within lines i f.at.line f.at.is_line) f
+
+slice_get-front : {A : Type 0} (n : ℕ) (xs : List A) (i : ℕ) → i < n → slice_get (take n xs) i ≡ slice_get xs i
+slice_get-front zero xs i lt = absurd (omega arith)
+slice_get-front (suc n) [] i lt = refl
+slice_get-front (suc n) (x ∷ xs) zero lt = refl
+slice_get-front (suc n) (x ∷ xs) (suc i) lt = slice_get-front n xs i (omega arith)
+
+-- the file at an earlier index breaks no rule
+before_fine : (lines : List FileLine) (files : List (List ℕ)) (trees : List FileTree) (i : ℕ) → AllSpelt (take i lines) (take i files) trees
+    → (j : ℕ) (at : FileAt lines files j) → j < i → FileBreach at.line at.bytes → ⊥
+before_fine lines files trees i all j at lt breach =
+    let here : FileAt (take i lines) (take i files) j = record {
+      line = at.line;
+      bytes = at.bytes;
+      is_line = slice_get-front i lines j lt ∙ at.is_line;
+      is_file = slice_get-front i files j lt ∙ at.is_file;
+    } in
+    file_fine (take i lines) (take i files) trees all j here breach
+
+some_is : {A : Type 0} (x y : A) → Some x ≡ Some y → x ≡ y
+some_is x y e = cc
+
+-- of two files the earlier one decides
+file_number : (i : ℕ) (line : FileLine) (bytes : List ℕ) (b : FileBreach line bytes) → ((file_rank i line bytes b).family ≡ 1) × ((file_rank i line bytes b).file ≡ i + 1)
+file_number i line bytes (no_class_file p x h) = (refl, refl)
+file_number i line bytes (no_instructions t m o x s h) = (refl, refl)
+file_number i line bytes (no_export_file p x h) = (refl, refl)
+
+file_earlier : (i j : ℕ) (line other : FileLine) (bytes more : List ℕ) (b : FileBreach line bytes) (c : FileBreach other more) → i < j → NotAfter (file_rank i line bytes b) (file_rank j other more c)
+file_earlier i j line other bytes more b c lt =
+    let x = file_number i line bytes b in
+    let y = file_number j other more c in
+    inr (x.0 ∙ sym y.0, inl (omega (arith, x.1, y.1)))
+
+before_foreign : (i j : ℕ) (lines : List FileLine) (files : List (List ℕ)) (line : FileLine) (bytes : List ℕ) (b : FileBreach line bytes) (f : Foreign lines files j) → NotAfter (file_rank i line bytes b) (foreign_rank lines files j f)
+before_foreign i j lines files line bytes b f = let x = file_number i line bytes b in inl (omega (arith, x.0))
+
+-- the first rule that a file breaks, where the files before it break none, is the first of all
+pub first_of_all : (lines : List FileLine) (files : List (List ℕ)) (trees : List FileTree) (i : ℕ) (at : FileAt lines files i) (r : Refusal)
+    → AllSpelt (take i lines) (take i files) trees → IsFirstInFile at.line at.bytes r → IsFirstBroken lines files r
+first_of_all lines files trees i at r all here = record { breach = in_file i at here.breach; is = here.is; first = first }
+  where
+    by : (j : ℕ) (other : FileAt lines files j) (c : FileBreach other.line other.bytes) → (j < i) ⊎ ((i ≡ j) ⊎ (i < j))
+        → NotAfter (file_rank i at.line at.bytes here.breach) (file_rank j other.line other.bytes c)
+    by j other c (inl before) = absurd (before_fine lines files trees i all j other before c)
+    by j other c (inr (inl same)) =
+        let line : at.line ≡ other.line = some_is at.line other.line (sym at.is_line ∙ ap (λ k. slice_get lines k) same ∙ other.is_line) in
+        let bytes : at.bytes ≡ other.bytes = some_is at.bytes other.bytes (sym at.is_file ∙ ap (λ k. slice_get files k) same ∙ other.is_file) in
+        let P : FileLine → List ℕ → Type 0 = λ l b. (x : FileBreach l b) → NotAfter (file_rank i at.line at.bytes here.breach) (file_rank j l b x) in
+        let start : P at.line at.bytes = subst (λ (k : ℕ). (x : FileBreach at.line at.bytes) → NotAfter (file_rank i at.line at.bytes here.breach) (file_rank k at.line at.bytes x)) same (here.first i) in
+        subst (λ (l : FileLine). P l other.bytes) line (subst (λ (b : List ℕ). P at.line b) bytes start) c
+    by j other c (inr (inr later)) = file_earlier i j at.line other.line at.bytes other.bytes here.breach c later
+
+    first : (other : Breach lines files) → NotAfter (rank_of lines files (in_file i at here.breach)) (rank_of lines files other)
+    first (in_file j other c) = by j other c (compared i j)
+    first (foreign j f) = before_foreign i j lines files at.line at.bytes here.breach f
+
+-- the first by rule 303 is the first of all, where no file breaks a rule of the first hundred
+pub foreign_is_first : (lines : List FileLine) (files : List (List ℕ)) (read : Trees) (r : Refusal) → AllRead lines files read → read.unsupported ≡ Some r → IsFirstBroken lines files r
+foreign_is_first lines files read r all is =
+    let f : FirstForeign lines files (length lines) (Some r) = subst (FirstForeign lines files (length lines)) is all.unsupported in
+    record { breach = foreign f.0 f.1; is = f.2; first = first f.0 f.1 f.3 }
+  where
+    first : (index : ℕ) (f : Foreign lines files index) → ((i : ℕ) (other : Foreign lines files i) → NotAfter (foreign_rank lines files index f) (foreign_rank lines files i other))
+        → (other : Breach lines files) → NotAfter (foreign_rank lines files index f) (rank_of lines files other)
+    first index f later (in_file j at c) = absurd (file_fine lines files all.are_read.trees all.are_read.spelt j at c)
+    first index f later (foreign j other) = later j other
+
+-- ---- in the order of the list
+
+-- What is known of the trees that were read, where so many files have been.
+pub record ReadSoFar (lines : List FileLine) (files : List (List ℕ)) (i : ℕ) (read : Trees) : Type 0 where
+  pub are_read : AreRead (take i lines) (take i files) read
+  pub count : length read.classes ≤ i
+  pub unsupported : FirstForeign lines files i read.unsupported
+
+foreign_of : (lines : List FileLine) (files : List (List ℕ)) (i : ℕ) (at : FileAt lines files i) (tree : ClassTree) → at.line.class_file ≡ true → FileSpells class_file tree at.bytes
+    → (method offset : ℕ) → CodeBreaks tree method 303 offset → Foreign lines files i
+foreign_of lines files i at tree c spelt method offset breaks = record { at = at; is_class = c; tree = tree; spelt = spelt; method = method; offset = offset; breaks = breaks }
+
+-- a method beyond the last breaks nothing
+within : (tree : ClassTree) (k rule offset : ℕ) → CodeBreaks tree k rule offset → k < length tree.methods
+within tree k rule offset breaks = ⊎_elim (λ below. below) (λ beyond. absurd (past_is tree (slice_get tree.methods k) _ (slice_get_past tree.methods k (omega arith)) breaks)) (cases_lt k (length tree.methods))
+  where
+    past_is : (tree : ClassTree) (o : Option MethodTree) (b : Broken) → o ≡ None → of_method tree o ≡ Err b → ⊥
+    past_is tree None b e f = absurd cc
+    past_is tree (Some m) b e f = absurd cc
+
+module _ (lines : List FileLine) (files : List (List ℕ)) (i : ℕ) (at : FileAt lines files i) (tree : ClassTree) (is_class : at.line.class_file ≡ true) (spelt : FileSpells class_file tree at.bytes) where
+  -- what the file at this index breaks by rule 303 is of its tree
+  tree_of : (other : Foreign lines files i) → (other.tree ≡ tree) × (other.at.line.name ≡ at.line.name)
+  tree_of other =
+      let bytes : other.at.bytes ≡ at.bytes = some_is other.at.bytes at.bytes (sym other.at.is_file ∙ at.is_file) in
+      let line : other.at.line ≡ at.line = some_is other.at.line at.line (sym other.at.is_line ∙ at.is_line) in
+      (one_value class_file at.bytes other.tree tree (subst (λ (b : List ℕ). FileSpells class_file other.tree b) bytes other.spelt) spelt, ap (λ (l : FileLine). l.name) line)
+
+  breaks_here : (other : Foreign lines files i) → CodeBreaks tree other.method 303 other.offset
+  breaks_here other = subst (λ (t : ClassTree). CodeBreaks t other.method 303 other.offset) (tree_of other).0 other.breaks
+
+  foreign_more : (old new : Option Refusal) → FirstForeign lines files i old → ForeignIn at.line.name tree (length tree.methods) new → FirstForeign lines files (i + 1) (earlier old new)
+  unfolding foreign_of
+  foreign_more (Some r) new f here = f
+  foreign_more None None f here = λ j lt other. ⊎_elim (λ below. f j below other) (λ not. last j (omega arith) other) (cases_lt j i)
+    where
+      last : (j : ℕ) → j ≡ i → Foreign lines files j → ⊥
+      last j e other =
+          let moved = subst (λ n. Foreign lines files n) e other in
+          here moved.method moved.offset (within tree moved.method 303 moved.offset (breaks_here moved)) (breaks_here moved)
+  foreign_more None (Some r) f here =
+      let mine = foreign_of lines files i at tree is_class spelt here.method here.breaks.0 here.breaks.1 in
+      (i, mine, here.breaks.2, λ j other. by j other (compared i j))
+    where
+      same_file : (other : Foreign lines files i) → NotAfter (foreign_rank lines files i (foreign_of lines files i at tree is_class spelt here.method here.breaks.0 here.breaks.1)) (foreign_rank lines files i other)
+      same_file other =
+          let fields = ap (λ (t : ClassTree). length t.fields) (tree_of other).0 in
+          elim (method_first at.line.name tree 303 r here other.method other.offset (breaks_here other)) [
+            | inl later ↦ (
+                let lower : method_rank tree here.method < method_rank other.tree other.method = omega (arith, fields) in
+                inr (refl, inr (refl, inr (refl, inl lower))))
+            | inr (k, offset) ↦ (
+                let member : method_rank tree here.method ≡ method_rank other.tree other.method = omega (arith, fields, k) in
+                inr (refl, inr (refl, inr (refl, inr (member, inr (offset, inr (refl, tt)))))))
+          ]
+
+      by : (j : ℕ) (other : Foreign lines files j) → (j < i) ⊎ ((i ≡ j) ⊎ (i < j))
+          → NotAfter (foreign_rank lines files i (foreign_of lines files i at tree is_class spelt here.method here.breaks.0 here.breaks.1)) (foreign_rank lines files j other)
+      by j other (inl before) = absurd (f j before other)
+      by j other (inr (inl same)) =
+          let P : ℕ → Type 0 = λ n. (x : Foreign lines files n) → NotAfter (foreign_rank lines files i (foreign_of lines files i at tree is_class spelt here.method here.breaks.0 here.breaks.1)) (foreign_rank lines files n x) in
+          subst P same same_file other
+      by j other (inr (inr later)) = inr (refl, inl (omega arith))
+
+foreign_passed : (lines : List FileLine) (files : List (List ℕ)) (i : ℕ) (at : FileAt lines files i) → at.line.class_file ≡ false → (old : Option Refusal) → FirstForeign lines files i old → FirstForeign lines files (i + 1) old
+foreign_passed lines files i at is (Some r) f = f
+foreign_passed lines files i at is None f = λ j lt other. ⊎_elim (λ below. f j below other) (λ not. last j (omega arith) other) (cases_lt j i)
+  where
+    last : (j : ℕ) → j ≡ i → Foreign lines files j → ⊥
+    last j e other =
+        let moved = subst (λ n. Foreign lines files n) e other in
+        let line : moved.at.line ≡ at.line = some_is moved.at.line at.line (sym moved.at.is_line ∙ at.is_line) in
+        no_true at.line (sym (ap (λ (l : FileLine). l.class_file) line) ∙ moved.is_class) is
+
+codes_from_more : (n : ℕ) (trees : List ClassTree) (tree : ClassTree) → codes_from n (trees ++ tree ∷ []) ≡ codes_from n trees ++ codes_of_methods (n + length trees) 0 tree tree.methods
+codes_from_more n [] tree = append-nil (codes_of_methods n 0 tree tree.methods) ∙ ap (λ k. codes_of_methods k 0 tree tree.methods) (sym (add-zero n))
+codes_from_more n (t ∷ ts) tree =
+    let at : n + 1 + length ts ≡ n + suc (length ts) = omega arith in
+    ap (λ cs. codes_of_methods n 0 t t.methods ++ cs) (codes_from_more (n + 1) ts tree)
+    ∙ sym (append_assoc (codes_of_methods n 0 t t.methods) (codes_from (n + 1) ts) (codes_of_methods (n + 1 + length ts) 0 tree tree.methods))
+    ∙ ap (λ k. (codes_of_methods n 0 t t.methods ++ codes_from (n + 1) ts) ++ codes_of_methods k 0 tree tree.methods) at
+
+codes_more : (trees : List ClassTree) (tree : ClassTree) → all_codes (trees ++ tree ∷ []) ≡ all_codes trees ++ codes_of_methods (length trees) 0 tree tree.methods
+codes_more trees tree =
+    let at : 0 + length trees ≡ length trees = omega arith in
+    codes_from_more 0 trees tree ∙ ap (λ k. all_codes trees ++ codes_of_methods k 0 tree tree.methods) at
+
+pub none_read : (lines : List FileLine) (files : List (List ℕ)) (read : Trees) → read ≡ record { classes = []; exports = []; codes = []; unsupported = None } → ReadSoFar lines files 0 read
+none_read lines files read is = rw is (record {
+  are_read = record { trees = []; spelt = (refl, refl); classes = refl; exports = refl; codes = refl };
+  count = omega arith;
+  unsupported = λ j lt other. absurd (omega arith);
+})
+
+spelt_more : (lines : List FileLine) (files : List (List ℕ)) (trees : List FileTree) (i : ℕ) (line : FileLine) (bytes : List ℕ) (tree : FileTree)
+    → i < length lines → i < length files → line ≡ get_or lines i line → bytes ≡ get_or files i bytes → FileIs line bytes tree
+    → AllSpelt (take i lines) (take i files) trees → AllSpelt (take (i + 1) lines) (take (i + 1) files) (trees ++ tree ∷ [])
+spelt_more lines files trees i line bytes tree a b is_line is_file is all =
+    let more = one_spelt (take i lines) (take i files) trees line bytes tree all is in
+    rw (front_more lines i line a is_line, front_more files i bytes b is_file) more
+
+pub read_more : (lines : List FileLine) (files : List (List ℕ)) (old new : Trees) (i : ℕ) (line : FileLine) (bytes lent : List ℕ)
+    → i < length lines → i < length files → line ≡ get_or lines i line → bytes ≡ get_or files i bytes → lent ≡ bytes
+    → ReadSoFar lines files i old → ReadsFile line lent old new (Ok tt) → ReadSoFar lines files (i + 1) new
+read_more lines files old new i line bytes lent a b is_line is_file same read (of_export tree, is, puts) =
+    let here = subst (λ (x : List ℕ). FileIs line x (of_export tree)) same is in
+    let at : FileAt lines files i = record { line = line; bytes = bytes; is_line = item_at lines i line a is_line; is_file = item_at files i bytes b is_file } in
+    rw puts (record {
+      are_read = record {
+        trees = read.are_read.trees ++ of_export tree ∷ [];
+        spelt = spelt_more lines files read.are_read.trees i line bytes (of_export tree) a b is_line is_file here read.are_read.spelt;
+        classes = read.are_read.classes ∙ sym (append-nil (classes_of read.are_read.trees)) ∙ sym (classes_more read.are_read.trees (of_export tree));
+        exports = ap (λ es. es ++ tree ∷ []) read.are_read.exports ∙ sym (exports_more read.are_read.trees (of_export tree));
+        codes = read.are_read.codes;
+      };
+      count = let few = read.count in omega arith;
+      unsupported = foreign_passed lines files i at is.0 old.unsupported read.unsupported;
+    })
+read_more lines files old new i line bytes lent a b is_line is_file same read (of_class tree, is, (unsupported, first, puts)) =
+    let here = subst (λ (x : List ℕ). FileIs line x (of_class tree)) same is in
+    let at : FileAt lines files i = record { line = line; bytes = bytes; is_line = item_at lines i line a is_line; is_file = item_at files i bytes b is_file } in
+    rw puts (record {
+      are_read = record {
+        trees = read.are_read.trees ++ of_class tree ∷ [];
+        spelt = spelt_more lines files read.are_read.trees i line bytes (of_class tree) a b is_line is_file here read.are_read.spelt;
+        classes = ap (λ cs. cs ++ tree ∷ []) read.are_read.classes ∙ sym (classes_more read.are_read.trees (of_class tree));
+        exports = read.are_read.exports ∙ sym (append-nil (exports_of read.are_read.trees)) ∙ sym (exports_more read.are_read.trees (of_class tree));
+        codes = ap (λ cs. cs ++ codes_of_methods (length old.classes) 0 tree tree.methods) read.are_read.codes ∙ sym (codes_more old.classes tree);
+      };
+      count = let few = read.count in let size = length-append old.classes (tree ∷ []) in omega (arith, size);
+      unsupported = foreign_more lines files i at tree here.0 here.1 old.unsupported unsupported read.unsupported first;
+    })
+
+pub read_stops : (lines : List FileLine) (files : List (List ℕ)) (old new : Trees) (i : ℕ) (line : FileLine) (bytes lent : List ℕ) (e : Fault)
+    → i < length lines → i < length files → line ≡ get_or lines i line → bytes ≡ get_or files i bytes → lent ≡ bytes
+    → ReadSoFar lines files i old → ReadsFile line lent old new (Err e) → ReadsFiles lines files (Err e)
+read_stops lines files old new i line bytes lent (faults.Refused r) a b is_line is_file is read first =
+    let here = subst (λ (x : List ℕ). IsFirstInFile line x r) is first in
+    first_of_all lines files read.are_read.trees i (record { line = line; bytes = bytes; is_line = item_at lines i line a is_line; is_file = item_at files i bytes b is_file }) r read.are_read.spelt here
+read_stops lines files old new i line bytes lent faults.NoMemory a b is_line is_file is read first = tt
+
+pub all_read : (lines : List FileLine) (files : List (List ℕ)) (read : Trees) (i : ℕ) → length lines ≤ i → i ≤ length lines → length files ≡ length lines → ReadSoFar lines files i read → AllRead lines files read
+all_read lines files read i low high count r =
+    let same : i ≡ length lines = omega arith in
+    let ls : take i lines ≡ lines = take_all i lines low in
+    let fs : take i files ≡ files = take_all i files (omega arith) in
+    record {
+      are_read = subst (λ (l : List FileLine). AreRead l files read) ls (subst (λ (f : List (List ℕ)). AreRead (take i lines) f read) fs r.are_read);
+      unsupported = subst (λ n. FirstForeign lines files n read.unsupported) same r.unsupported;
+    }
+
+-- the line of a class file
+pub as_class : (line : FileLine) (bytes : List ℕ) (old new : Trees) (result : Result Unit Fault) → line.class_file ≡ true → (name : List ℕ) → name ≡ line.name
+    → ReadsFile (record { class_file = true; name = name }) bytes old new result → ReadsFile line bytes old new result
+as_class line bytes old new result is name same h =
+    let here = subst (λ (n : List ℕ). ReadsFile (record { class_file = true; name = n }) bytes old new result) same h in
+    subst (λ (b : Bool). ReadsFile (record { class_file = b; name = line.name }) bytes old new result) (sym is) here
+
+-- a class file that is read, with its codes
+pub class_read : (name bytes : List ℕ) (old : Trees) (tree : ClassTree) (items classes : List ClassTree) (codes : List MethodCode) (u before after : Option Refusal) → FileSpells class_file tree bytes → items ≡ old.classes
+    → DecodesClass name (length items) tree old.codes codes (Ok u) → classes ≡ old.classes ++ tree ∷ [] → before ≡ old.unsupported → after ≡ earlier before u
+    → ReadsFile (record { class_file = true; name = name }) bytes old (record { classes = classes; exports = old.exports; codes = codes; unsupported = after }) (Ok tt)
+class_read name bytes old tree items classes codes u before after spelt same decoded pushed taken joined =
+    let with : List ClassTree → List MethodCode → Option Refusal → Trees = λ cs ms o. record { classes = cs; exports = old.exports; codes = ms; unsupported = o } in
+    let put = old.classes ++ tree ∷ [] in
+    let own = old.codes ++ codes_of_methods (length old.classes) 0 tree tree.methods in
+    let numbered = decoded.0 ∙ ap (λ (ts : List ClassTree). old.codes ++ codes_of_methods (length ts) 0 tree tree.methods) same in
+    let first = joined ∙ ap (λ o. earlier o u) taken in (
+      of_class tree,
+      (refl, spelt, decoded.2),
+      (u, decoded.1, ap (λ cs. with cs codes after) pushed ∙ ap (λ ms. with put ms after) numbered ∙ ap (λ o. with put own o) first),
+    )
+
+pub export_read : (line : FileLine) (bytes : List ℕ) (old : Trees) (tree : ExportTree) (exports : List ExportTree) → line.class_file ≡ false → FileSpells export_file tree bytes → exports ≡ old.exports ++ tree ∷ []
+    → ReadsFile line bytes old (record { classes = old.classes; exports = exports; codes = old.codes; unsupported = old.unsupported }) (Ok tt)
+export_read line bytes old tree exports is spelt pushed = (of_export tree, (is, spelt), ap (λ (es : List ExportTree). let t : Trees = record { classes = old.classes; exports = es; codes = old.codes; unsupported = old.unsupported } in t) pushed)

@@ -1,0 +1,151 @@
+//! The files of a list, read in list order: each is a class file, whose methods are decoded, or an export
+//! file, or breaks a rule by itself.
+
+ghost use Rattle.std.specs.Prelude.{◌≡◌, ◌<◌, length, true};
+ghost use Rattle.cjc_code.specs.Decoded.{HasCode};
+ghost use Rattle.cjc_classfile.specs.Fits.{ClassFits};
+ghost use Rattle.cjc_convert.specs.Conversion.{AreFiles};
+ghost use Rattle.cjc_convert.specs.Trees.{earlier as earlier_of, DecodesMethod, DecodesClass, ReadsFile, ReadsFiles};
+
+use cjc_bytes::{Bytes, Fault, FileLine, Refusal, Row};
+use cjc_classfile::ClassTree;
+use cjc_code::{Codes, MethodCode, decode};
+use cjc_export::ExportTree;
+use std::alloc::Global;
+
+/// What the files of a list spell, the classes and the export files each in list order.
+#[derive(Drop)]
+pub(crate) struct Trees<'a> {
+    pub(crate) classes: Row<ClassTree<'a>>,
+    pub(crate) exports: Row<ExportTree>,
+    /// The instructions of each method that breaks neither 103 nor 303.
+    pub(crate) codes: Codes,
+    /// The first refusal by rule 303, which rules of the hundreds before it come before.
+    pub(crate) unsupported: Option<Refusal>,
+}
+
+// Decodes a method onto the codes that there are. The answer is its refusal by rule 303, if it breaks that, and a
+// refusal by rule 103 is an error.
+fn decode_method(
+    alloc: Global,
+    file: &[u8],
+    number: u32,
+    class: &ClassTree<'_>,
+    method: u32,
+    codes: &mut Codes,
+) -> Result<Option<Refusal>, Fault>
+    requires { HasCode class.now method }
+    ensures { DecodesMethod file.now number class.now method codes.old codes.new result }
+{
+    match decode(alloc, file, class, method) {
+        Ok(insns) => {
+            codes.push(MethodCode {
+                class: number,
+                method,
+                insns,
+            })?;
+            Ok(None)
+        }
+        Err(Fault::Refused(refusal)) => {
+            if refusal.rule.0 == 303 {
+                Ok(Some(refusal))
+            } else {
+                Err(Fault::Refused(refusal))
+            }
+        }
+        Err(Fault::NoMemory) => Err(Fault::NoMemory),
+    }
+}
+
+// The first of two, where there is one.
+fn earlier(first: Option<Refusal>, second: Option<Refusal>) -> Option<Refusal>
+    ensures { result ≡ earlier_of first second }
+{
+    if first.is_some() { first } else { second }
+}
+
+// Decodes the methods of a class onto the codes that there are. The answer is the first refusal by rule 303,
+// if there is one, and a refusal by rule 103 is an error.
+fn decode_class(
+    alloc: Global,
+    file: &[u8],
+    number: u32,
+    class: &ClassTree<'_>,
+    codes: &mut Codes,
+) -> Result<Option<Refusal>, Fault>
+    requires { ClassFits class.now }
+    ensures { DecodesClass file.now number class.now codes.old codes.new result }
+{
+    let mut unsupported = None;
+    for (method, tree) in class.methods.items().iter().enumerate() {
+        if tree.code.is_some() {
+            let refusal = decode_method(alloc, file, number, class, method as u32, codes)?;
+            unsupported = earlier(unsupported, refusal);
+        }
+    }
+    Ok(unsupported)
+}
+
+// Reads a class file onto what was read before.
+fn read_class<'a>(
+    alloc: Global,
+    name: &[u8],
+    bytes: &'a [u8],
+    trees: &mut Trees<'a>,
+) -> Result<(), Fault>
+    requires length { length bytes.now < 4294967296 }
+    requires room { length trees.old.classes < 4294967296 }
+    ensures { ReadsFile (record { class_file = true; name = name.now }) bytes.now trees.old trees.new result }
+{
+    let class = cjc_classfile::read(alloc, name, bytes)?;
+    let number = trees.classes.items().len() as u32;
+    let unsupported = decode_class(alloc, name, number, &class, &mut trees.codes)?;
+    trees.classes.push(class)?;
+    let before = trees.unsupported.take();
+    trees.unsupported = earlier(before, unsupported);
+    Ok(())
+}
+
+// Reads the file of a line onto what was read before, or answers the first rule that the file breaks.
+fn read_file<'a>(
+    alloc: Global,
+    line: &FileLine,
+    bytes: &'a [u8],
+    trees: &mut Trees<'a>,
+) -> Result<(), Fault>
+    requires length { length bytes.now < 4294967296 }
+    requires room { length trees.old.classes < 4294967296 }
+    ensures { ReadsFile line.now bytes.now trees.old trees.new result }
+{
+    if line.class_file {
+        read_class(alloc, line.name.items(), bytes, trees)
+    } else {
+        trees
+            .exports
+            .push(cjc_export::read(alloc, line.name.items(), bytes)?)?;
+        Ok(())
+    }
+}
+
+/// What the files of a list spell, or the first rule that one of them breaks.
+pub(crate) fn read_files<'a>(
+    alloc: Global,
+    lines: &[FileLine],
+    files: &'a [Bytes],
+) -> Result<Trees<'a>, Fault>
+    requires few { length lines.now < 4294967296 }
+    requires count { length files.now ≡ length lines.now }
+    requires files { AreFiles files.now }
+    ensures { ReadsFiles lines.now files.now result }
+{
+    let mut trees = Trees {
+        classes: Row::new(alloc),
+        exports: Row::new(alloc),
+        codes: Row::new(alloc),
+        unsupported: None,
+    };
+    for (at, line) in lines.iter().enumerate() {
+        read_file(alloc, line, files[at].items(), &mut trees)?;
+    }
+    Ok(trees)
+}
