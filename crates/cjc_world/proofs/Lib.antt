@@ -10,3 +10,4 @@ pub mod Heads
 pub mod Indexing
 pub mod Upwards
 pub mod Sorted
+pub mod Unbroken

@@ -1,6 +1,7 @@
 -- What stands above the classes of a world (Java Virtual Machine Specification, section 5.4): superclasses and
 -- superinterfaces over steps, as a relation and as a tree.
 use Rattle.std.specs.Prelude.{◌≡◌, ℕ, zero, suc, List, [], ◌∷◌, ◌++◌, length, Bool, true, false, ◌||◌, Option, Some, None}
+use Rattle.std.specs.List.{list_any}
 use Rattle.std.specs.Str.{bytes_eq}
 use Rattle.cjc_world.specs.Classes.{Class, class_named}
 
@@ -78,3 +79,7 @@ upwards (Known c supers interfaces next) = c ∷ upwards supers ++ upwards next
 -- the class of a name and its superclasses
 unfoldable pub line : List Class → List ℕ → List Class
 line w name = upwards (kin w (name ∷ []))
+
+-- the second is the first, or a superclass of it
+unfoldable pub is_below : List Class → (sub sup : List ℕ) → Bool
+is_below w sub sup = list_any (λ c. bytes_eq c.name sup) (line w sub)

@@ -12,7 +12,7 @@ use Rattle.cjc_classfile.specs.declared.tree.ClassTree.{ClassTree}
 use Rattle.cjc_export.specs.declared.tree.ExportTree.{ExportTree}
 use Rattle.cjc_world.specs.Files.{Files}
 use Rattle.cjc_world.specs.Classes.{Member, Class, declared, numbered, size, is_interface, all_classes, class_named}
-use Rattle.cjc_world.specs.Kin.{stands_above, line}
+use Rattle.cjc_world.specs.Kin.{stands_above, is_below}
 use Rattle.cjc_world.specs.Lookup.{is_called, object}
 use Rattle.cjc_bytes.specs.Order.{Rank, NotAfter}
 
@@ -102,10 +102,6 @@ has_class t name = list_any (λ c. bytes_eq c.name name) t.classes
 
 abbrev pub throwable : List ℕ
 throwable = codes "java/lang/Throwable"
-
--- the second is the first, or a superclass of it
-unfoldable pub is_below : List Class → List ℕ → List ℕ → Bool
-is_below w sub sup = list_any (λ c. bytes_eq c.name sup) (line w sub)
 
 abbrev pub has_exception : List Class → ExportTree → List ℕ → Bool
 has_exception w t name = has_class t name && is_below w name throwable

@@ -1,8 +1,10 @@
 //! What holds of look-up, selection and subtypes, for every caller. Nothing here runs.
 
-ghost use Rattle.std.specs.Prelude.{◌≡◌, ℕ, List};
-ghost use Rattle.cjc_world.specs.Classes.{Class};
+ghost use Rattle.std.specs.Prelude.{◌≡◌, ℕ, List, []};
+ghost use Rattle.cjc_world.specs.Classes.{Class, all_classes};
+ghost use Rattle.cjc_world.specs.Files.{Files};
 ghost use Rattle.cjc_world.specs.Kin.{IsAcyclic, IsKin, Kin, StandsWhereAbove, kin};
+ghost use Rattle.cjc_world.specs.Rules.{breaks};
 ghost use Rattle.cjc_world.specs.Laws.{IsReflexive, IsTransitive, LineGoesUp, LookupGoesUp, SelectionGoesUp};
 
 /// In every world, one with cycles too: one class stands above another exactly where its name stands in the tree,
@@ -13,9 +15,10 @@ pub fn subtype_laws()
     ensures transitive { (w : List Class) → IsTransitive w }
 {}
 
-/// Without cycles there is one tree of what stands above some names, and `kin` is it. Look-up and selection from
+/// A package that breaks no rule has no cycles. Without cycles there is one tree of what stands above some names, and `kin` is it. Look-up and selection from
 /// a class go through its superclass.
 pub fn lookup_laws()
+    ensures acyclic { (list : List ℕ) (files : Files) → breaks list files ≡ [] → IsAcyclic (all_classes files) }
     ensures is_kin { (w : List Class) → IsAcyclic w → (xs : List (List ℕ)) → IsKin w xs (kin w xs) }
     ensures one_kin { (w : List Class) (xs : List (List ℕ)) (j k : Kin) → IsKin w xs j → IsKin w xs k → j ≡ k }
     ensures line { (w : List Class) → IsAcyclic w → LineGoesUp w }

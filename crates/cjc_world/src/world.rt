@@ -2,9 +2,9 @@
 
 ghost use Rattle.std.specs.Prelude.{◌≡◌, suc, [], ◌∷◌, length, false, option_map, IfSome, IfNone, IfOk, IfErr, OnOk};
 ghost use Rattle.cjc_world.specs.Classes.{all_classes, class_named};
-ghost use Rattle.cjc_world.specs.Kin.{grown, kin, upwards, stands, stands_above};
+ghost use Rattle.cjc_world.specs.Kin.{grown, is_below, kin, upwards, stands, stands_above};
 ghost use Rattle.cjc_world.specs.Files.{files_of};
-ghost use Rattle.cjc_world.specs.Rules.{breaks, is_below, IsFirstRefusal};
+ghost use Rattle.cjc_world.specs.Rules.{breaks, IsFirstRefusal};
 ghost use Rattle.std.specs.List.{list_any};
 ghost use Rattle.std.specs.Str.{bytes_eq};
 ghost use Rattle.cjc_world.specs.Interfaces.{gathered, known};
@@ -309,7 +309,7 @@ impl<'a> World<'a> {
     }
 
     /// Whether a class is a superclass of another, or the class itself.
-    #[tactic(auto, unfolding(crate::specs::Rules::is_below, crate::specs::Kin::line, crate::specs::Kin::kin))]
+    #[tactic(auto, unfolding(crate::specs::Kin::is_below, crate::specs::Kin::line, crate::specs::Kin::kin))]
     pub(crate) fn is_below(&self, sub: &[u8], sup: &[u8]) -> bool
         ensures { result ≡ is_below (all_classes self.now) sub.now sup.now }
     {

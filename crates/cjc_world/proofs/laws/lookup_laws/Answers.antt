@@ -1,6 +1,10 @@
 use Rattle.cjc_world.proofs.Settled.{kin-IsKin, IsKin-one}
+use Rattle.cjc_world.proofs.Unbroken.{unbroken_is_acyclic}
 use Rattle.cjc_world.proofs.Upwards.{line_goes_up, selection_goes_up, lookup_goes_up}
 use Rattle.cjc_world.proofs.laws.lookup_laws.Goals as goal
+
+pub returns-clause-acyclic : goal.returns-clause-acyclic
+returns-clause-acyclic c = unbroken_is_acyclic
 
 pub returns-clause-is_kin : goal.returns-clause-is_kin
 returns-clause-is_kin c = kin-IsKin
