@@ -13,3 +13,6 @@ mod world;
 pub use found::Found;
 pub use laws::{lookup_laws, subtype_laws};
 pub use world::World;
+
+#[cfg(test)]
+mod tests;

@@ -1,0 +1,587 @@
+//! Look-up, selection and subtypes in one world of package and imported classes, and one broken package a rule.
+
+use crate::{Found, World};
+use cjc_bytes::{Bytes, Fault, FileLine, MemberId, NoMemory, Row, Rule};
+use cjc_classfile::{ClassTree, FieldTree, MethodTree};
+use cjc_export::{ExportClass, ExportField, ExportMethod, ExportTree};
+use std::alloc::Global;
+use std::test::*;
+
+/// The flags, the name and the descriptor of a field or method.
+type Member<'t> = (u16, &'t [u8], &'t [u8]);
+
+const OBJECT: &[u8] = b"java/lang/Object";
+
+const THROWABLE: &[u8] = b"java/lang/Throwable";
+
+const EQUALS: &[u8] = b"(Ljava/lang/Object;)Z";
+
+/// The exceptions that java/lang needs, each below Throwable.
+const EXCEPTIONS: [&[u8]; 6] = [
+    b"java/lang/ArrayIndexOutOfBoundsException",
+    b"java/lang/ArrayStoreException",
+    b"java/lang/NegativeArraySizeException",
+    b"java/lang/ArithmeticException",
+    b"java/lang/ClassCastException",
+    b"java/lang/NullPointerException",
+];
+
+/// What a world is made of.
+#[derive(Drop)]
+struct Draft<'a> {
+    lines: Row<FileLine>,
+    classes: Row<ClassTree<'a>>,
+    exports: Row<ExportTree>,
+}
+
+fn copies(alloc: Global, names: &[&[u8]]) -> Result<Row<Bytes>, NoMemory> {
+    let mut row = Row::new(alloc);
+    for name in names {
+        row.push(Bytes::copy_of(alloc, name)?)?;
+    }
+    Ok(row)
+}
+
+/// An imported class or interface.
+fn imported(
+    alloc: Global,
+    flags: u16,
+    name: &[u8],
+    supers: &[&[u8]],
+    interfaces: &[&[u8]],
+    fields: &[Member<'_>],
+    methods: &[Member<'_>],
+) -> Result<ExportClass, NoMemory> {
+    let mut field_row = Row::new(alloc);
+    for (flags, name, desc) in fields {
+        field_row.push(ExportField {
+            token: 0xFF,
+            flags: *flags,
+            name: Bytes::copy_of(alloc, name)?,
+            desc: Bytes::copy_of(alloc, desc)?,
+            constant: Some(1),
+        })?;
+    }
+    let mut row = Row::new(alloc);
+    for (flags, name, desc) in methods {
+        row.push(ExportMethod {
+            token: 0,
+            flags: *flags,
+            name: Bytes::copy_of(alloc, name)?,
+            desc: Bytes::copy_of(alloc, desc)?,
+        })?;
+    }
+    Ok(ExportClass {
+        token: 0,
+        flags,
+        name: Bytes::copy_of(alloc, name)?,
+        supers: copies(alloc, supers)?,
+        interfaces: copies(alloc, interfaces)?,
+        fields: field_row,
+        methods: row,
+    })
+}
+
+impl<'a> Draft<'a> {
+    fn new(alloc: Global) -> Draft<'a> {
+        Draft {
+            lines: Row::new(alloc),
+            classes: Row::new(alloc),
+            exports: Row::new(alloc),
+        }
+    }
+
+    /// Another class file, named like the class.
+    fn class(
+        &mut self,
+        alloc: Global,
+        flags: u16,
+        name: &[u8],
+        superclass: &[u8],
+        interfaces: &[&[u8]],
+        fields: &[Member<'_>],
+        methods: &[Member<'_>],
+    ) -> Result<(), NoMemory> {
+        let mut field_row = Row::new(alloc);
+        for (flags, name, desc) in fields {
+            field_row.push(FieldTree {
+                flags: *flags,
+                name: Bytes::copy_of(alloc, name)?,
+                desc: Bytes::copy_of(alloc, desc)?,
+                constant: None,
+            })?;
+        }
+        let mut method_row = Row::new(alloc);
+        for (flags, name, desc) in methods {
+            method_row.push(MethodTree {
+                flags: *flags,
+                name: Bytes::copy_of(alloc, name)?,
+                desc: Bytes::copy_of(alloc, desc)?,
+                code: None,
+                attributes: 0,
+            })?;
+        }
+        self.lines.push(FileLine {
+            class_file: true,
+            name: Bytes::copy_of(alloc, name)?,
+        })?;
+        self.classes.push(ClassTree {
+            major: 52,
+            flags,
+            name: Bytes::copy_of(alloc, name)?,
+            superclass: Bytes::copy_of(alloc, superclass)?,
+            interfaces: copies(alloc, interfaces)?,
+            pool: Row::new(alloc),
+            fields: field_row,
+            methods: method_row,
+            attributes: 0,
+        })
+    }
+
+    /// Another export file, named like the package.
+    fn export(
+        &mut self,
+        alloc: Global,
+        name: &[u8],
+        classes: Row<ExportClass>,
+    ) -> Result<(), NoMemory> {
+        self.lines.push(FileLine {
+            class_file: false,
+            name: Bytes::copy_of(alloc, name)?,
+        })?;
+        self.exports.push(ExportTree {
+            name: Bytes::copy_of(alloc, name)?,
+            aid: Bytes::new(alloc),
+            major: 1,
+            minor: 0,
+            library: true,
+            classes,
+        })
+    }
+
+    /// java/lang: Object, Throwable below a class of this name, and the exceptions but for so many at the end.
+    fn language(&mut self, alloc: Global, above: &[u8], missing: usize) -> Result<(), NoMemory> {
+        let mut row = Row::new(alloc);
+        row.push(imported(alloc, 1, OBJECT, &[], &[], &[], &[(1, b"equals", EQUALS)])?)?;
+        row.push(imported(alloc, 1, THROWABLE, &[OBJECT], &[], &[], &[])?)?;
+        for name in &EXCEPTIONS[..6usize.saturating_sub(missing)] {
+            row.push(imported(alloc, 1, name, &[above, OBJECT], &[], &[], &[])?)?;
+        }
+        self.export(alloc, b"java/lang", row)
+    }
+
+    fn world(self, alloc: Global) -> Result<World<'a>, Fault> {
+        let Draft {
+            lines,
+            classes,
+            exports,
+        } = self;
+        World::new(alloc, b"list", b"p", lines, classes, exports)
+    }
+}
+
+/// The world of look-up. Classes of the package: p/K, p/L, p/R, p/A and p/B, at 0 to 4. Classes of q: q/I, q/J,
+/// q/Base, q/Deep and q/Odd, at 8 to 12, behind the eight of java/lang.
+fn mixed<'a>(alloc: Global) -> Result<World<'a>, Fault> {
+    let mut draft = Draft::new(alloc);
+    draft.class(
+        alloc,
+        0x0601,
+        b"p/K",
+        OBJECT,
+        &[],
+        &[(0x19, b"x", b"S"), (0x19, b"z", b"S")],
+        &[(0x0401, b"k", b"()V")],
+    )?;
+    draft.language(alloc, THROWABLE, 0)?;
+    draft.class(
+        alloc,
+        0x0601,
+        b"p/L",
+        OBJECT,
+        &[b"p/K"],
+        &[(0x19, b"y", b"S")],
+        &[],
+    )?;
+    draft.class(
+        alloc,
+        0x0601,
+        b"p/R",
+        OBJECT,
+        &[b"p/K"],
+        &[(0x19, b"x", b"B"), (0x19, b"y", b"S")],
+        &[(0x0401, b"k", b"()V"), (0x0401, b"r", b"()S")],
+    )?;
+    let i: &[u8] = b"q/I";
+    let j: &[u8] = b"q/J";
+    let base: &[u8] = b"q/Base";
+    let mut row = Row::new(alloc);
+    row.push(imported(
+        alloc,
+        0x0601,
+        i,
+        &[OBJECT],
+        &[],
+        &[(0x19, b"c", b"S")],
+        &[(0x0401, b"i", b"()V")],
+    )?)?;
+    row.push(imported(
+        alloc,
+        0x0601,
+        j,
+        &[OBJECT],
+        &[i],
+        &[],
+        &[(0x0401, b"i", b"()V")],
+    )?)?;
+    row.push(imported(
+        alloc,
+        1,
+        base,
+        &[OBJECT],
+        &[j, i],
+        &[],
+        &[(1, b"m", b"()V"), (1, b"n", b"()V"), (1, b"equals", EQUALS)],
+    )?)?;
+    row.push(imported(alloc, 1, b"q/Deep", &[base, OBJECT], &[j, i], &[], &[])?)?;
+    row.push(imported(alloc, 1, b"q/Odd", &[OBJECT, base], &[j, i], &[], &[])?)?;
+    draft.export(alloc, b"q", row)?;
+    draft.class(
+        alloc,
+        0x21,
+        b"p/A",
+        base,
+        &[],
+        &[(1, b"x", b"S")],
+        &[(2, b"m", b"()V"), (9, b"n", b"()V"), (1, b"o", b"()V")],
+    )?;
+    draft.class(
+        alloc,
+        0x21,
+        b"p/B",
+        b"p/A",
+        &[b"p/L", b"p/R"],
+        &[],
+        &[(1, b"b", b"()S")],
+    )?;
+    draft.world(alloc)
+}
+
+fn member(alloc: Global, class: &[u8], name: &[u8], desc: &[u8]) -> Result<MemberId, NoMemory> {
+    Ok(MemberId {
+        class: Bytes::copy_of(alloc, class)?,
+        name: Bytes::copy_of(alloc, name)?,
+        desc: Bytes::copy_of(alloc, desc)?,
+    })
+}
+
+/// A name, a descriptor or a class, and what is found: whether it is imported, its class and its place there.
+type Case<'t> = (&'t [u8], &'t [u8], &'t [u8], Option<(bool, u32, u32)>);
+
+fn found(place: Option<(bool, u32, u32)>) -> Option<Found> {
+    match place {
+        Some((imported, class, member)) => Some(Found {
+            imported,
+            class,
+            member,
+        }),
+        None => None,
+    }
+}
+
+#[test]
+fn fields(rt: HostRuntime) -> Result<(), Fail> {
+    let world = mixed(rt.alloc()).ok().ok_or("a world")?;
+    let cases: [Case<'_>; 10] = [
+        (b"p/A", b"x", b"S", Some((false, 3, 0))),
+        (b"p/B", b"x", b"S", Some((false, 0, 0))), // an interface's before the superclass's
+        (b"p/B", b"x", b"B", Some((false, 2, 0))),
+        (b"p/B", b"y", b"S", Some((false, 1, 0))), // the first interface's
+        (b"p/B", b"z", b"S", Some((false, 0, 1))),
+        (b"p/B", b"c", b"S", Some((true, 8, 0))),
+        (b"q/Deep", b"c", b"S", Some((true, 8, 0))),
+        (b"p/B", b"w", b"S", None),
+        (b"p/No", b"x", b"S", None),
+        (b"[S", b"x", b"S", None),
+    ];
+    for (class, name, desc, place) in cases {
+        let id = member(rt.alloc(), class, name, desc).ok().ok_or("an id")?;
+        assert!(rt; world.find_field(&id) == found(place));
+    }
+    Ok(())
+}
+
+#[test]
+fn methods(rt: HostRuntime) -> Result<(), Fail> {
+    let world = mixed(rt.alloc()).ok().ok_or("a world")?;
+    let cases: [Case<'_>; 14] = [
+        (b"p/B", b"b", b"()S", Some((false, 4, 0))),
+        (b"p/B", b"m", b"()V", Some((false, 3, 1))),
+        (b"p/B", b"n", b"()V", Some((false, 3, 2))),
+        (b"p/B", b"k", b"()V", Some((false, 0, 2))), // above p/L, before p/R
+        (b"p/R", b"k", b"()V", Some((false, 2, 2))),
+        (b"p/B", b"r", b"()S", Some((false, 2, 3))),
+        (b"p/B", b"i", b"()V", Some((true, 8, 1))), // above q/J, before it
+        (b"q/J", b"i", b"()V", Some((true, 9, 0))),
+        (b"p/B", b"equals", EQUALS, Some((true, 10, 2))),
+        (b"q/Deep", b"equals", EQUALS, Some((true, 10, 2))),
+        (b"q/Odd", b"equals", EQUALS, Some((true, 0, 0))), // supers in the order of the file
+        (b"p/K", b"equals", EQUALS, Some((true, 0, 0))),
+        (b"p/B", b"m", b"()S", None),
+        (b"p/No", b"equals", EQUALS, None),
+    ];
+    for (class, name, desc, place) in cases {
+        let id = member(rt.alloc(), class, name, desc).ok().ok_or("an id")?;
+        assert!(rt; world.find_method(&id) == found(place));
+    }
+    Ok(())
+}
+
+#[test]
+fn selections(rt: HostRuntime) -> Result<(), Fail> {
+    let world = mixed(rt.alloc()).ok().ok_or("a world")?;
+    let cases: [Case<'_>; 8] = [
+        (b"p/B", b"b", b"()S", Some((false, 4, 0))),
+        (b"p/B", b"m", b"()V", Some((true, 10, 0))), // past a private method
+        (b"p/B", b"n", b"()V", Some((true, 10, 1))), // past a static method
+        (b"p/B", b"o", b"()V", Some((false, 3, 3))),
+        (b"p/B", b"k", b"()V", None), // an interface's
+        (b"[S", b"equals", EQUALS, Some((true, 0, 0))),
+        (b"[Lp/A;", b"equals", EQUALS, Some((true, 0, 0))),
+        (b"p/No", b"equals", EQUALS, None),
+    ];
+    for (class, name, desc, place) in cases {
+        let id = member(rt.alloc(), b"p/A", name, desc).ok().ok_or("an id")?;
+        assert!(rt; world.selected(class, &id) == found(place));
+    }
+    Ok(())
+}
+
+#[test]
+fn subtypes(rt: HostRuntime) -> Result<(), Fail> {
+    let world = mixed(rt.alloc()).ok().ok_or("a world")?;
+    let cases: [(&[u8], &[u8], bool); 20] = [
+        (b"p/B", b"p/B", true),
+        (b"p/B", b"p/A", true),
+        (b"p/B", b"p/K", true),
+        (b"p/B", b"q/I", true),
+        (b"p/B", OBJECT, true),
+        (b"p/K", OBJECT, true),
+        (b"q/Deep", b"q/J", true),
+        (b"p/A", b"p/B", false),
+        (b"p/A", b"p/L", false),
+        (b"p/L", b"p/R", false),
+        (OBJECT, b"p/A", false),
+        (b"[S", OBJECT, true),
+        (b"[S", b"[S", true),
+        (b"[S", b"[B", false),
+        (b"[Lp/B;", b"[Lp/K;", true),
+        (b"[Lp/K;", b"[Lp/B;", false),
+        (b"[S", b"[Ljava/lang/Object;", false),
+        (b"[S", b"p/A", false),
+        (OBJECT, b"[S", false),
+        (b"p/No", OBJECT, false),
+    ];
+    for (sub, sup, is_subtype) in cases {
+        assert!(rt; world.subtype(sub, sup) == is_subtype);
+    }
+    Ok(())
+}
+
+fn is_refused(
+    world: Result<World<'_>, Fault>,
+    rule: u16,
+    file: &[u8],
+    class: &[u8],
+    member: &[u8],
+) -> bool {
+    match world {
+        Err(Fault::Refused(refusal)) => {
+            let Rule(number) = refusal.rule;
+            number == rule
+                && refusal.place.file.items() == file
+                && refusal.place.class.items() == class
+                && refusal.place.member.items() == member
+                && refusal.place.offset == 0
+        }
+        _ => false,
+    }
+}
+
+/// A class p/A below Object with one field or method beside java/lang.
+fn with_member<'a>(
+    alloc: Global,
+    fields: &[Member<'_>],
+    methods: &[Member<'_>],
+) -> Result<World<'a>, Fault> {
+    let mut draft = Draft::new(alloc);
+    draft.language(alloc, THROWABLE, 0)?;
+    draft.class(alloc, 0x21, b"p/A", OBJECT, &[], fields, methods)?;
+    draft.world(alloc)
+}
+
+/// A class p/A, and one with these flags, this name, superclass and interface, beside java/lang.
+fn with_class<'a>(
+    alloc: Global,
+    flags: u16,
+    name: &[u8],
+    superclass: &[u8],
+    interface: &[u8],
+) -> Result<World<'a>, Fault> {
+    let mut draft = Draft::new(alloc);
+    draft.class(alloc, 0x21, b"p/A", OBJECT, &[], &[], &[])?;
+    draft.class(alloc, 0x0601, b"p/I", OBJECT, &[], &[], &[])?;
+    draft.class(alloc, flags, name, superclass, &[interface], &[], &[])?;
+    draft.language(alloc, THROWABLE, 0)?;
+    draft.world(alloc)
+}
+
+#[test]
+fn broken_classes(rt: HostRuntime) {
+    let alloc = rt.alloc();
+    assert!(rt; with_class(alloc, 1, b"p/B", b"p/A", b"p/I").is_ok());
+    let cases: [(u16, &[u8], &[u8], &[u8], u16); 12] = [
+        (1, b"q/B", b"p/A", b"p/I", 201),
+        (1, b"p/q/B", b"p/A", b"p/I", 201),
+        (1, b"p/", b"p/A", b"p/I", 201),
+        (1, b"p/A", OBJECT, b"p/I", 202),
+        (1, b"p/B", b"p/No", b"p/I", 203),
+        (1, b"p/B", b"p/A", b"p/No", 203),
+        (1, b"p/B", b"p/B", b"p/I", 204),
+        (0x0601, b"p/B", OBJECT, b"p/B", 204),
+        (1, b"p/B", b"p/I", b"p/I", 208),
+        (1, b"p/B", b"p/A", b"p/A", 208),
+        (0x0601, b"p/B", b"p/A", b"p/I", 208),
+        (1, b"q/B", b"p/No", b"p/A", 201), // the least of three
+    ];
+    for (flags, name, superclass, interface, rule) in cases {
+        assert!(rt;
+            is_refused(
+                with_class(alloc, flags, name, superclass, interface),
+                rule,
+                name,
+                name,
+                b""
+            )
+        );
+    }
+}
+
+#[test]
+fn broken_members(rt: HostRuntime) {
+    let alloc = rt.alloc();
+    let field: Member<'_> = (1, b"x", b"[Lp/A;");
+    let method: Member<'_> = (1, b"m", b"(Lp/A;)V");
+    assert!(rt; with_member(alloc, &[field], &[method]).is_ok());
+    assert!(rt;
+        is_refused(
+            with_member(alloc, &[field, field], &[method, method]),
+            202,
+            b"p/A",
+            b"p/A",
+            b"x:[Lp/A;"
+        )
+    );
+    assert!(rt;
+        is_refused(
+            with_member(alloc, &[field], &[method, method]),
+            202,
+            b"p/A",
+            b"p/A",
+            b"m(Lp/A;)V"
+        )
+    );
+    assert!(rt;
+        is_refused(
+            with_member(alloc, &[(1, b"x", b"Lp/B;")], &[]),
+            203,
+            b"p/A",
+            b"p/A",
+            b"x:Lp/B;"
+        )
+    );
+    assert!(rt;
+        is_refused(
+            with_member(alloc, &[field], &[(1, b"m", b"()[Lp/B;")]),
+            203,
+            b"p/A",
+            b"p/A",
+            b"m()[Lp/B;"
+        )
+    );
+}
+
+/// Two classes that are below each other.
+fn cycle<'a>(alloc: Global) -> Result<World<'a>, Fault> {
+    let mut draft = Draft::new(alloc);
+    draft.language(alloc, THROWABLE, 0)?;
+    draft.class(alloc, 1, b"p/A", b"p/B", &[], &[], &[])?;
+    draft.class(alloc, 1, b"p/B", b"p/A", &[], &[], &[])?;
+    draft.world(alloc)
+}
+
+#[test]
+fn cycles(rt: HostRuntime) {
+    assert!(rt; is_refused(cycle(rt.alloc()), 204, b"p/A", b"p/A", b""));
+}
+
+/// No class, and java/lang with exceptions below a class of this name, but for so many.
+fn with_language<'a>(alloc: Global, above: &[u8], missing: usize) -> Result<World<'a>, Fault> {
+    let mut draft = Draft::new(alloc);
+    draft.language(alloc, above, missing)?;
+    draft.world(alloc)
+}
+
+/// A class p/A and java/lang, and an export file of this package that has one class with this super.
+fn with_import<'a>(
+    alloc: Global,
+    package: &[u8],
+    class: &[u8],
+    above: &[u8],
+) -> Result<World<'a>, Fault> {
+    let mut draft = Draft::new(alloc);
+    draft.language(alloc, THROWABLE, 0)?;
+    draft.class(alloc, 1, b"p/A", OBJECT, &[], &[], &[])?;
+    let mut row = Row::new(alloc);
+    row.push(imported(alloc, 1, class, &[above, OBJECT], &[], &[], &[])?)?;
+    draft.export(alloc, package, row)?;
+    draft.world(alloc)
+}
+
+#[test]
+fn broken_imports(rt: HostRuntime) {
+    let alloc = rt.alloc();
+    let none: Draft<'_> = Draft::new(alloc);
+    assert!(rt; is_refused(none.world(alloc), 207, b"list", b"", b""));
+    assert!(rt; with_language(alloc, THROWABLE, 0).is_ok());
+    assert!(rt; is_refused(with_language(alloc, THROWABLE, 1), 207, b"list", b"", b""));
+    assert!(rt; is_refused(with_language(alloc, OBJECT, 0), 207, b"list", b"", b""));
+    assert!(rt; with_import(alloc, b"q", b"q/C", THROWABLE).is_ok());
+    assert!(rt;
+        is_refused(
+            with_import(alloc, b"p", b"q/C", THROWABLE),
+            202,
+            b"p",
+            b"",
+            b""
+        )
+    );
+    assert!(rt;
+        is_refused(
+            with_import(alloc, b"q", b"p/A", THROWABLE),
+            202,
+            b"q",
+            b"p/A",
+            b""
+        )
+    );
+    assert!(rt;
+        is_refused(
+            with_import(alloc, b"q", b"q/C", b"p/A"),
+            208,
+            b"q",
+            b"q/C",
+            b""
+        )
+    );
+}
