@@ -1,5 +1,5 @@
 -- The classes of a package and of its export files, seen alike, in the order of the list.
-use Rattle.std.specs.Prelude.{ℕ, ◌+◌, List, [], ◌∷◌, ◌++◌, map, length, slice_get, Bool, true, false, nat_lt, bit_and, if◌then◌else◌, Option, Some, None}
+use Rattle.std.specs.Prelude.{ℕ, ◌+◌, List, [], ◌∷◌, ◌++◌, map, length, slice_get, Bool, true, false, not, ◌&&◌, ◌==◌, nat_lt, bit_and, if◌then◌else◌, Option, Some, None}
 use Rattle.std.specs.Str.{bytes_eq}
 use Rattle.cjc_bytes.specs.declared.settings.FileLine.{FileLine}
 use Rattle.cjc_classfile.specs.declared.tree.ClassTree.{ClassTree}
@@ -127,3 +127,13 @@ all_classes files = classes_from files.classes files.exports 0 0 0 files.lines
 unfoldable pub class_named : List Class → List ℕ → Option Class
 class_named [] name = None
 class_named (c ∷ cs) name = if bytes_eq c.name name then Some c else class_named cs name
+
+-- ---- by the numbers that a look-up answers
+
+abbrev pub is_at : (imported : Bool) → (number : ℕ) → Class → Bool
+is_at imported number c = (if c.is_imported then imported else not imported) && (c.number == number)
+
+-- the class of this kind and number
+unfoldable pub class_at : List Class → (imported : Bool) → (number : ℕ) → Option Class
+class_at [] imported number = None
+class_at (c ∷ cs) imported number = if is_at imported number c then Some c else class_at cs imported number

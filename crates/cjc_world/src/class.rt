@@ -13,10 +13,12 @@ use cjc_classfile::{ClassTree, FieldTree, MethodTree};
 use cjc_export::{ExportClass, ExportField, ExportMethod};
 use std::slice;
 
-/// A class with its number.
+/// A class with its number in what a look-up finds.
 #[derive(Clone, Copy)]
-pub(crate) enum Known<'w, 'a> {
+pub enum Known<'w, 'a> {
+    /// A class of the package, with its place in list order.
     Declared(u32, &'w ClassTree<'a>),
+    /// A class of an export file, with its place among those of all export files.
     Imported(u32, &'w ExportClass),
 }
 
@@ -86,7 +88,8 @@ fn export_method(
 }
 
 impl<'w, 'a> Known<'w, 'a> {
-    pub(crate) fn name(self) -> &'w [u8]
+    /// The full name, its parts joined by `/`.
+    pub fn name(self) -> &'w [u8]
         ensures { result.now ≡ (class_of self.entry).name }
     {
         match self {
@@ -95,7 +98,8 @@ impl<'w, 'a> Known<'w, 'a> {
         }
     }
 
-    pub(crate) fn is_imported(self) -> bool
+    /// Whether an export file has it.
+    pub fn is_imported(self) -> bool
         ensures { result ≡ (class_of self.entry).is_imported }
     {
         match self {
@@ -104,7 +108,28 @@ impl<'w, 'a> Known<'w, 'a> {
         }
     }
 
-    pub(crate) fn is_interface(self) -> bool
+    /// The number in what a look-up finds.
+    pub fn number(self) -> u32
+        ensures { result ≡ (class_of self.entry).number }
+    {
+        match self {
+            Known::Declared(number, _) => number,
+            Known::Imported(number, _) => number,
+        }
+    }
+
+    /// The access flags as the file has them (Java Virtual Machine Specification, section 4.1).
+    pub fn flags(self) -> u16
+        ensures { result ≡ (class_of self.entry).flags }
+    {
+        match self {
+            Known::Declared(_, class) => class.flags,
+            Known::Imported(_, class) => class.flags,
+        }
+    }
+
+    /// Whether it is an interface.
+    pub fn is_interface(self) -> bool
         ensures { result ≡ is_interface (class_of self.entry).flags }
     {
         match self {
@@ -113,7 +138,8 @@ impl<'w, 'a> Known<'w, 'a> {
         }
     }
 
-    pub(crate) fn supers(self) -> &'w [Bytes]
+    /// Of a class of the package its superclass alone, of an imported class the supers that its file lists.
+    pub fn supers(self) -> &'w [Bytes]
         ensures { result.now ≡ (class_of self.entry).supers }
     {
         match self {
@@ -122,7 +148,8 @@ impl<'w, 'a> Known<'w, 'a> {
         }
     }
 
-    pub(crate) fn interfaces(self) -> &'w [Bytes]
+    /// The interfaces that its file lists, in order.
+    pub fn interfaces(self) -> &'w [Bytes]
         ensures { result.now ≡ (class_of self.entry).interfaces }
     {
         match self {
@@ -156,7 +183,8 @@ impl<'w, 'a> Known<'w, 'a> {
         }
     }
 
-    pub(crate) fn field_count(self) -> usize
+    /// How many fields it has.
+    pub fn field_count(self) -> usize
         ensures { result ≡ length (class_of self.entry).fields }
     {
         match self {
@@ -203,7 +231,7 @@ impl<'w, 'a> Known<'w, 'a> {
     }
 
     /// How many fields or methods there are.
-    pub(crate) fn member_count(self, field: bool) -> usize
+    pub fn member_count(self, field: bool) -> usize
         ensures { result ≡ length (members field (class_of self.entry)) }
     {
         match self {
@@ -215,7 +243,7 @@ impl<'w, 'a> Known<'w, 'a> {
     }
 
     /// The place of the first field or method of this name and descriptor.
-    pub(crate) fn place(self, field: bool, name: &[u8], desc: &[u8]) -> Option<usize>
+    pub fn place(self, field: bool, name: &[u8], desc: &[u8]) -> Option<usize>
         ensures { result ≡ position (λ m. is_called name.now desc.now m) (members field (class_of self.entry)) }
     {
         if field {
@@ -259,8 +287,21 @@ impl<'w, 'a> Known<'w, 'a> {
         }
     }
 
+    /// The access flags of the field or method at a place (Java Virtual Machine Specification, sections 4.5 and 4.6).
+    pub fn member_flags(self, field: bool, place: usize) -> u16
+        requires { place < length (members field (class_of self)) }
+        ensures { (d : Member) → result ≡ (get_or (members field (class_of self.entry)) place d).flags }
+    {
+        match self {
+            Known::Declared(_, class) if field => class.fields.items()[place].flags,
+            Known::Declared(_, class) => class.methods.items()[place].flags,
+            Known::Imported(_, class) if field => class.fields.items()[place].flags,
+            Known::Imported(_, class) => class.methods.items()[place].flags,
+        }
+    }
+
     /// The name and the descriptor of the field or method at a place.
-    pub(crate) fn member_at(self, field: bool, place: usize) -> (&'w [u8], &'w [u8])
+    pub fn member_at(self, field: bool, place: usize) -> (&'w [u8], &'w [u8])
         requires { place < length (members field (class_of self)) }
         ensures name { (d : Member) → result.0.now ≡ (get_or (members field (class_of self.entry)) place d).name }
         ensures desc { (d : Member) → result.1.now ≡ (get_or (members field (class_of self.entry)) place d).desc }

@@ -10,6 +10,7 @@ mod rules;
 mod spot;
 mod world;
 
+pub use class::Known;
 pub use found::Found;
 pub use laws::{lookup_laws, subtype_laws};
 pub use world::World;

@@ -1,7 +1,7 @@
 //! The world of a package, and look-up in it. Nothing here takes memory.
 
 ghost use Rattle.std.specs.Prelude.{◌≡◌, suc, [], ◌∷◌, length, false, option_map, IfSome, IfNone, IfOk, IfErr, OnOk};
-ghost use Rattle.cjc_world.specs.Classes.{all_classes, class_named};
+ghost use Rattle.cjc_world.specs.Classes.{all_classes, class_at, class_named, is_at};
 ghost use Rattle.cjc_world.specs.Kin.{grown, is_below, kin, upwards, stands, stands_above};
 ghost use Rattle.cjc_world.specs.Files.{files_of};
 ghost use Rattle.cjc_world.specs.Rules.{breaks, IsFirstRefusal};
@@ -140,7 +140,7 @@ impl<'a> World<'a> {
     }
 
     /// The first class of a name, in the order of the list.
-    pub(crate) fn class_named(&self, name: &[u8]) -> Option<Known<'_, 'a>>
+    pub fn class_named(&self, name: &[u8]) -> Option<Known<'_, 'a>>
         ensures named { option_map class_of result ≡ class_named (all_classes self.now) name.now }
         ensures counted { IfSome result (λ k. IsCounted (class_of k)) }
     {
@@ -148,6 +148,21 @@ impl<'a> World<'a> {
             if let Some(class) = self.at(spot) {
                 if class.name() == name {
                     return Some(class);
+                }
+            }
+        }
+        None
+    }
+
+    /// The class that a look-up means by its number: among the package's classes, or among those of all export files.
+    pub fn class_at(&self, imported: bool, class: u32) -> Option<Known<'_, 'a>>
+        ensures at { option_map class_of result ≡ class_at (all_classes self.now) imported class }
+        ensures counted { IfSome result (λ k. IsCounted (class_of k)) }
+    {
+        for spot in self.spots() {
+            if let Some(known) = self.at(spot) {
+                if is_at(known, imported, class) {
+                    return Some(known);
                 }
             }
         }
@@ -424,6 +439,12 @@ impl<'a> World<'a> {
             self.steps(),
         )
     }
+}
+
+fn is_at(known: Known<'_, '_>, imported: bool, class: u32) -> bool
+    ensures { result ≡ is_at imported class (class_of known.entry) }
+{
+    known.is_imported() == imported && known.number() == class
 }
 
 /// The class whose methods an object of this class has.
