@@ -1,15 +1,14 @@
 -- From the parts of a conversion to the whole.
-use Rattle.std.proofs.Common.{◌≡◌, ℕ, zero, suc, ◌+◌, ◌<◌, ◌⊎◌, ⊎_elim, inl, inr, Bool, true, false, List, [], ◌∷◌, count_by, not, if◌then◌else◌, Option, Some, None, Result, Ok, Err, IfOk, IfSome, IfNone, length, get_or, refl, sym, ap, subst, ◌∙◌, arith}
-use Rattle.std.specs.Prelude.{slice_get}
+use Rattle.std.proofs.Common.{◌≡◌, ℕ, suc, ◌+◌, ◌<◌, ◌⊎◌, inl, inr, Bool, true, false, List, [], ◌∷◌, count_by, not, if◌then◌else◌, Option, Some, None, Result, Ok, Err, IfOk, IfSome, IfNone, length, get_or, refl, sym, ap, subst, ◌∙◌, arith}
 use Rattle.std.proofs.lemmas.List.Sums.{sum_by-cons}
-use Rattle.cjc_bytes.specs.Format.{FileSpells, FileBreaks}
-use Rattle.cjc_bytes.proofs.Laws.{one_value, one_place, spelt_or_broken}
+use Rattle.cjc_bytes.specs.Format.{FileSpells}
+use Rattle.cjc_bytes.proofs.Laws.{one_value}
 use Rattle.cjc_bytes.specs.declared.stop.NoMemory.{NoMemory}
 use Rattle.cjc_bytes.specs.declared.fault.Fault.{Fault}
 use Rattle.cjc_bytes.specs.declared.fault.Fault.TheVariants as faults
 use Rattle.cjc_bytes.specs.declared.fault.Refusal.{Refusal}
 use Rattle.cjc_bytes.specs.declared.settings.FileLine.{FileLine}
-use Rattle.cjc_classfile.specs.ClassFile.{class_file, refusal_at}
+use Rattle.cjc_classfile.specs.ClassFile.{class_file}
 use Rattle.cjc_classfile.specs.Code.{CodeTree}
 use Rattle.cjc_classfile.specs.declared.tree.ClassTree.{ClassTree}
 use Rattle.cjc_code.specs.declared.insn.JInsn.{JInsn}
@@ -23,11 +22,16 @@ use Rattle.cjc_convert.specs.Converted.{tree_for}
 use Rattle.cjc_convert.specs.Tests.{IsFormWith}
 use Rattle.cjc_convert.proofs.Forms.{one_code}
 use Rattle.cjc_convert.specs.Codes.{code_with, all_codes, first_insns}
-use Rattle.cjc_convert.specs.Trees.{FileTree, of_class, of_export, AllSpelt, classes_of, AreRead, AllRead, ReadsFiles}
+use Rattle.cjc_world.specs.Files.{Files}
+use Rattle.cjc_world.specs.Rules.{Break, IsFirstRefusal, breaks}
+use Rattle.cjc_convert.specs.Spelt.{FileTree, of_class, of_export, classes_of}
+use Rattle.cjc_convert.specs.Rules.{Breach, world_files, files_spelt}
+use Rattle.cjc_convert.specs.Trees.{AllSpelt, AreRead, read_of, FirstForeign, AllRead, ReadsFiles}
 use Rattle.cjc_convert.specs.declared.reading.Trees.{Trees}
-use Rattle.cjc_convert.proofs.Files.{unbroken, foreign_is_first}
+use Rattle.cjc_convert.proofs.Firsts.{file_stops, world_stops, foreign_stops, none_broken}
 use Rattle.cjc_convert.specs.Conversion
 use Rattle.cjc_convert.specs.Conversion.{exported}
+use Rattle.cjc_export.specs.declared.tree.ExportTree.{ExportTree}
 use Rattle.cjc_export.specs.ExportFile.{export_file}
 use Rattle.cjc_export.specs.Written.{written}
 use Rattle.cjc_capwrite.specs.declared.files.CapFiles.{CapFiles}
@@ -147,7 +151,7 @@ few_lines list lines is read =
 
 pub stopped : (list : ListTree) (files : List (List ℕ)) (e : Fault) → ReadsFiles list.lines files (Err e)
     → (e ≡ faults.NoMemory) ⊎ ((r : Refusal) × Conversion.IsRefused list files r × (e ≡ faults.Refused r))
-stopped list files (faults.Refused r) s = inr (r, inl s, refl)
+stopped list files (faults.Refused r) s = inr (r, inl (file_stops list files r s), refl)
 stopped list files faults.NoMemory s = inl refl
 
 -- the same where the lines and the files go by other names
@@ -156,18 +160,56 @@ pub stopped_from : (list : ListTree) (files : List (List ℕ)) (lines : List Fil
 stopped_from list files lines fs e a b s =
     stopped list files e (subst (λ (ls : List FileLine). ReadsFiles ls files (Err e)) a (subst (λ (gs : List (List ℕ)). ReadsFiles lines gs (Err e)) b s))
 
--- the first refusal by rule 303
-pub unsupported_is : (list : ListTree) (files : List (List ℕ)) (lines : List FileLine) (fs : List (List ℕ)) (read : Trees) (r : Refusal) → lines ≡ list.lines → fs ≡ files → AllRead lines fs read → read.unsupported ≡ Some r
-    → (faults.Refused r ≡ faults.NoMemory) ⊎ ((x : Refusal) × Conversion.IsRefused list files x × (faults.Refused r ≡ faults.Refused x))
-unsupported_is list files lines fs read r a b all is =
-    let here = subst (λ (ls : List FileLine). AllRead ls files read) a (subst (λ (gs : List (List ℕ)). AllRead lines gs read) b all) in
-    inr (r, inl (foreign_is_first list.lines files read r here is), refl)
+-- the trees that were read, and the world that is made of them, under the names that the code has for them
+abbrev pub WorldFiles : ListTree → Trees → Files
+WorldFiles list read = world_files list read.classes read.exports
 
-pub not_built_is : (list : ListTree) (files : List (List ℕ)) (read : Trees) (e : Fault) → AllRead list.lines files read → read.unsupported ≡ None → ((tree : ClassTree) → Conversion.IsForm list files tree → ⊥)
+world_is : (list : ListTree) (files : List (List ℕ)) (read : Trees) (all : AreRead list.lines files read) → WorldFiles list read ≡ files_spelt list all.trees
+world_is list files read all =
+    ap (λ (cs : List ClassTree). world_files list cs read.exports) all.classes
+    ∙ ap (λ (es : List ExportTree). world_files list (classes_of all.trees) es) all.exports
+
+-- a rule of the world
+pub world_refused : (list : ListTree) (files : List (List ℕ)) (read : Trees) (e : Fault) → AreRead list.lines files read → IsFirstRefusal (breaks list.name (WorldFiles list read)) e
+    → (e ≡ faults.NoMemory) ⊎ ((r : Refusal) × Conversion.IsRefused list files r × (e ≡ faults.Refused r))
+world_refused list files read e all f =
+    elim (subst (λ (w : Files). IsFirstRefusal (breaks list.name w) e) (world_is list files read all) f) [
+      | inl memory ↦ inl memory
+      | inr (b, first, is) ↦ inr (b.refusal, inl (world_stops list files all.trees all.spelt b first), is)
+    ]
+
+spelt_unbroken : (list : ListTree) (files : List (List ℕ)) (read : Trees) (all : AreRead list.lines files read) → breaks list.name (WorldFiles list read) ≡ [] → breaks list.name (files_spelt list all.trees) ≡ []
+spelt_unbroken list files read all none = ap (λ (w : Files). breaks list.name w) (sym (world_is list files read all)) ∙ none
+
+-- what was read, as the world and the codes have it
+pub read_with : (list : ListTree) (files : List (List ℕ)) (read : Trees) (world : Files) (codes : List MethodCode) → AreRead list.lines files read → world ≡ WorldFiles list read → codes ≡ read.codes
+    → AreRead list.lines files (read_of world codes)
+read_with list files read world codes all w k = record {
+  trees = all.trees;
+  spelt = all.spelt;
+  classes = ap (λ (x : Files). x.classes) w ∙ all.classes;
+  exports = ap (λ (x : Files). x.exports) w ∙ all.exports;
+  codes = k ∙ all.codes ∙ ap (λ (x : Files). all_codes x.classes) (sym w);
+}
+
+-- the first refusal by rule 303
+pub unsupported_is : (list : ListTree) (files : List (List ℕ)) (read : Trees) (r : Refusal) → AllRead list.lines files read → breaks list.name (WorldFiles list read) ≡ [] → read.unsupported ≡ Some r
+    → (faults.Refused r ≡ faults.NoMemory) ⊎ ((x : Refusal) × Conversion.IsRefused list files x × (faults.Refused r ≡ faults.Refused x))
+unsupported_is list files read r all fine is =
+    let f : FirstForeign list.lines files (length list.lines) (Some r) = subst (FirstForeign list.lines files (length list.lines)) is all.unsupported in
+    inr (r, inl (foreign_stops list files all.are_read.trees all.are_read.spelt (spelt_unbroken list files read all.are_read fine) r f), refl)
+
+-- no rule is broken
+pub unbroken : (list : ListTree) (files : List (List ℕ)) (read : Trees) → AllRead list.lines files read → breaks list.name (WorldFiles list read) ≡ [] → read.unsupported ≡ None → (b : Break) → Breach list files b → ⊥
+unbroken list files read all fine none =
+    none_broken list files all.are_read.trees all.are_read.spelt (spelt_unbroken list files read all.are_read fine)
+    (subst (FirstForeign list.lines files (length list.lines)) none all.unsupported)
+
+pub not_built_is : (list : ListTree) (files : List (List ℕ)) (e : Fault) → ((b : Break) → Breach list files b → ⊥) → ((tree : ClassTree) → Conversion.IsForm list files tree → ⊥)
     → (e ≡ faults.Refused (Conversion.not_built list)) ⊎ (e ≡ faults.NoMemory)
     → (e ≡ faults.NoMemory) ⊎ ((r : Refusal) × Conversion.IsRefused list files r × (e ≡ faults.Refused r))
-not_built_is list files read e all fine none_of (inl is) = inr (Conversion.not_built list, inr (record { unbroken = unbroken list.lines files read all fine; not_form = none_of }, refl), is)
-not_built_is list files read e all fine none_of (inr is) = inl is
+not_built_is list files e fine none_of (inl is) = inr (Conversion.not_built list, inr (record { unbroken = fine; not_form = none_of }, refl), is)
+not_built_is list files e fine none_of (inr is) = inl is
 
 -- ---- the whole
 
@@ -185,17 +227,17 @@ form_with_tree list files trees params insns tree f is =
     let same : f.tree ≡ tree = sym (is ∙ ap (λ ts. get_or ts 0 tree) f.trees_are) in
     subst (λ (t : ClassTree). IsFormWith (Conversion.line_of list) t params insns) same (record { form = f.form.form; params_are = f.params_are; insns_are = f.insns_are })
 
-pub converted_from : (list : ListTree) (files : List (List ℕ)) (read : Trees) (params : ℕ) (insns : List JInsn) (tree : ClassTree) (result : Result Converted Fault) → AllRead list.lines files read → read.unsupported ≡ None
+pub converted_from : (list : ListTree) (files : List (List ℕ)) (read : Trees) (params : ℕ) (insns : List JInsn) (tree : ClassTree) (result : Result Converted Fault) → ((b : Break) → Breach list files b → ⊥)
     → Conversion.FormOf list files read.classes params insns → tree ≡ get_or read.classes 0 tree → IfOk result (Conversion.IsMadeFor (Conversion.line_of list) tree params insns) → IfOk result (Conversion.IsConverted list files)
-converted_from list files read params insns tree (Ok made) all none f is m =
+converted_from list files read params insns tree (Ok made) fine f is m =
     let same : f.tree ≡ tree = sym (is ∙ ap (λ ts. get_or ts 0 tree) f.trees_are) in
     record {
-      unbroken = unbroken list.lines files read all none;
+      unbroken = fine;
       tree = tree;
       form = record { applets = f.form.applets; bytes = f.form.bytes; pair = f.form.pair; spelt = subst (λ (t : ClassTree). FileSpells class_file t f.form.bytes) same f.form.spelt; form = m.0 };
       is_made = m.3;
     }
-converted_from list files read params insns tree (Err e) all none f is m = tt
+converted_from list files read params insns tree (Err e) fine f is m = tt
 
 pub made_from : (line : PackageLine) (tree : ClassTree) (params : ℕ) (insns : List JInsn) (cap : CapTree) (caps : CapFiles) (export : List ℕ) → Conversion.IsCapOf line tree params insns cap
     → (caps ≡ files_of cap) × IsSpelt cap caps → Conversion.IsExportOf line tree export → Conversion.IsMadeFor line tree params insns (record { caps = caps; export = export })

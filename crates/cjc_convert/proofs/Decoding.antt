@@ -1,7 +1,6 @@
 -- Decoding the methods of a class, one after the other.
-use Rattle.std.proofs.Common.{◌≡◌, ℕ, zero, suc, ◌+◌, ◌<◌, ◌≤◌, ◌⊎◌, ⊎_elim, true, false, List, [], ◌∷◌, ◌++◌, Option, Some, None, is_some, Bool, Result, Ok, Err, inl, inr, length, take, get_or, refl, sym, ap, subst, ◌∙◌, append_assoc, append-nil, add-one, add-zero, add-suc, arith}
+use Rattle.std.proofs.Common.{◌≡◌, ℕ, suc, ◌+◌, ◌<◌, ◌≤◌, ◌⊎◌, ⊎_elim, true, false, List, [], ◌∷◌, ◌++◌, Option, Some, None, is_some, Bool, Result, Ok, Err, inl, inr, length, take, get_or, refl, sym, ap, subst, ◌∙◌, append_assoc, append-nil, add-zero, arith}
 use Rattle.std.specs.Prelude.{slice_get, IfSome}
-use Rattle.std.specs.List.{AllByRecursion}
 use Rattle.std.proofs.lemmas.Bool.{cases_lt}
 use Rattle.std.proofs.lemmas.List.{take_all, length-take-le}
 use Rattle.std.proofs.lemmas.Option.{slice_get_past}
@@ -21,10 +20,10 @@ use Rattle.cjc_code.specs.Named.{all_named}
 use Rattle.cjc_code.specs.Unfit.{unfit_code}
 use Rattle.cjc_code.specs.declared.insn.JInsn.{JInsn}
 use Rattle.cjc_code.specs.declared.method_code.MethodCode.{MethodCode}
-use Rattle.cjc_convert.specs.Codes.{code_with, code_where, codes_of_methods, codes_from, all_codes}
+use Rattle.cjc_convert.specs.Codes.{code_with, code_where, codes_of_methods}
 use Rattle.cjc_convert.specs.Rules.{CodeBreaks}
 use Rattle.cjc_convert.proofs.Lists.{item_at, front_more}
-use Rattle.cjc_convert.specs.Trees.{BreaksBy, FirstIn, ForeignIn, earlier, DecodesMethod, DecodesClass}
+use Rattle.cjc_convert.specs.Trees.{BreaksBy, ForeignIn, earlier, DecodesMethod, DecodesClass}
 
 -- ---- one method
 

@@ -3,7 +3,7 @@ use Rattle.std.proofs.Common.{◌≡◌, Ok, ℕ, zero, suc, ◌+◌, ◌<◌, �
 use Rattle.std.specs.Prelude.{slice_get}
 use Rattle.std.proofs.lemmas.Bool.{cases_lt}
 use Rattle.std.proofs.lemmas.List.{take_all}
-use Rattle.std.proofs.lemmas.Option.{slice_get_within, slice_get_past}
+use Rattle.std.proofs.lemmas.Option.{slice_get_past}
 use Rattle.cjc_bytes.specs.Refused.{IsBreak, refusal}
 use Rattle.cjc_bytes.specs.declared.fault.Fault.{Fault}
 use Rattle.cjc_bytes.specs.declared.fault.Fault.TheVariants as faults
@@ -23,10 +23,12 @@ use Rattle.cjc_code.specs.declared.method_code.MethodCode.{MethodCode}
 use Rattle.cjc_export.specs.ExportFile.{export_file}
 use Rattle.cjc_export.specs.declared.tree.ExportTree.{ExportTree}
 use Rattle.cjc_convert.specs.Codes.{codes_of_methods, codes_from, all_codes}
-use Rattle.cjc_bytes.specs.Order.{Rank, NotAfter}
-use Rattle.cjc_convert.specs.Rules.{CodeBreaks, method_rank, FileBreach, no_class_file, no_instructions, no_export_file, file_refusal, file_rank, FileAt, Foreign, foreign_rank, Breach, in_file, foreign, rank_of, IsFirstBroken}
+use Rattle.cjc_bytes.specs.Order.{NotAfter}
+use Rattle.cjc_world.specs.Rules.{Break}
+use Rattle.cjc_convert.specs.Spelt.{FileTree, of_class, of_export, classes_of, exports_of}
+use Rattle.cjc_convert.specs.Rules.{CodeBreaks, method_rank, FileBreach, no_class_file, no_instructions, no_export_file, file_rank, file_break, FileAt, Foreign, foreign_rank, foreign_break, BreaksFile, BreaksForeign, IsFirstRefused}
 use Rattle.cjc_convert.specs.declared.reading.Trees.{Trees}
-use Rattle.cjc_convert.specs.Trees.{FileTree, of_class, of_export, FileIs, AllSpelt, classes_of, exports_of, AreRead, FirstForeign, FirstIn, ForeignIn, DecodesClass, IsFirstInFile, earlier, ReadsFile, AllRead, ReadsFiles}
+use Rattle.cjc_convert.specs.Trees.{FileIs, AllSpelt, AreRead, FirstForeign, FirstIn, ForeignIn, DecodesClass, IsFirstInFile, earlier, ReadsFile, AllRead, ReadsFiles}
 use Rattle.cjc_convert.proofs.Lists.{item_at, front_more}
 
 -- ---- one file
@@ -163,12 +165,9 @@ spelt_at (l ∷ ls) (b ∷ bs) (t ∷ ts) all (suc i) at = spelt_at ls bs ts all
 file_fine : (lines : List FileLine) (files : List (List ℕ)) (trees : List FileTree) → AllSpelt lines files trees → (i : ℕ) (at : FileAt lines files i) → FileBreach at.line at.bytes → ⊥
 file_fine lines files trees all i at breach = let t = spelt_at lines files trees all i at in fine at.line at.bytes t.0 t.1 breach
 
--- files that are read, of which none breaks rule 303 either, break no rule
-pub unbroken : (lines : List FileLine) (files : List (List ℕ)) (read : Trees) → AllRead lines files read → read.unsupported ≡ None → Breach lines files → ⊥
-unbroken lines files read all none (in_file i at breach) = file_fine lines files all.are_read.trees all.are_read.spelt i at breach
-unbroken lines files read all none (foreign i f) =
-    let first : FirstForeign lines files (length lines) None = subst (FirstForeign lines files (length lines)) none all.unsupported in
-    first i (slice_get_within lines i f.at.line f.at.is_line) f
+-- files that are all read break none of these rules
+pub files_fine : (lines : List FileLine) (files : List (List ℕ)) (trees : List FileTree) → AllSpelt lines files trees → (b : Break) → BreaksFile lines files b → ⊥
+files_fine lines files trees all b (i, at, breach, is) = file_fine lines files trees all i at breach
 
 slice_get-front : {A : Type 0} (n : ℕ) (xs : List A) (i : ℕ) → i < n → slice_get (take n xs) i ≡ slice_get xs i
 slice_get-front zero xs i lt = absurd (omega arith)
@@ -203,13 +202,14 @@ file_earlier i j line other bytes more b c lt =
     let y = file_number j other more c in
     inr (x.0 ∙ sym y.0, inl (omega (arith, x.1, y.1)))
 
-before_foreign : (i j : ℕ) (lines : List FileLine) (files : List (List ℕ)) (line : FileLine) (bytes : List ℕ) (b : FileBreach line bytes) (f : Foreign lines files j) → NotAfter (file_rank i line bytes b) (foreign_rank lines files j f)
-before_foreign i j lines files line bytes b f = let x = file_number i line bytes b in inl (omega (arith, x.0))
-
--- the first rule that a file breaks, where the files before it break none, is the first of all
+-- the first rule that a file breaks, where the files before it break none, is the first that any file breaks
 pub first_of_all : (lines : List FileLine) (files : List (List ℕ)) (trees : List FileTree) (i : ℕ) (at : FileAt lines files i) (r : Refusal)
-    → AllSpelt (take i lines) (take i files) trees → IsFirstInFile at.line at.bytes r → IsFirstBroken lines files r
-first_of_all lines files trees i at r all here = record { breach = in_file i at here.breach; is = here.is; first = first }
+    → AllSpelt (take i lines) (take i files) trees → IsFirstInFile at.line at.bytes r → IsFirstRefused (BreaksFile lines files) r
+first_of_all lines files trees i at r all here = record {
+  broken = file_break i at.line at.bytes here.breach;
+  first = record { breaks = (i, at, here.breach, refl); least = least };
+  is = here.is;
+}
   where
     by : (j : ℕ) (other : FileAt lines files j) (c : FileBreach other.line other.bytes) → (j < i) ⊎ ((i ≡ j) ⊎ (i < j))
         → NotAfter (file_rank i at.line at.bytes here.breach) (file_rank j other.line other.bytes c)
@@ -222,20 +222,8 @@ first_of_all lines files trees i at r all here = record { breach = in_file i at 
         subst (λ (l : FileLine). P l other.bytes) line (subst (λ (b : List ℕ). P at.line b) bytes start) c
     by j other c (inr (inr later)) = file_earlier i j at.line other.line at.bytes other.bytes here.breach c later
 
-    first : (other : Breach lines files) → NotAfter (rank_of lines files (in_file i at here.breach)) (rank_of lines files other)
-    first (in_file j other c) = by j other c (compared i j)
-    first (foreign j f) = before_foreign i j lines files at.line at.bytes here.breach f
-
--- the first by rule 303 is the first of all, where no file breaks a rule of the first hundred
-pub foreign_is_first : (lines : List FileLine) (files : List (List ℕ)) (read : Trees) (r : Refusal) → AllRead lines files read → read.unsupported ≡ Some r → IsFirstBroken lines files r
-foreign_is_first lines files read r all is =
-    let f : FirstForeign lines files (length lines) (Some r) = subst (FirstForeign lines files (length lines)) is all.unsupported in
-    record { breach = foreign f.0 f.1; is = f.2; first = first f.0 f.1 f.3 }
-  where
-    first : (index : ℕ) (f : Foreign lines files index) → ((i : ℕ) (other : Foreign lines files i) → NotAfter (foreign_rank lines files index f) (foreign_rank lines files i other))
-        → (other : Breach lines files) → NotAfter (foreign_rank lines files index f) (rank_of lines files other)
-    first index f later (in_file j at c) = absurd (file_fine lines files all.are_read.trees all.are_read.spelt j at c)
-    first index f later (foreign j other) = later j other
+    least : (a : Break) → BreaksFile lines files a → NotAfter (file_rank i at.line at.bytes here.breach) a.rank
+    least a (j, other, c, is) = subst (λ (x : Break). NotAfter (file_rank i at.line at.bytes here.breach) x.rank) (sym is) (by j other c (compared i j))
 
 -- ---- in the order of the list
 
@@ -279,7 +267,11 @@ module _ (lines : List FileLine) (files : List (List ℕ)) (i : ℕ) (at : FileA
           here moved.method moved.offset (within tree moved.method 303 moved.offset (breaks_here moved)) (breaks_here moved)
   foreign_more None (Some r) f here =
       let mine = foreign_of lines files i at tree is_class spelt here.method here.breaks.0 here.breaks.1 in
-      (i, mine, here.breaks.2, λ j other. by j other (compared i j))
+      record {
+        broken = foreign_break lines files i mine;
+        first = record { breaks = (i, mine, refl); least = least };
+        is = here.breaks.2;
+      }
     where
       same_file : (other : Foreign lines files i) → NotAfter (foreign_rank lines files i (foreign_of lines files i at tree is_class spelt here.method here.breaks.0 here.breaks.1)) (foreign_rank lines files i other)
       same_file other =
@@ -300,6 +292,10 @@ module _ (lines : List FileLine) (files : List (List ℕ)) (i : ℕ) (at : FileA
           let P : ℕ → Type 0 = λ n. (x : Foreign lines files n) → NotAfter (foreign_rank lines files i (foreign_of lines files i at tree is_class spelt here.method here.breaks.0 here.breaks.1)) (foreign_rank lines files n x) in
           subst P same same_file other
       by j other (inr (inr later)) = inr (refl, inl (omega arith))
+
+      least : (a : Break) → BreaksForeign lines files a → NotAfter (foreign_rank lines files i (foreign_of lines files i at tree is_class spelt here.method here.breaks.0 here.breaks.1)) a.rank
+      least a (j, other, is) =
+          subst (λ (x : Break). NotAfter (foreign_rank lines files i (foreign_of lines files i at tree is_class spelt here.method here.breaks.0 here.breaks.1)) x.rank) (sym is) (by j other (compared i j))
 
 foreign_passed : (lines : List FileLine) (files : List (List ℕ)) (i : ℕ) (at : FileAt lines files i) → at.line.class_file ≡ false → (old : Option Refusal) → FirstForeign lines files i old → FirstForeign lines files (i + 1) old
 foreign_passed lines files i at is (Some r) f = f

@@ -1,7 +1,6 @@
 -- What the tests of the form find is all that can be found.
-use Rattle.std.proofs.Common.{IfNone, subst, append-nil, ◌≡◌, ℕ, ◌+◌, ◌≤◌, take, drop, ◌<◌, List, [], ◌∷◌, ◌++◌, Option, Some, None, Result, Ok, Err, IfOk, IfSome, get_or, length, refl, sym, ap, ◌∙◌, arith}
+use Rattle.std.proofs.Common.{IfNone, subst, append-nil, ◌≡◌, ℕ, ◌+◌, ◌≤◌, take, drop, ◌<◌, List, [], ◌∷◌, ◌++◌, Option, Some, None, Result, Ok, Err, IfSome, get_or, length, refl, sym, ap, ◌∙◌, arith}
 use Rattle.std.proofs.lemmas.List.{length-append, length-replicate, take-append-drop, take_at, drop_at}
-use Rattle.cjc_bytes.specs.declared.stop.NoMemory.{NoMemory}
 use Rattle.cjc_classfile.specs.Code.{CodeTree}
 use Rattle.cjc_classfile.specs.declared.tree.ClassTree.{ClassTree}
 use Rattle.cjc_classfile.specs.declared.tree.MethodTree.{MethodTree}

@@ -2,6 +2,7 @@ pub mod Forms
 pub mod Cuts
 pub mod Decoding
 pub mod Files
+pub mod Firsts
 mod Words
 mod Codes
 pub mod Lists

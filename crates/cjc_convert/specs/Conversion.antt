@@ -19,6 +19,7 @@ use Rattle.cjc_capwrite.specs.Writable.{IsSpelt, IsWritable}
 use Rattle.cjc_code.specs.declared.insn.JInsn.{JInsn}
 use Rattle.cjc_convert.specs.Converted.{converted}
 use Rattle.cjc_convert.specs.FirstForm.{PackageLine, IsFirstForm, object}
+use Rattle.cjc_world.specs.Rules.{Break}
 use Rattle.cjc_convert.specs.Rules.{Breach, IsFirstBroken}
 use Rattle.cjc_convert.specs.declared.conversion.Converted.{Converted}
 use Rattle.cjc_convert.specs.declared.lang.TheConstants.{LANG}
@@ -48,7 +49,7 @@ pub record IsForm (list : ListTree) (files : List (List ℕ)) (tree : ClassTree)
 
 -- No rule is broken, and the package is not of the form: that is not built yet.
 pub record IsNotBuilt (list : ListTree) (files : List (List ℕ)) : Type 0 where
-  pub unbroken : Breach list.lines files → ⊥
+  pub unbroken : (b : Break) → Breach list files b → ⊥
   pub not_form : (tree : ClassTree) → IsForm list files tree → ⊥
 
 -- the refusal of what is not built yet
@@ -57,7 +58,7 @@ not_built list = refusal list.name 801 0
 
 -- The refusal is the first broken rule.
 abbrev pub IsRefused : ListTree → List (List ℕ) → Refusal → Type 0
-IsRefused list files r = IsFirstBroken list.lines files r ⊎ (IsNotBuilt list files × (r ≡ not_built list))
+IsRefused list files r = IsFirstBroken list files r ⊎ (IsNotBuilt list files × (r ≡ not_built list))
 
 -- Each file has a length of four bytes.
 abbrev pub AreFiles : List (List ℕ) → Type 0
@@ -94,7 +95,7 @@ pub record IsMade (line : PackageLine) (tree : ClassTree) (form : IsFirstForm li
 
 -- The package breaks no rule and is of the form, and this is written for it.
 pub record IsConverted (list : ListTree) (files : List (List ℕ)) (made : Converted) : Type 0 where
-  pub unbroken : Breach list.lines files → ⊥
+  pub unbroken : (b : Break) → Breach list files b → ⊥
   pub tree : ClassTree
   pub form : IsForm list files tree
   pub is_made : IsMade (line_of list) tree form.form made

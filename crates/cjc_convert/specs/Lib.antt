@@ -5,6 +5,7 @@ pub mod Example
 pub mod BehaveAlike
 pub mod Tests
 pub mod Codes
+pub mod Spelt
 pub mod Rules
 pub mod Trees
 pub mod Conversion

@@ -1,4 +1,4 @@
--- Which rules the files of a package break, where each stands in the order of refusals, and which of them is the first.
+-- Which rules a package breaks, where each stands in the order of refusals, and which of them is the first.
 use Rattle.std.specs.Prelude.{◌≡◌, ℕ, ◌+◌, List, length, true, false, Some, Err, slice_get}
 use Rattle.cjc_bytes.specs.Format.{FileSpells, FileBreaks}
 use Rattle.cjc_bytes.specs.Refused.{refusal}
@@ -6,11 +6,15 @@ use Rattle.cjc_bytes.specs.declared.fault.Refusal.{Refusal}
 use Rattle.cjc_bytes.specs.declared.settings.FileLine.{FileLine}
 use Rattle.cjc_classfile.specs.ClassFile.{class_file, refusal_at}
 use Rattle.cjc_classfile.specs.declared.tree.ClassTree.{ClassTree}
-use Rattle.cjc_code.specs.declared.decoding.Broken.{Broken}
 use Rattle.cjc_code.specs.Decoded.{decoding_at}
 use Rattle.cjc_code.specs.Decoded as decoded
 use Rattle.cjc_export.specs.ExportFile.{export_file}
+use Rattle.cjc_export.specs.declared.tree.ExportTree.{ExportTree}
+use Rattle.cjc_list.specs.Listed.{ListTree}
+use Rattle.cjc_world.specs.Files.{Files, files_of}
+use Rattle.cjc_world.specs.Rules.{Break, Among, breaks}
 use Rattle.cjc_bytes.specs.Order.{Rank, NotAfter}
+use Rattle.cjc_convert.specs.Spelt.{FileTree, SpellTrees, classes_of, exports_of}
 
 -- ---- the rules that one file breaks, whatever the others say
 
@@ -68,23 +72,51 @@ foreign_refusal lines files index f = code_refusal f.at.line f.tree f.method 303
 abbrev pub foreign_rank : (lines : List FileLine) (files : List (List ℕ)) (index : ℕ) → Foreign lines files index → Rank
 foreign_rank lines files index f = record { family = 3; file = index + 1; class = 1; member = method_rank f.tree f.method; offset = f.offset; rule = 303 }
 
+-- ---- groups of rules: each says of a break, a refusal with its rank, whether it is one of its own
+
+-- 101 to 104: a file by itself
+abbrev pub file_break : (index : ℕ) (line : FileLine) (bytes : List ℕ) → FileBreach line bytes → Break
+file_break index line bytes breach = record { rank = file_rank index line bytes breach; refusal = file_refusal line bytes breach }
+
+abbrev pub BreaksFile : List FileLine → List (List ℕ) → Break → Type 0
+BreaksFile lines files b = (index : ℕ) × (at : FileAt lines files index) × (breach : FileBreach at.line at.bytes) × (b ≡ file_break index at.line at.bytes breach)
+
+-- 201, 202, 203, 204, 207 and 208: the classes and the export files that the files spell
+abbrev pub world_files : ListTree → List ClassTree → List ExportTree → Files
+world_files list classes exports = files_of list.«package» list.lines classes exports
+
+abbrev pub files_spelt : ListTree → List FileTree → Files
+files_spelt list trees = world_files list (classes_of trees) (exports_of trees)
+
+abbrev pub BreaksWorld : ListTree → List (List ℕ) → Break → Type 0
+BreaksWorld list files b = (trees : List FileTree) × SpellTrees list.lines files trees × Among b (breaks list.name (files_spelt list trees))
+
+-- 303: an instruction that is not converted
+abbrev pub foreign_break : (lines : List FileLine) (files : List (List ℕ)) (index : ℕ) → Foreign lines files index → Break
+foreign_break lines files index f = record { rank = foreign_rank lines files index f; refusal = foreign_refusal lines files index f }
+
+abbrev pub BreaksForeign : List FileLine → List (List ℕ) → Break → Type 0
+BreaksForeign lines files b = (index : ℕ) × (f : Foreign lines files index) × (b ≡ foreign_break lines files index f)
+
 -- ---- all rules
 
--- A broken rule, and where: one line a rule, or a group of rules that stands in one file.
-pub data Breach (lines : List FileLine) (files : List (List ℕ)) : Type 0 where
-  in_file : (index : ℕ) (at : FileAt lines files index) → FileBreach at.line at.bytes → Breach lines files
-  foreign : (index : ℕ) → Foreign lines files index → Breach lines files
+-- A rule is broken: one line a group.
+pub data Breach (list : ListTree) (files : List (List ℕ)) (b : Break) : Type 0 where
+  of_file : BreaksFile list.lines files b → Breach list files b
+  of_world : BreaksWorld list files b → Breach list files b
+  of_foreign : BreaksForeign list.lines files b → Breach list files b
 
-abbrev pub refusal_of : (lines : List FileLine) (files : List (List ℕ)) → Breach lines files → Refusal
-refusal_of lines files (in_file index at breach) = file_refusal at.line at.bytes breach
-refusal_of lines files (foreign index f) = foreign_refusal lines files index f
+-- The break is one of these, and none of these stands before it.
+pub record IsFirstOf (Group : Break → Type 0) (b : Break) : Type 0 where
+  pub breaks : Group b
+  pub least : (a : Break) → Group a → NotAfter b.rank a.rank
 
-abbrev pub rank_of : (lines : List FileLine) (files : List (List ℕ)) → Breach lines files → Rank
-rank_of lines files (in_file index at breach) = file_rank index at.line at.bytes breach
-rank_of lines files (foreign index f) = foreign_rank lines files index f
+-- The refusal is that of the first of these.
+pub record IsFirstRefused (Group : Break → Type 0) (r : Refusal) : Type 0 where
+  pub broken : Break
+  pub first : IsFirstOf Group broken
+  pub is : r ≡ broken.refusal
 
 -- The refusal is of a broken rule, and no broken rule stands before that one.
-pub record IsFirstBroken (lines : List FileLine) (files : List (List ℕ)) (r : Refusal) : Type 0 where
-  pub breach : Breach lines files
-  pub is : r ≡ refusal_of lines files breach
-  pub first : (other : Breach lines files) → NotAfter (rank_of lines files breach) (rank_of lines files other)
+abbrev pub IsFirstBroken : ListTree → List (List ℕ) → Refusal → Type 0
+IsFirstBroken list files r = IsFirstRefused (Breach list files) r

@@ -1,5 +1,5 @@
--- What the files of a list spell.
-use Rattle.std.specs.Prelude.{◌≡◌, ◌⊎◌, ◌<◌, ℕ, List, [], ◌∷◌, ◌++◌, length, true, false, Option, Some, None, Result, Ok, Err}
+-- What reading the files of a list gives.
+use Rattle.std.specs.Prelude.{◌≡◌, ◌<◌, ℕ, List, [], ◌∷◌, ◌++◌, length, true, false, Option, Some, None, Result, Ok, Err}
 use Rattle.cjc_bytes.specs.Format.{FileSpells}
 use Rattle.cjc_bytes.specs.declared.fault.Fault.{Fault}
 use Rattle.cjc_bytes.specs.declared.fault.Fault.TheVariants as faults
@@ -11,16 +11,12 @@ use Rattle.cjc_code.specs.Decoded.{decoding_at, refusal_of as code_refusal_of}
 use Rattle.cjc_code.specs.declared.insn.JInsn.{JInsn}
 use Rattle.cjc_code.specs.declared.method_code.MethodCode.{MethodCode}
 use Rattle.cjc_export.specs.ExportFile.{export_file}
-use Rattle.cjc_export.specs.declared.tree.ExportTree.{ExportTree}
 use Rattle.cjc_convert.specs.Codes.{all_codes, codes_of_methods}
-use Rattle.cjc_convert.specs.Rules.{CodeBreaks, FileBreach, file_refusal, file_rank, Foreign, foreign_refusal, foreign_rank, IsFirstBroken}
+use Rattle.cjc_convert.specs.Rules.{CodeBreaks, FileBreach, file_refusal, file_rank, Foreign, BreaksFile, BreaksForeign, IsFirstRefused}
+use Rattle.cjc_convert.specs.Spelt.{FileTree, of_class, of_export, classes_of, exports_of}
 use Rattle.cjc_bytes.specs.Order.{NotAfter}
+use Rattle.cjc_world.specs.Files.{Files}
 use Rattle.cjc_convert.specs.declared.reading.Trees.{Trees}
-
--- what one file spells
-pub data FileTree : Type 0 where
-  of_class : ClassTree → FileTree
-  of_export : ExportTree → FileTree
 
 -- The code of no method breaks rule 103.
 abbrev pub AreInstructions : ClassTree → Type 0
@@ -38,18 +34,6 @@ AllSpelt (line ∷ lines) [] trees = ⊥
 AllSpelt (line ∷ lines) (bytes ∷ files) [] = ⊥
 AllSpelt (line ∷ lines) (bytes ∷ files) (tree ∷ trees) = FileIs line bytes tree × AllSpelt lines files trees
 
--- the classes, in list order
-abbrev pub classes_of : List FileTree → List ClassTree
-classes_of [] = []
-classes_of (of_class tree ∷ trees) = tree ∷ classes_of trees
-classes_of (of_export tree ∷ trees) = classes_of trees
-
--- the export files, in list order
-abbrev pub exports_of : List FileTree → List ExportTree
-exports_of [] = []
-exports_of (of_class tree ∷ trees) = exports_of trees
-exports_of (of_export tree ∷ trees) = tree ∷ exports_of trees
-
 -- The files spell these classes and export files, and the classes' methods have these codes.
 pub record AreRead (lines : List FileLine) (files : List (List ℕ)) (read : Trees) : Type 0 where
   pub trees : List FileTree
@@ -58,11 +42,13 @@ pub record AreRead (lines : List FileLine) (files : List (List ℕ)) (read : Tre
   pub exports : read.exports ≡ exports_of trees
   pub codes : read.codes ≡ all_codes read.classes
 
--- Of the first so many files, the refusal is the first by rule 303; or none of them breaks it.
+-- what was read, as a world and codes have it
+abbrev pub read_of : Files → List MethodCode → Trees
+read_of world codes = record { classes = world.classes; exports = world.exports; codes = codes; unsupported = None }
+
+-- The refusal is the first by rule 303; or none of the first so many files breaks it.
 abbrev pub FirstForeign : List FileLine → List (List ℕ) → (bound : ℕ) → Option Refusal → Type 0
-FirstForeign lines files bound (Some r) =
-    (index : ℕ) × (f : Foreign lines files index) × (r ≡ foreign_refusal lines files index f)
-    × ((i : ℕ) (other : Foreign lines files i) → NotAfter (foreign_rank lines files index f) (foreign_rank lines files i other))
+FirstForeign lines files bound (Some r) = IsFirstRefused (BreaksForeign lines files) r
 FirstForeign lines files bound None = (index : ℕ) → index < bound → Foreign lines files index → ⊥
 
 -- ---- reading one method after the other
@@ -128,5 +114,5 @@ pub record AllRead (lines : List FileLine) (files : List (List ℕ)) (read : Tre
 
 abbrev pub ReadsFiles : List FileLine → List (List ℕ) → Result Trees Fault → Type 0
 ReadsFiles lines files (Ok read) = AllRead lines files read
-ReadsFiles lines files (Err (faults.Refused r)) = IsFirstBroken lines files r
+ReadsFiles lines files (Err (faults.Refused r)) = IsFirstRefused (BreaksFile lines files) r
 ReadsFiles lines files (Err faults.NoMemory) = Unit {0}

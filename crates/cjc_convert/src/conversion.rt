@@ -1,6 +1,6 @@
 //! The conversion: what is written for a package, or the first broken rule.
 
-ghost use Rattle.std.specs.Prelude.{◌≡◌, ◌⊎◌, ◌≤◌, ◌↔◌, IsTrue, length, IfOk, IfErr, IfSome, IfNone};
+ghost use Rattle.std.specs.Prelude.{◌≡◌, ◌⊎◌, ◌≤◌, ◌↔◌, [], IsTrue, length, IfOk, IfErr, IfSome, IfNone, OnOk};
 ghost use Rattle.cjc_bytes.specs.declared.fault.Fault.TheVariants as faults;
 ghost use Rattle.cjc_bytes.specs.declared.fault.Refusal.{Refusal as Broken};
 ghost use Rattle.cjc_classfile.specs.declared.tree.ClassTree.{ClassTree as Tree};
@@ -9,7 +9,9 @@ ghost use Rattle.cjc_capwrite.specs.Writable.{IsSpelt};
 ghost use Rattle.cjc_convert.specs.FirstForm.{IsFirstForm};
 ghost use Rattle.cjc_convert.specs.Codes.{first_insns};
 ghost use Rattle.cjc_convert.specs.Tests.{IsFormWith};
-ghost use Rattle.cjc_convert.specs.Trees.{AreRead};
+ghost use Rattle.cjc_world.specs.Rules.{Break, breaks, IsFirstRefusal};
+ghost use Rattle.cjc_convert.specs.Rules.{Breach, world_files};
+ghost use Rattle.cjc_convert.specs.Trees.{AreRead, read_of};
 ghost use Rattle.cjc_convert.specs.Conversion.{IsRead, AreFiles, IsLang, IsSomePair, HasPair, IsForm, FormOf, IsCapOf, IsWithinLimits, IsExportOf, IsMadeFor, IsConverted, IsRefused, line_of};
 
 use crate::components::tree_for;
@@ -21,8 +23,10 @@ use cjc_bytes::{Bytes, Fault, FileLine, NoMemory, Row, refused};
 use cjc_capread::CapTree;
 use cjc_capwrite::CapFiles;
 use cjc_classfile::ClassTree;
-use cjc_code::JInsn;
+use cjc_code::{JInsn, MethodCode};
+use cjc_export::ExportTree;
 use cjc_list::List;
+use cjc_world::World;
 use std::alloc::Global;
 
 /// What a conversion writes.
@@ -63,19 +67,18 @@ fn has_pair(list: &List, files: &[Bytes]) -> bool
 }
 
 // The number of parameters, where the package is of the form.
-fn form_of(list: &List, files: &[Bytes], trees: &Trees<'_>) -> Option<u8>
-    requires { AreRead list.now.lines files.now trees.now }
-    ensures found { IfSome result (λ params. FormOf list.now files.now trees.now.classes params (first_insns trees.now.codes)) }
+fn form_of(list: &List, files: &[Bytes], world: &World<'_>, codes: &[MethodCode]) -> Option<u8>
+    requires { AreRead list.now.lines files.now (read_of world.now codes.now) }
+    ensures found { IfSome result (λ params. FormOf list.now files.now world.now.classes params (first_insns codes.now)) }
     ensures none { IfNone result ((tree : Tree) → IsForm list.now files.now tree → ⊥) }
 {
     if !has_pair(list, files) {
         return None;
     }
-    let classes = trees.classes.items();
-    if classes.len() != 1 {
+    let [class] = world.classes().items() else {
         return None;
-    }
-    first_form(list.package.items(), &classes[0], trees.codes.items())
+    };
+    first_form(list.package.items(), class, codes)
 }
 
 // The components of a package of the form, as trees.
@@ -134,12 +137,73 @@ fn made_for(
     Ok(Converted { caps, export })
 }
 
+// The lines of a list that name files, in memory of their own.
+fn lines_of(alloc: Global, list: &List) -> Result<Row<FileLine>, NoMemory>
+    ensures { IfOk result (λ lines. lines ≡ list.now.lines) }
+{
+    let mut lines = Row::new(alloc);
+    for line in list.lines.items() {
+        lines.push(FileLine {
+            class_file: line.class_file,
+            name: Bytes::copy_of(alloc, line.name.items())?,
+        })?;
+    }
+    Ok(lines)
+}
+
+// The world of the package of a list, of which these are the class files and the export files.
+fn world_of<'a>(
+    alloc: Global,
+    list: &List,
+    classes: Row<ClassTree<'a>>,
+    exports: Row<ExportTree>,
+) -> Result<World<'a>, Fault>
+    ensures made { IfOk result (λ w. w ≡ world_files list.now classes.entry exports) }
+    ensures unbroken { OnOk result (breaks list.now.name (world_files list.now classes.entry exports) ≡ []) }
+    ensures refused { IfErr result (IsFirstRefusal (breaks list.now.name (world_files list.now classes.entry exports))) }
+{
+    let lines = lines_of(alloc, list)?;
+    World::new(
+        alloc,
+        list.name.items(),
+        list.package.items(),
+        lines,
+        classes,
+        exports,
+    )
+}
+
+// What is written for a package that breaks no rule, of which this is the world and these are the codes.
+fn convert_unbroken(
+    alloc: Global,
+    list: &List,
+    files: &[Bytes],
+    world: &World<'_>,
+    codes: &[MethodCode],
+) -> Result<Converted, Fault>
+    requires read { IsRead list.now }
+    requires trees { AreRead list.now.lines files.now (read_of world.now codes.now) }
+    requires unbroken { (b : Break) → Breach list.now files.now b → ⊥ }
+    ensures converted { IfOk result (IsConverted list.now files.now) }
+    ensures refused { IfErr result (λ e. (e ≡ faults.NoMemory) ⊎ ((r : Broken) × IsRefused list.now files.now r × (e ≡ faults.Refused r))) }
+{
+    match form_of(list, files, world, codes) {
+        Some(params) => {
+            let class = &world.classes().items()[0];
+            let insns = codes[0].insns.items();
+            made_for(alloc, list, class, params, insns)
+        }
+        None => Err(refused(alloc, list.name.items(), 801, 0)),
+    }
+}
+
 /// What is written for the package of a list, whose files these are in list order.
 ///
 /// # Errors
 ///
-/// The first broken rule: 101 or 102 of a class file, 103 of a method, 104 of an export file; else 303 of a
-/// method; else 801 at the list where the package is not of the form that is converted so far.
+/// The first broken rule: 101 or 102 of a class file, 103 of a method, 104 of an export file; else 201, 202, 203,
+/// 204, 207 or 208 of the classes and export files together; else 303 of a method; else 801 at the list where the
+/// package is not of the form that is converted so far.
 pub fn convert(alloc: Global, list: &List, files: &Row<Bytes>) -> Result<Converted, Fault>
     requires read { IsRead list.now }
     requires count { length files.now ≡ length list.now.lines }
@@ -147,16 +211,15 @@ pub fn convert(alloc: Global, list: &List, files: &Row<Bytes>) -> Result<Convert
     ensures converted { IfOk result (IsConverted list.now files.now) }
     ensures refused { IfErr result (λ e. (e ≡ faults.NoMemory) ⊎ ((r : Broken) × IsRefused list.now files.now r × (e ≡ faults.Refused r))) }
 {
-    let mut trees = read_files(alloc, list.lines.items(), files.items())?;
-    if let Some(refusal) = trees.unsupported.take() {
+    let Trees {
+        classes,
+        exports,
+        codes,
+        unsupported,
+    } = read_files(alloc, list.lines.items(), files.items())?;
+    let world = world_of(alloc, list, classes, exports)?;
+    if let Some(refusal) = unsupported {
         return Err(Fault::Refused(refusal));
     }
-    match form_of(list, files.items(), &trees) {
-        Some(params) => {
-            let class = &trees.classes.items()[0];
-            let insns = trees.codes.items()[0].insns.items();
-            made_for(alloc, list, class, params, insns)
-        }
-        None => Err(refused(alloc, list.name.items(), 801, 0)),
-    }
+    convert_unbroken(alloc, list, files.items(), &world, codes.items())
 }

@@ -225,6 +225,40 @@ fn refuses_and_writes_nothing(rt: HostRuntime) -> Result<(), Fail> {
     Ok(())
 }
 
+/// Lists that name other files than the first form's.
+const TWICE: &[u8] = b"package p A000000001 1.0\nexport lang.exp\nclass T.class\nclass U.class\n";
+
+const NO_LANG: &[u8] = b"package p A000000001 1.0\nexport p.exp\nclass T.class\n";
+
+const ALONE: &[u8] = b"package p A000000001 1.0\nclass T.class\n";
+
+const TWO_LANG: &[u8] =
+    b"package p A000000001 1.0\nexport lang.exp\nexport lang.exp\nclass T.class\n";
+
+#[test]
+fn refuses_by_the_world(rt: HostRuntime) -> Result<(), Fail> {
+    let mut longs = CLASS;
+    longs[95] = 0x61;
+    let cases: [(&[u8], &[u8], &str); 5] = [
+        (TWICE, &CLASS, "refused 202 U.class p/T - 0\n"),
+        (NO_LANG, &CLASS, "refused 207 list - - 0\n"),
+        (TWO_LANG, &CLASS, "refused 202 lang.exp - - 0\n"),
+        (ALONE, &longs, "refused 207 list - - 0\n"),
+        (LIST, &longs, "refused 303 T.class p/T f(S)S 2\n"),
+    ];
+    for (list, class, want) in cases {
+        let mut shelf = package(rt.alloc(), &[], class)?;
+        shelf.add(b"list", list)?;
+        shelf.add(b"U.class", &CLASS)?;
+        shelf.add(b"p.exp", &EXPORT_FILE)?;
+        let (text, end) = printed(rt.alloc(), &[], &CONVERT, &mut shelf)?;
+        assert_eq!(rt; end.as_str(), want);
+        assert_eq!(rt; text.as_str(), "");
+        assert!(rt; stand_before(&shelf, 0));
+    }
+    Ok(())
+}
+
 #[test]
 fn each_call_of_the_shelf_fails(rt: HostRuntime) -> Result<(), Fail> {
     for (call, want) in FAULTS {

@@ -1,5 +1,4 @@
-use Rattle.std.proofs.Common.{rules}
-use Rattle.cjc_convert.proofs.Decoding.{stands, some_code, no_code, has_code, step_abstract, step_code, all_read}
+use Rattle.cjc_convert.proofs.Decoding.{stands, some_code, no_code, step_abstract, step_code, all_read}
 use Rattle.cjc_convert.proofs.reading.decode_class.Goals as goal
 use Rattle.cjc_convert.proofs.reading.decode_class.Goals.{then-is_some+in_ok-refusal, else-is_some}
 

@@ -1,6 +1,6 @@
-use Rattle.std.proofs.Common.{◌<◌, length, arith, refl}
+use Rattle.std.proofs.Common.{◌<◌, length, arith}
 use Rattle.std.proofs.lemmas.Result.{err_from_is_err_and}
-use Rattle.cjc_convert.proofs.Files.{none_read, read_more, read_stops, all_read}
+use Rattle.cjc_convert.proofs.Files.{read_more, read_stops, all_read}
 use Rattle.cjc_convert.proofs.reading.read_files.Goals as goal
 
 pub returns-in_err-read_file : goal.returns-in_err-read_file

@@ -1,0 +1,238 @@
+-- The first broken rule of some groups, by the first of each.
+use Rattle.std.proofs.Common.{◌≡◌, ℕ, ◌+◌, ◌<◌, ◌⊎◌, ⊎_elim, inl, inr, Bool, true, false, List, [], ◌∷◌, ◌++◌, Option, Some, None, length, refl, sym, ap, subst, ◌∙◌, arith}
+use Rattle.std.specs.Prelude.{map, slice_get, if◌then◌else◌}
+use Rattle.std.proofs.lemmas.Option.{slice_get_within}
+use Rattle.cjc_bytes.specs.Order.{numbers, AreUpTo, NotAfter}
+use Rattle.cjc_bytes.specs.declared.fault.Refusal.{Refusal}
+use Rattle.cjc_bytes.specs.declared.settings.FileLine.{FileLine}
+use Rattle.cjc_bytes.proofs.Laws.{one_value}
+use Rattle.cjc_classfile.specs.ClassFile.{class_file}
+use Rattle.cjc_classfile.specs.declared.tree.ClassTree.{ClassTree}
+use Rattle.cjc_export.specs.ExportFile.{export_file}
+use Rattle.cjc_export.specs.declared.tree.ExportTree.{ExportTree}
+use Rattle.cjc_list.specs.Listed.{ListTree}
+use Rattle.cjc_world.specs.Classes.{Class, Member, declared, numbered, size, all_classes}
+use Rattle.cjc_world.specs.Files.{Files}
+use Rattle.cjc_world.specs.Rules.{Break, Among, foremost, after, IsFirst, at_class, at_member, told, members_before, members_from, class_breaks, classes_breaks, class_file_breaks, export_file_breaks, breaks_from, breaks}
+use Rattle.cjc_convert.specs.Spelt.{FileTree, of_class, of_export, SpellsTree, SpellTrees}
+use Rattle.cjc_convert.specs.Rules.{FileBreach, no_class_file, no_instructions, no_export_file, file_rank, BreaksFile, files_spelt, BreaksWorld, BreaksForeign, Breach, of_file, of_world, of_foreign, IsFirstRefused, IsFirstBroken}
+use Rattle.cjc_convert.specs.Trees.{FileIs, AllSpelt, FirstForeign}
+use Rattle.cjc_convert.proofs.Files.{files_fine}
+
+-- ---- two groups
+
+-- What is broken is of one of two groups.
+abbrev pub Either : (Break → Type 0) → (Break → Type 0) → Break → Type 0
+Either G H b = G b ⊎ H b
+
+-- A first of a group that stands before all of another is the first of both.
+pub first_before : {G H : Break → Type 0} {r : Refusal} (f : IsFirstRefused G r) → ((a : Break) → H a → NotAfter f.broken.rank a.rank) → IsFirstRefused (Either G H) r
+first_before {G} {H} f behind = record { broken = f.broken; first = record { breaks = inl f.first.breaks; least = least }; is = f.is }
+  where
+    least : (a : Break) → Either G H a → NotAfter f.broken.rank a.rank
+    least a (inl g) = f.first.least a g
+    least a (inr h) = behind a h
+
+-- A first of a group is the first of it and of one that breaks nothing.
+pub first_after : {G H : Break → Type 0} {r : Refusal} → ((a : Break) → G a → ⊥) → IsFirstRefused H r → IsFirstRefused (Either G H) r
+first_after {G} {H} none f = record { broken = f.broken; first = record { breaks = inr f.first.breaks; least = least }; is = f.is }
+  where
+    least : (a : Break) → Either G H a → NotAfter f.broken.rank a.rank
+    least a (inl g) = absurd (none a g)
+    least a (inr h) = f.first.least a h
+
+upto_trans : (xs ys zs : List ℕ) → AreUpTo xs ys → AreUpTo ys zs → AreUpTo xs zs
+upto_trans [] ys zs p q = tt
+upto_trans (x ∷ xs) [] zs p q = absurd p
+upto_trans (x ∷ xs) (y ∷ ys) [] p q = absurd q
+upto_trans (x ∷ xs) (y ∷ ys) (z ∷ zs) p q =
+    ⊎_elim
+    (λ l. ⊎_elim (λ m. inl (omega (arith, l, m))) (λ m. inl (let e = m.0 in omega (arith, l, e))) q)
+    (λ l. ⊎_elim (λ m. inl (let e = l.0 in omega (arith, m, e))) (λ m. inr (l.0 ∙ m.0, upto_trans xs ys zs l.1 m.1)) q)
+    p
+
+-- Of the firsts of two groups, the one that does not stand after the other is the first of both.
+pub first_of_two : {G H : Break → Type 0} {r s : Refusal} (f : IsFirstRefused G r) (g : IsFirstRefused H s) → NotAfter f.broken.rank g.broken.rank → IsFirstRefused (Either G H) r
+first_of_two f g up = first_before f (λ a h. upto_trans (numbers f.broken.rank) (numbers g.broken.rank) (numbers a.rank) up (g.first.least a h))
+
+-- ---- the groups, and the hundreds of their rules
+
+-- the group of a broken rule: one line a group, the first ones first
+abbrev pub Groups : ListTree → List (List ℕ) → Break → Type 0
+Groups list files = Either (BreaksFile list.lines files) (Either (BreaksWorld list files) (BreaksForeign list.lines files))
+
+group_of : (list : ListTree) (files : List (List ℕ)) (b : Break) → Breach list files b → Groups list files b
+group_of list files b (of_file h) = inl h
+group_of list files b (of_world h) = inr (inl h)
+group_of list files b (of_foreign h) = inr (inr h)
+
+of_group : (list : ListTree) (files : List (List ℕ)) (b : Break) → Groups list files b → Breach list files b
+of_group list files b (inl h) = of_file h
+of_group list files b (inr (inl h)) = of_world h
+of_group list files b (inr (inr h)) = of_foreign h
+
+first_broken : (list : ListTree) (files : List (List ℕ)) (r : Refusal) → IsFirstRefused (Groups list files) r → IsFirstBroken list files r
+first_broken list files r f = record {
+  broken = f.broken;
+  first = record { breaks = of_group list files f.broken f.first.breaks; least = λ a h. f.first.least a (group_of list files a h) };
+  is = f.is;
+}
+
+file_family : (lines : List FileLine) (files : List (List ℕ)) (b : Break) → BreaksFile lines files b → b.rank.family ≡ 1
+file_family lines files b (i, at, breach, is) = ap (λ (x : Break). x.rank.family) is ∙ by i at.line at.bytes breach
+  where
+    by : (i : ℕ) (line : FileLine) (bytes : List ℕ) (x : FileBreach line bytes) → (file_rank i line bytes x).family ≡ 1
+    by i line bytes (no_class_file p c h) = refl
+    by i line bytes (no_instructions t m o c s h) = refl
+    by i line bytes (no_export_file p c h) = refl
+
+foreign_family : (lines : List FileLine) (files : List (List ℕ)) (b : Break) → BreaksForeign lines files b → b.rank.family ≡ 3
+foreign_family lines files b (i, f, is) = ap (λ (x : Break). x.rank.family) is
+
+-- All of these are of the second hundred.
+record InSecond (bs : List Break) : Type 0 where
+  family : (b : Break) → Among b bs → b.rank.family ≡ 2
+
+second_none : InSecond []
+second_none = record { family = λ b i. elim i [ ] }
+
+second_more : (x : Break) (xs : List Break) → x.rank.family ≡ 2 → InSecond xs → InSecond (x ∷ xs)
+second_more x xs two p = record { family = by }
+  where
+    by : (b : Break) → Among b (x ∷ xs) → b.rank.family ≡ 2
+    by b foremost = two
+    by b (after i) = p.family b i
+
+second_append : (xs ys : List Break) → InSecond xs → InSecond ys → InSecond (xs ++ ys)
+second_append [] ys p q = q
+second_append (x ∷ xs) ys p q = second_more x (xs ++ ys) (p.family x foremost) (second_append xs ys (record { family = λ b i. p.family b (after i) }) q)
+
+second_map : (at : ℕ → Break) (rules : List ℕ) → ((rule : ℕ) → (at rule).rank.family ≡ 2) → InSecond (map at rules)
+second_map at [] two = second_none
+second_map at (rule ∷ rules) two = second_more (at rule) (map at rules) (two rule) (second_map at rules two)
+
+members_second : (file : ℕ) (name : List ℕ) (k : ℕ) (w : List Class) (c : Class) (field : Bool) (i : ℕ) (ms : List Member) → InSecond (members_from file name k w c field i ms)
+unfolding members_from
+members_second file name k w c field i [] = second_none
+members_second file name k w c field i (m ∷ ms) =
+    second_append _ _ (second_map (λ rule. at_member file name k c.name (members_before field c + i + 1) (told field m.name m.desc) rule) _ (λ rule. refl)) (members_second file name k w c field (i + 1) ms)
+
+class_second : (owner : List ℕ) (file : ℕ) (name : List ℕ) (k : ℕ) (w : List Class) (c : Class) → InSecond (class_breaks owner file name k w c)
+unfolding class_breaks
+class_second owner file name k w c =
+    second_append _ _ (second_append _ _ (second_map (λ rule. at_class file name k c.name rule) _ (λ rule. refl)) (members_second file name k w c true 0 c.fields)) (members_second file name k w c false 0 c.methods)
+
+classes_second : (owner : List ℕ) (file : ℕ) (name : List ℕ) (k : ℕ) (w cs : List Class) → InSecond (classes_breaks owner file name k w cs)
+unfolding classes_breaks
+classes_second owner file name k w [] = second_none
+classes_second owner file name k w (c ∷ cs) = second_append _ _ (class_second owner file name k w c) (classes_second owner file name (k + 1) w cs)
+
+class_file_second : (files : Files) (file : ℕ) (name : List ℕ) (w : List Class) (number : ℕ) (o : Option ClassTree) → InSecond (class_file_breaks files file name w number o)
+class_file_second files file name w number None = second_none
+class_file_second files file name w number (Some c) = class_second files.package_name file name 1 w (declared number c)
+
+export_file_second : (files : Files) (file : ℕ) (name : List ℕ) (w : List Class) (e number : ℕ) (o : Option ExportTree) → InSecond (export_file_breaks files file name w e number o)
+export_file_second files file name w e number None = second_none
+export_file_second files file name w e number (Some t) =
+    second_append _ _ (second_map (λ rule. at_class file name 0 [] rule) _ (λ rule. refl)) (classes_second files.package_name file name 1 w (numbered number t.classes))
+
+lines_second : (files : Files) (w : List Class) (k c e i : ℕ) (lines : List FileLine) → InSecond (breaks_from files w k c e i lines)
+unfolding breaks_from
+lines_second files w k c e i [] = second_none
+lines_second files w k c e i (line ∷ lines) = by line.class_file (λ c e i. lines_second files w (k + 1) c e i lines)
+  where
+    by : (b : Bool) → ((c e i : ℕ) → InSecond (breaks_from files w (k + 1) c e i lines))
+        → InSecond (if b
+        then class_file_breaks files (k + 1) line.name w c (slice_get files.classes c) ++ breaks_from files w (k + 1) (c + 1) e i lines
+        else export_file_breaks files (k + 1) line.name w e i (slice_get files.exports e) ++ breaks_from files w (k + 1) c (e + 1) (i + size (slice_get files.exports e)) lines)
+    by true more = second_append _ _ (class_file_second files (k + 1) line.name w c (slice_get files.classes c)) (more (c + 1) e i)
+    by false more = second_append _ _ (export_file_second files (k + 1) line.name w e i (slice_get files.exports e)) (more c (e + 1) (i + size (slice_get files.exports e)))
+
+breaks_second : (list : List ℕ) (files : Files) → InSecond (breaks list files)
+unfolding breaks
+breaks_second list files = second_append _ _ (second_map (λ rule. at_class 0 list 0 [] rule) _ (λ rule. refl)) (lines_second files (all_classes files) 0 0 0 0 files.lines)
+
+world_family : (list : ListTree) (files : List (List ℕ)) (b : Break) → BreaksWorld list files b → b.rank.family ≡ 2
+world_family list files b (trees, spelt, among) = (breaks_second list.name (files_spelt list trees)).family b among
+
+-- ---- what the files spell
+
+no_true : {P : Type 0} (b : FileLine) → b.class_file ≡ true → b.class_file ≡ false → P
+no_true b e f = absurd (let g : true ≡ false = sym e ∙ f in cc)
+
+one_tree : (line : FileLine) (bytes : List ℕ) (t u : FileTree) → SpellsTree line bytes t → SpellsTree line bytes u → t ≡ u
+one_tree line bytes (of_class t) (of_class u) p q = ap of_class (one_value class_file bytes t u p.1 q.1)
+one_tree line bytes (of_class t) (of_export u) p q = no_true line p.0 q.0
+one_tree line bytes (of_export t) (of_class u) p q = no_true line q.0 p.0
+one_tree line bytes (of_export t) (of_export u) p q = ap of_export (one_value export_file bytes t u p.1 q.1)
+
+-- files spell one list of trees at most
+pub one_spelling : (lines : List FileLine) (files : List (List ℕ)) (ts us : List FileTree) → SpellTrees lines files ts → SpellTrees lines files us → ts ≡ us
+one_spelling [] files ts us p q = p.1 ∙ sym q.1
+one_spelling (l ∷ ls) [] ts us p q = absurd p
+one_spelling (l ∷ ls) (b ∷ bs) [] us p q = absurd p
+one_spelling (l ∷ ls) (b ∷ bs) (t ∷ ts) [] p q = absurd q
+one_spelling (l ∷ ls) (b ∷ bs) (t ∷ ts) (u ∷ us) p q =
+    let first = one_tree l b t u p.0 q.0 in
+    let rest = one_spelling ls bs ts us p.1 q.1 in
+    cc
+
+spells : (line : FileLine) (bytes : List ℕ) (t : FileTree) → FileIs line bytes t → SpellsTree line bytes t
+spells line bytes (of_class t) p = (p.0, p.1)
+spells line bytes (of_export t) p = (p.0, p.1)
+
+pub all_spell : (lines : List FileLine) (files : List (List ℕ)) (ts : List FileTree) → AllSpelt lines files ts → SpellTrees lines files ts
+all_spell [] files ts p = p
+all_spell (l ∷ ls) [] ts p = absurd p
+all_spell (l ∷ ls) (b ∷ bs) [] p = absurd p
+all_spell (l ∷ ls) (b ∷ bs) (t ∷ ts) p = (spells l b t p.0, all_spell ls bs ts p.1)
+
+-- ---- the first of all, group by group
+
+lower_family : (a b : Break) → a.rank.family < b.rank.family → NotAfter a.rank b.rank
+lower_family a b lt = inl lt
+
+-- a rule of the first hundred
+pub file_stops : (list : ListTree) (files : List (List ℕ)) (r : Refusal) → IsFirstRefused (BreaksFile list.lines files) r → IsFirstBroken list files r
+file_stops list files r f = first_broken list files r (first_before f behind)
+  where
+    one : f.broken.rank.family ≡ 1
+    one = file_family list.lines files f.broken f.first.breaks
+
+    behind : (a : Break) → Either (BreaksWorld list files) (BreaksForeign list.lines files) a → NotAfter f.broken.rank a.rank
+    behind a (inl h) = lower_family f.broken a (let two = world_family list files a h in omega (arith, one, two))
+    behind a (inr h) = lower_family f.broken a (let three = foreign_family list.lines files a h in omega (arith, one, three))
+
+module _ (list : ListTree) (files : List (List ℕ)) (trees : List FileTree) (all : AllSpelt list.lines files trees) where
+  spelt_once : (us : List FileTree) → SpellTrees list.lines files us → us ≡ trees
+  spelt_once us p = one_spelling list.lines files us trees p (all_spell list.lines files trees all)
+
+  -- a rule of the world, where no file breaks a rule by itself
+  pub world_stops : (b : Break) → IsFirst b (breaks list.name (files_spelt list trees)) → IsFirstBroken list files b.refusal
+  world_stops b f = first_broken list files b.refusal (first_after (files_fine list.lines files trees all) (first_before world behind))
+    where
+      least : (a : Break) → BreaksWorld list files a → NotAfter b.rank a.rank
+      least a (us, spelt, among) = f.least a (subst (λ (ts : List FileTree). Among a (breaks list.name (files_spelt list ts))) (spelt_once us spelt) among)
+
+      world : IsFirstRefused (BreaksWorld list files) b.refusal
+      world = record { broken = b; first = record { breaks = (trees, all_spell list.lines files trees all, f.among); least = least }; is = refl }
+
+      behind : (a : Break) → BreaksForeign list.lines files a → NotAfter b.rank a.rank
+      behind a h = lower_family b a (let two = (breaks_second list.name (files_spelt list trees)).family b f.among in let three = foreign_family list.lines files a h in omega (arith, two, three))
+
+  module _ (unbroken : breaks list.name (files_spelt list trees) ≡ []) where
+    world_fine : (a : Break) → BreaksWorld list files a → ⊥
+    world_fine a (us, spelt, among) = none (subst (Among a) (ap (λ (ts : List FileTree). breaks list.name (files_spelt list ts)) (spelt_once us spelt) ∙ unbroken) among)
+      where
+        none : Among a [] → ⊥
+        none i = elim i [ ]
+
+    -- rule 303, where no rule before it is broken
+    pub foreign_stops : (r : Refusal) → IsFirstRefused (BreaksForeign list.lines files) r → IsFirstBroken list files r
+    foreign_stops r f = first_broken list files r (first_after (files_fine list.lines files trees all) (first_after world_fine f))
+
+    -- no rule is broken
+    pub none_broken : FirstForeign list.lines files (length list.lines) None → (b : Break) → Breach list files b → ⊥
+    none_broken none b (of_file h) = files_fine list.lines files trees all b h
+    none_broken none b (of_world h) = world_fine b h
+    none_broken none b (of_foreign (i, f, is)) = none i (slice_get_within list.lines i f.at.line f.at.is_line) f
