@@ -12,3 +12,14 @@ pub mod Indexing
 pub mod Upwards
 pub mod Sorted
 pub mod Unbroken
+pub mod Joined
+pub mod ByPlace
+pub mod Trees
+pub mod Filling
+pub mod Piecing
+pub mod Noted
+pub mod Tests
+pub mod Positions
+pub mod Asking
+pub mod Adding
+pub mod Gets

@@ -1,7 +1,7 @@
 -- The class of a number among those of spots, one spot further.
 use Rattle.std.proofs.Common.{◌≡◌, ℕ, ◌<◌, ◌≤◌, ◌+◌, ap, subst, arith, suc, Bool, true, false, List, [], ◌∷◌, length, get_or, drop}
 use Rattle.std.proofs.Common.{◌∙◌}
-use Rattle.std.specs.Prelude.{All, Option, Some, None, if◌then◌else◌}
+use Rattle.std.specs.Prelude.{All, Some, None, if◌then◌else◌}
 use Rattle.std.proofs.lemmas.Grind.{common_steps}
 use Rattle.cjc_world.specs.declared.spot.Spot.{Spot}
 use Rattle.cjc_classfile.specs.declared.tree.ClassTree.{ClassTree}

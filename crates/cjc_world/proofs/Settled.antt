@@ -15,7 +15,7 @@ unfolding class_named grown kin
 bytes-refl x = grind (arith, bytes_eq-Decides)
 
 -- every way upwards from the name ends within so many steps
-data Settles (w : List Class) : ℕ → List ℕ → Type 0 where
+pub data Settles (w : List Class) : ℕ → List ℕ → Type 0 where
   nothing : {n : ℕ} {x : List ℕ} → class_named w x ≡ None → Settles w (suc n) x
   something : {n : ℕ} {x : List ℕ} (c : Class) → class_named w x ≡ Some c → ((y : List ℕ) → Lists y (c.supers ++ c.interfaces) → Settles w n y) → Settles w (suc n) x
 
@@ -121,7 +121,7 @@ named-left (d ∷ w) x c e = by (bytes_eq d.name x) e (named-left w x c)
     by true e rest = refl
     by false e rest = rest e
 
-every_settles : (w : List Class) → IsAcyclic w → (x : List ℕ) → Settles w (suc (length w)) x
+pub every_settles : (w : List Class) → IsAcyclic w → (x : List ℕ) → Settles w (suc (length w)) x
 unfolding AllLeft class_named grown kin
 every_settles w acyclic x = let n = names-length w in settles w acyclic (length w) (names w) x (omega arith) (λ z c way e. named-left w z c e)
 

@@ -1,13 +1,13 @@
 -- What is broken stands in the order of refusals, so the first of it is the first in the order.
 use Rattle.std.proofs.Common.{◌≡◌, ℕ, zero, suc, ◌<◌, ◌≤◌, ◌+◌, refl, sym, ap, subst, ◌∙◌, arith, Bool, true, false, List, [], ◌∷◌, ◌++◌, length, inl, inr, ⊎_elim}
-use Rattle.std.specs.Prelude.{◌⊎◌, map, not, ◌&&◌, Option, Some, None, slice_get, if◌then◌else◌}
+use Rattle.std.specs.Prelude.{◌⊎◌, map, not, ◌&&◌, ◌||◌, Option, Some, None, slice_get, if◌then◌else◌}
 use Rattle.cjc_bytes.specs.declared.settings.FileLine.{FileLine}
 use Rattle.cjc_classfile.specs.declared.tree.ClassTree.{ClassTree}
 use Rattle.cjc_export.specs.declared.tree.ExportTree.{ExportTree}
 use Rattle.cjc_world.specs.Files.{Files}
 use Rattle.cjc_bytes.specs.Order.{numbers, AreUpTo}
 use Rattle.cjc_world.specs.Classes.{Member, Class, declared, numbered, size, all_classes}
-use Rattle.cjc_world.specs.Rules.{Break, when, head, at_class, at_member, told, members, members_before, class_rules, member_rules, members_from, class_breaks, classes_breaks, class_file_breaks, export_file_breaks, breaks_from, breaks, Among, foremost, after, IsFirst, is_of_package, is_second, lists_missing, is_own_super, lists_wrong, is_twice, is_desc_missing, is_second_package, has_language}
+use Rattle.cjc_world.specs.Rules.{gets_missing, Break, when, head, at_class, at_member, told, members, members_before, class_rules, member_rules, members_from, class_breaks, classes_breaks, class_file_breaks, export_file_breaks, breaks_from, breaks, Among, foremost, after, IsFirst, is_of_package, is_second, lists_missing, is_own_super, lists_wrong, is_twice, is_desc_missing, is_second_package, has_language}
 
 upto_refl : (xs : List ℕ) → AreUpTo xs xs
 upto_refl [] = tt
@@ -126,12 +126,12 @@ unfolding class_rules
 whole_rises p w c =
     let a = rising_when (not c.is_imported && not (is_of_package p c.name)) 0 201 201 (omega arith) (omega arith) in
     let b = rising_when (is_second w c) 201 202 202 (omega arith) (omega arith) in
-    let d = rising_when (not c.is_imported && lists_missing w c) 202 203 203 (omega arith) (omega arith) in
+    let d = rising_when (not c.is_imported && (lists_missing w c || gets_missing w c)) 202 203 203 (omega arith) (omega arith) in
     let e = rising_when (is_own_super w c) 203 204 204 (omega arith) (omega arith) in
     let g = rising_when (lists_wrong w c) 204 208 208 (omega arith) (omega arith) in
     let A = when (not c.is_imported && not (is_of_package p c.name)) 201 in
     let B = when (is_second w c) 202 in
-    let D = when (not c.is_imported && lists_missing w c) 203 in
+    let D = when (not c.is_imported && (lists_missing w c || gets_missing w c)) 203 in
     let E = when (is_own_super w c) 204 in
     let G = when (lists_wrong w c) 208 in
     rising_append 0 204 208 (A ++ B ++ D ++ E) G (rising_append 0 203 204 (A ++ B ++ D) E (rising_append 0 202 203 (A ++ B) D (rising_append 0 201 202 A B a b) d) e) g

@@ -1,6 +1,6 @@
 -- Where no rule is broken no class stands above itself.
 use Rattle.std.proofs.Common.{◌≡◌, ℕ, ◌+◌, refl, sym, ap, ◌∙◌, Bool, true, false, List, [], ◌∷◌, ◌++◌}
-use Rattle.std.specs.Prelude.{map, not, ◌&&◌, Option, Some, None, slice_get, if◌then◌else◌}
+use Rattle.std.specs.Prelude.{map, not, ◌&&◌, ◌||◌, Option, Some, None, slice_get, if◌then◌else◌}
 use Rattle.std.specs.Str.{bytes_eq}
 use Rattle.cjc_bytes.specs.declared.settings.FileLine.{FileLine}
 use Rattle.cjc_classfile.specs.declared.tree.ClassTree.{ClassTree}
@@ -8,7 +8,7 @@ use Rattle.cjc_export.specs.declared.tree.ExportTree.{ExportTree}
 use Rattle.cjc_world.specs.Files.{Files}
 use Rattle.cjc_world.specs.Classes.{Class, declared, numbered, size, of_class_file, of_export_file, classes_from, all_classes, class_named}
 use Rattle.cjc_world.specs.Kin.{IsAcyclic, stands_above}
-use Rattle.cjc_world.specs.Rules.{when, at_class, class_rules, members_from, class_breaks, classes_breaks, class_file_breaks, export_file_breaks, breaks_from, breaks, is_of_package, is_second, lists_missing, is_own_super, lists_wrong, is_second_package, has_language}
+use Rattle.cjc_world.specs.Rules.{gets_missing, when, at_class, class_rules, members_from, class_breaks, classes_breaks, class_file_breaks, export_file_breaks, breaks_from, breaks, is_of_package, is_second, lists_missing, is_own_super, lists_wrong, is_second_package, has_language}
 use Rattle.cjc_world.proofs.Cycles.{class_named-name, above-class, stands_where_above}
 
 nil_front : {A : Type 0} (xs ys : List A) → xs ++ ys ≡ [] → xs ≡ []
@@ -51,7 +51,7 @@ unfolding class_breaks class_rules
 class_clear p file fn k w c e =
     let A = when (not c.is_imported && not (is_of_package p c.name)) 201 in
     let B = when (is_second w c) 202 in
-    let D = when (not c.is_imported && lists_missing w c) 203 in
+    let D = when (not c.is_imported && (lists_missing w c || gets_missing w c)) 203 in
     let E = when (is_own_super w c) 204 in
     let G = when (lists_wrong w c) 208 in
     let F = members_from file fn k w c true 0 c.fields in

@@ -1,10 +1,12 @@
 -- The methods that an abstract class gets: one for each method of its interfaces that it neither declares nor
 -- inherits from a superclass as a public or protected method that is not static.
-use Rattle.std.specs.Prelude.{ℕ, zero, suc, ◌+◌, ◌==◌, List, [], ◌∷◌, ◌++◌, length, Bool, true, false, not, ◌&&◌, ◌||◌, if◌then◌else◌, codes}
+use Rattle.std.specs.Prelude.{ℕ, zero, suc, ◌+◌, ◌==◌, List, [], ◌∷◌, ◌++◌, map, length, slice_get, Bool, true, false, not, ◌&&◌, ◌||◌, if◌then◌else◌, Option, Some, None, codes}
 use Rattle.std.specs.List.{list_any}
 use Rattle.std.specs.Str.{bytes_eq}
 use Rattle.cjc_bytes.specs.declared.fault.MemberId.{MemberId}
-use Rattle.cjc_world.specs.Classes.{Member, Class, is_public, is_protected, is_static, is_interface, is_abstract}
+use Rattle.cjc_classfile.specs.declared.tree.ClassTree.{ClassTree}
+use Rattle.cjc_world.specs.Files.{Files}
+use Rattle.cjc_world.specs.Classes.{Member, Class, declared, all_classes, is_public, is_protected, is_static, is_interface, is_abstract}
 use Rattle.cjc_world.specs.Kin.{Kin, End, Unknown, Known, kin}
 use Rattle.cjc_world.specs.Interfaces.{gathered, known}
 use Rattle.cjc_world.specs.Lookup.{is_called}
@@ -79,3 +81,12 @@ added w c =
 
 abbrev pub named_by : List ℕ → Member → MemberId
 named_by class m = record { class = class; name = m.name; desc = m.desc }
+
+-- what the class of a file gets, by the name of the class
+abbrev pub added_to : List Class → ℕ → Option ClassTree → List MemberId
+added_to w number None = []
+added_to w number (Some c) = map (named_by c.name) (added w (declared number c))
+
+-- what a class of the package gets, by its place in list order
+unfoldable pub added_at : Files → ℕ → List MemberId
+added_at files number = added_to (all_classes files) number (slice_get files.classes number)

@@ -1,11 +1,16 @@
 pub mod Files
 pub mod Classes
 pub mod Kin
+pub mod Places
 pub mod Interfaces
+pub mod Names
+pub mod Tables
 pub mod Lookup
 pub mod Subtype
 pub mod Access
 pub mod Added
+pub mod Asked
+pub mod Drafts
 pub mod Known
 pub mod Spots
 pub mod Rules

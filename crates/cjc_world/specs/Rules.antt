@@ -14,6 +14,7 @@ use Rattle.cjc_world.specs.Files.{Files}
 use Rattle.cjc_world.specs.Classes.{Member, Class, declared, numbered, size, is_interface, all_classes, class_named}
 use Rattle.cjc_world.specs.Kin.{stands_above, is_below}
 use Rattle.cjc_world.specs.Lookup.{is_called, object}
+use Rattle.cjc_world.specs.Added.{added}
 use Rattle.cjc_bytes.specs.Order.{Rank, NotAfter}
 
 -- ---- 201: the name of a class of the package is not the package's name, a slash and one name part
@@ -59,7 +60,7 @@ is_earlier (Some k) i = nat_lt k i
 unfoldable pub is_twice : List Member → ℕ → (name desc : List ℕ) → Bool
 is_twice ms i name desc = is_earlier (position (λ k. is_called name desc k) ms) i
 
--- ---- 203: a class that a superclass, an interface or a descriptor names is in no file
+-- ---- 203: a class that a superclass, an interface or a descriptor of a member names is in no file
 
 abbrev pub is_none_of : Option Class → Bool
 is_none_of None = true
@@ -94,6 +95,15 @@ lists_missing w c = list_any (λ x. is_missing w x) c.supers || list_any (λ x. 
 
 abbrev pub is_own_super : List Class → Class → Bool
 is_own_super w c = stands_above w c.name c.name
+
+unfoldable pub has_cycle : List Class → Bool
+has_cycle w = list_any (λ c. is_own_super w c) w
+
+-- ---- 203 again: the descriptor of a method that an abstract class gets names a class that is in no file. Which
+-- ---- methods a class gets is told only of a world without cycles: in any other this counts as unbroken.
+
+unfoldable pub gets_missing : List Class → Class → Bool
+gets_missing w c = not (has_cycle w) && list_any (λ m. is_desc_missing w m.desc) (added w c)
 
 -- ---- 207: no export file is java/lang, or it lacks a class that is needed, or an exception is no subclass of Throwable
 
@@ -172,7 +182,7 @@ unfoldable pub class_rules : List ℕ → List Class → Class → List ℕ
 class_rules package_name w c =
     when (not c.is_imported && not (is_of_package package_name c.name)) 201
     ++ when (is_second w c) 202
-    ++ when (not c.is_imported && lists_missing w c) 203
+    ++ when (not c.is_imported && (lists_missing w c || gets_missing w c)) 203
     ++ when (is_own_super w c) 204
     ++ when (lists_wrong w c) 208
 
@@ -242,7 +252,7 @@ breaks_from files w k c e i (line ∷ lines) =
     then class_file_breaks files (k + 1) line.name w c (slice_get files.classes c) ++ breaks_from files w (k + 1) (c + 1) e i lines
     else export_file_breaks files (k + 1) line.name w e i (slice_get files.exports e) ++ breaks_from files w (k + 1) c (e + 1) (i + size (slice_get files.exports e)) lines
 
--- All that is broken of 201, 202, 203 (without added methods), 204, 207 and 208; the list's name is that of the file.
+-- All that is broken of 201, 202, 203, 204, 207 and 208; the list's name is that of the file.
 unfoldable pub breaks : (list : List ℕ) → Files → List Break
 breaks list files =
     map (λ rule. at_class 0 list 0 [] rule) (when (not (has_language (all_classes files) files.exports)) 207)

@@ -1,8 +1,13 @@
 //! A class of either kind of file, lent by a world.
 
-ghost use Rattle.std.specs.Prelude.{◌≡◌, ◌<◌, ◌+◌, ◌^◌, ◌&&◌, get_or, length, position};
+ghost use Rattle.std.specs.Prelude.{◌≡◌, ◌<◌, ◌+◌, ◌^◌, ◌&&◌, ◌==◌, get_or, length, MatchOption, None, Some, option_map, position, slice_get};
 ghost use Rattle.std.specs.Str.{bytes_eq};
+ghost use Rattle.std.specs.List.{find, list_any};
 ghost use Rattle.cjc_world.specs.Classes.{Member, has, is_interface};
+ghost use Rattle.cjc_world.specs.Added.{declares_open, is_open, takes_added};
+ghost use Rattle.cjc_world.specs.Asked.{IsNamed, asked, positioned};
+ghost use Rattle.cjc_classfile.specs.declared.tree.MethodTree.{MethodTree as ClassMethod};
+ghost use Rattle.cjc_export.specs.declared.tree.ExportMethod.{ExportMethod as ImportedMethod};
 ghost use Rattle.cjc_world.specs.Rules.{members};
 ghost use Rattle.cjc_world.specs.Known.{class_of};
 ghost use Rattle.cjc_world.specs.Lookup.{is_called, is_selectable, is_wanted, member_at, own_field, own_method};
@@ -12,6 +17,8 @@ use cjc_bytes::Bytes;
 use cjc_classfile::{ClassTree, FieldTree, MethodTree};
 use cjc_export::{ExportClass, ExportField, ExportMethod};
 use std::slice;
+
+const INITIALISER: &[u8] = b"<clinit>";
 
 /// A class with its number in what a look-up finds.
 #[derive(Clone, Copy)]
@@ -43,6 +50,50 @@ fn is_wanted(selecting: bool, flags: u16) -> bool
     } else {
         true
     }
+}
+
+/// Whether one of the methods is public or protected, is not static, and has this name and descriptor.
+fn class_opens(methods: &[MethodTree<'_>], name: &[u8], desc: &[u8]) -> bool
+    ensures { result ≡ list_any (λ m. is_open m.flags && (bytes_eq m.name name.now && bytes_eq m.desc desc.now)) methods.now }
+{
+    methods.iter().any(|m| is_open(m.flags) && (m.name.items() == name && m.desc.items() == desc))
+}
+
+fn export_opens(methods: &[ExportMethod], name: &[u8], desc: &[u8]) -> bool
+    ensures { result ≡ list_any (λ m. is_open m.flags && (bytes_eq m.name name.now && bytes_eq m.desc desc.now)) methods.now }
+{
+    methods.iter().any(|m| is_open(m.flags) && (m.name.items() == name && m.desc.items() == desc))
+}
+
+/// Whether a method is public or protected, and not static.
+fn is_open(flags: u16) -> bool
+    ensures { result ≡ is_open flags }
+{
+    (has(flags, 0x0001) || has(flags, 0x0004)) && !has(flags, 0x0008)
+}
+
+fn class_method_at<'w>(
+    methods: &'w [MethodTree<'_>],
+    position: usize,
+) -> Option<(&'w [u8], &'w [u8])>
+    ensures { MatchOption result (slice_get methods.now position ≡ None) (λ p. (m : ClassMethod) × (slice_get methods.now position ≡ Some m) × (m.name ≡ p.0.now) × (m.desc ≡ p.1.now)) }
+{
+    let method = methods.get(position)?;
+    Some((method.name.items(), method.desc.items()))
+}
+
+/// The first method with a token.
+fn with_token(methods: &[ExportMethod], token: usize) -> Option<&ExportMethod>
+    ensures { option_map (λ m. m.now) result ≡ find (λ m. m.token == token) methods.now }
+{
+    methods.iter().find(|m| usize::from(m.token) == token)
+}
+
+fn export_method_at(methods: &[ExportMethod], token: usize) -> Option<(&[u8], &[u8])>
+    ensures { MatchOption result (find (λ m. m.token == token) methods.now ≡ None) (λ p. (m : ImportedMethod) × (find (λ m. m.token == token) methods.now ≡ Some m) × (m.name ≡ p.0.now) × (m.desc ≡ p.1.now)) }
+{
+    let method = with_token(methods, token)?;
+    Some((method.name.items(), method.desc.items()))
 }
 
 fn class_field(fields: &[FieldTree], name: &[u8], desc: &[u8]) -> Option<usize>
@@ -251,6 +302,47 @@ impl<'w, 'a> Known<'w, 'a> {
         } else {
             self.method_place(false, name, desc)
         }
+    }
+
+    /// Whether it is an abstract class of the package and no interface.
+    pub(crate) fn takes_added(self) -> bool
+        ensures { result ≡ takes_added (class_of self.entry) }
+    {
+        match self {
+            Known::Declared(_, class) => has(class.flags, 0x0400) && !has(class.flags, 0x0200),
+            Known::Imported(..) => false,
+        }
+    }
+
+    /// Whether it declares such a method that is public or protected, and not static.
+    pub(crate) fn declares_open(self, name: &[u8], desc: &[u8]) -> bool
+        ensures { result ≡ declares_open name.now desc.now (class_of self.entry) }
+    {
+        match self {
+            Known::Declared(_, class) => class_opens(class.methods.items(), name, desc),
+            Known::Imported(_, class) => export_opens(class.methods.items(), name, desc),
+        }
+    }
+
+    /// The name and the descriptor of the method at a position, which in an export file is its token.
+    fn positioned(self, position: usize) -> Option<(&'w [u8], &'w [u8])>
+        ensures { MatchOption result (positioned (class_of self.entry) position ≡ None) (λ p. IsNamed (positioned (class_of self.entry) position) p.0.now p.1.now) }
+    {
+        match self {
+            Known::Declared(_, class) => class_method_at(class.methods.items(), position),
+            Known::Imported(_, class) => export_method_at(class.methods.items(), position),
+        }
+    }
+
+    /// The same of the own methods that other classes have from an interface: `<clinit>` is none.
+    pub(crate) fn asked(self, position: usize) -> Option<(&'w [u8], &'w [u8])>
+        ensures { MatchOption result (asked (class_of self.entry) position ≡ None) (λ p. IsNamed (asked (class_of self.entry) position) p.0.now p.1.now) }
+    {
+        let (name, desc) = self.positioned(position)?;
+        if name == INITIALISER {
+            return None;
+        }
+        Some((name, desc))
     }
 
     fn field_at(self, place: usize) -> (&'w [u8], &'w [u8])

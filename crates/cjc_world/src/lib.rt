@@ -2,12 +2,17 @@
 //! name (Java Virtual Machine Specification, section 5.4). It knows no instruction and no token.
 #![tactic(auto)]
 
+mod added;
 mod broken;
 mod class;
+mod draft;
 mod found;
 mod laws;
+mod names;
+mod roster;
 mod rules;
 mod spot;
+mod tables;
 mod world;
 
 pub use class::Known;

@@ -1,4 +1,4 @@
-//! The rules of a world: 201, 202, 203 (without added methods), 204, 207 and 208. The first that is broken is
+//! The rules of a world: 201, 202, 203, 204, 207 and 208. The first that is broken is
 //! the first that is met, since files, classes and members are walked in the order of refusals.
 
 ghost use Rattle.std.specs.Prelude.{◌≡◌, ◌<◌, ◌^◌, ◌+◌, ◌||◌, IfOk, length, slice_get, [], ◌∷◌, ◌++◌, not, option_map};
@@ -6,15 +6,18 @@ ghost use Rattle.cjc_world.specs.Broken.{break_of, member_of, text_of};
 ghost use Rattle.std.specs.List.{list_any, list_all};
 ghost use Rattle.std.specs.Str.{bytes_eq};
 ghost use Rattle.cjc_world.specs.Classes.{all_classes, class_named, is_interface, numbered};
+ghost use Rattle.cjc_world.specs.Drafts.{IsHeld};
 ghost use Rattle.cjc_world.specs.Known.{class_of};
 ghost use Rattle.cjc_world.specs.Lookup.{object};
-ghost use Rattle.cjc_world.specs.Rules.{breaks, breaks_from, class_breaks, class_file_breaks, classes_breaks, export_file_breaks, is_second_package, class_rules, is_earlier, member_rules, members, members_before, members_from, told, has_array_exceptions, has_class, has_exception, has_language, has_needed, has_other_exceptions, has_roots, head, is_class_of, is_desc_missing, is_element_missing, is_interface_of, is_missing, is_of_class_file, is_of_package, is_part, is_part_byte, is_second, is_slash_part, is_type_missing, lists_missing, lists_wrong, same_place};
+ghost use Rattle.cjc_world.specs.Rules.{breaks, breaks_from, class_breaks, class_file_breaks, classes_breaks, export_file_breaks, is_second_package, class_rules, is_earlier, member_rules, members, members_before, members_from, told, gets_missing, has_array_exceptions, has_class, has_exception, has_language, has_needed, has_other_exceptions, has_roots, head, is_class_of, is_desc_missing, is_element_missing, is_interface_of, is_missing, is_of_class_file, is_of_package, is_part, is_part_byte, is_second, is_slash_part, is_type_missing, lists_missing, lists_wrong, same_place};
 
 use crate::broken::{Break, Part};
 use crate::class::Known;
+use crate::draft::Draft;
+use crate::roster::Roster;
 use crate::spot::{size, sum};
-use crate::world::{OBJECT, World};
-use cjc_bytes::{Bytes, Desc, NoMemory};
+use crate::world::OBJECT;
+use cjc_bytes::{Bytes, Desc, MemberId, NoMemory};
 use cjc_export::{ExportClass, ExportTree};
 
 const LANGUAGE: &[u8] = b"java/lang";
@@ -82,7 +85,7 @@ fn has_roots(tree: &ExportTree) -> bool
     has_class(tree, OBJECT) && has_class(tree, THROWABLE)
 }
 
-impl<'a> World<'a> {
+impl<'a> Roster<'a> {
     fn is_missing(&self, name: &[u8]) -> bool
         ensures { result ≡ is_missing (all_classes self.now) name.now }
     {
@@ -211,69 +214,6 @@ impl<'a> World<'a> {
         }
     }
 
-    /// The first rule that a class breaks itself.
-    #[tactic(auto, unfolding(crate::specs::Rules::class_rules, crate::specs::Rules::head))]
-    fn class_rule(&self, class: Known<'_, 'a>) -> Option<u16>
-        ensures { result ≡ head (class_rules self.now.package_name (all_classes self.now) (class_of class.entry)) }
-    {
-        if !class.is_imported() && !is_of_package(self.package(), class.name()) {
-            Some(201)
-        } else if self.is_second(class) {
-            Some(202)
-        } else if !class.is_imported() && self.lists_missing(class) {
-            Some(203)
-        } else if self.is_own_super(class.name()) {
-            Some(204)
-        } else if self.lists_wrong(class) {
-            Some(208)
-        } else {
-            None
-        }
-    }
-
-    fn has_exception(&self, tree: &ExportTree, name: &[u8]) -> bool
-        ensures { result ≡ has_exception (all_classes self.now) tree.now name.now }
-    {
-        has_class(tree, name) && self.is_below(name, THROWABLE)
-    }
-
-    #[tactic(auto, unfolding(crate::specs::Rules::has_array_exceptions))]
-    fn has_array_exceptions(&self, tree: &ExportTree) -> bool
-        ensures { result ≡ has_array_exceptions (all_classes self.now) tree.now }
-    {
-        self.has_exception(tree, b"java/lang/ArrayIndexOutOfBoundsException")
-            && self.has_exception(tree, b"java/lang/ArrayStoreException")
-            && self.has_exception(tree, b"java/lang/NegativeArraySizeException")
-    }
-
-    #[tactic(auto, unfolding(crate::specs::Rules::has_other_exceptions))]
-    fn has_other_exceptions(&self, tree: &ExportTree) -> bool
-        ensures { result ≡ has_other_exceptions (all_classes self.now) tree.now }
-    {
-        self.has_exception(tree, b"java/lang/ArithmeticException")
-            && self.has_exception(tree, b"java/lang/ClassCastException")
-            && self.has_exception(tree, b"java/lang/NullPointerException")
-    }
-
-    #[tactic(auto, unfolding(crate::specs::Rules::has_needed))]
-    fn has_needed(&self, tree: &ExportTree) -> bool
-        ensures { result ≡ has_needed (all_classes self.now) tree.now }
-    {
-        has_roots(tree) && self.has_array_exceptions(tree) && self.has_other_exceptions(tree)
-    }
-
-    /// Whether java/lang is there, with all that is needed of it.
-    fn has_language(&self) -> bool
-        ensures { result ≡ has_language (all_classes self.now) self.now.exports }
-    {
-        for tree in self.exports().items() {
-            if tree.name.items() == LANGUAGE {
-                return self.has_needed(tree);
-            }
-        }
-        false
-    }
-
     /// Whether a type of the descriptor names a class that is in no file.
     fn is_any_missing(&self, desc: &Desc<'_>) -> bool
         ensures { result ≡ list_any (λ p. is_type_missing (all_classes self.now) p.class) (desc.now.params ++ desc.now.result ∷ []) }
@@ -348,6 +288,123 @@ impl<'a> World<'a> {
         None
     }
 
+    /// Whether the package of an export file stands in an earlier one, or is the package itself.
+    #[tactic(auto, unfolding(crate::specs::Rules::is_second_package))]
+    fn is_second_package(&self, place: u32, tree: &ExportTree) -> bool
+        requires { place < length self.now.exports }
+        ensures { result ≡ is_second_package self.now place tree.now }
+    {
+        tree.name.items() == self.package()
+            || has_tree(&self.exports().items()[..place as usize], tree.name.items())
+    }
+}
+
+fn any_desc_missing<'w>(roster: &Roster<'w>, ids: &[MemberId]) -> bool
+    ensures { result ≡ list_any (λ i. is_desc_missing (all_classes roster.now) i.desc) ids.now }
+{
+    ids.iter().any(|id| roster.is_desc_missing(id.desc.items()))
+}
+
+impl<'a> Draft<'a> {
+    /// Whether a method that a class gets from its interfaces names a class that is in no file.
+    fn gets_missing(&self, class: Known<'_, 'a>) -> bool
+        requires { IsHeld self.now class }
+        ensures { result ≡ gets_missing (all_classes self.now) (class_of class.entry) }
+    {
+        let tables = match &self.tables {
+            Some(tables) => tables,
+            None => return false,
+        };
+        match class {
+            Known::Declared(number, _) => {
+                let added = tables.added.items();
+                any_desc_missing(&self.roster, added[number as usize].items())
+            }
+            Known::Imported(..) => false,
+        }
+    }
+
+    /// The first rule that a class breaks itself.
+    #[tactic(auto, unfolding(crate::specs::Rules::class_rules, crate::specs::Rules::head))]
+    fn class_rule(&self, class: Known<'_, 'a>) -> Option<u16>
+        requires { IsHeld self.now class }
+        ensures { result ≡ head (class_rules self.now.package_name (all_classes self.now) (class_of class.entry)) }
+    {
+        if !class.is_imported() && !is_of_package(self.roster.package(), class.name()) {
+            Some(201)
+        } else if self.roster.is_second(class) {
+            Some(202)
+        } else if !class.is_imported()
+            && (self.roster.lists_missing(class) || self.gets_missing(class))
+        {
+            Some(203)
+        } else if self.roster.is_own_super(class.name()) {
+            Some(204)
+        } else if self.roster.lists_wrong(class) {
+            Some(208)
+        } else {
+            None
+        }
+    }
+
+    fn has_exception(&self, tree: &ExportTree, name: &[u8]) -> bool
+        ensures { result ≡ has_exception (all_classes self.now) tree.now name.now }
+    {
+        has_class(tree, name) && self.roster.is_below(name, THROWABLE)
+    }
+
+    #[tactic(auto, unfolding(crate::specs::Rules::has_array_exceptions))]
+    fn has_array_exceptions(&self, tree: &ExportTree) -> bool
+        ensures { result ≡ has_array_exceptions (all_classes self.now) tree.now }
+    {
+        self.has_exception(tree, b"java/lang/ArrayIndexOutOfBoundsException")
+            && self.has_exception(tree, b"java/lang/ArrayStoreException")
+            && self.has_exception(tree, b"java/lang/NegativeArraySizeException")
+    }
+
+    #[tactic(auto, unfolding(crate::specs::Rules::has_other_exceptions))]
+    fn has_other_exceptions(&self, tree: &ExportTree) -> bool
+        ensures { result ≡ has_other_exceptions (all_classes self.now) tree.now }
+    {
+        self.has_exception(tree, b"java/lang/ArithmeticException")
+            && self.has_exception(tree, b"java/lang/ClassCastException")
+            && self.has_exception(tree, b"java/lang/NullPointerException")
+    }
+
+    #[tactic(auto, unfolding(crate::specs::Rules::has_needed))]
+    fn has_needed(&self, tree: &ExportTree) -> bool
+        ensures { result ≡ has_needed (all_classes self.now) tree.now }
+    {
+        has_roots(tree) && self.has_array_exceptions(tree) && self.has_other_exceptions(tree)
+    }
+
+    /// Whether java/lang is there, with all that is needed of it.
+    fn has_language(&self) -> bool
+        ensures { result ≡ has_language (all_classes self.now) self.now.exports }
+    {
+        for tree in self.exports().items() {
+            if tree.name.items() == LANGUAGE {
+                return self.has_needed(tree);
+            }
+        }
+        false
+    }
+
+    /// The first rule that a field, or a method, of a class breaks.
+    fn member_break<'w>(
+        &'w self,
+        file: usize,
+        file_name: &'w [u8],
+        class: usize,
+        known: Known<'w, 'a>,
+        field: bool,
+    ) -> Option<Break<'w>>
+        ensures { option_map break_of result ≡ head (members_from file file_name.now class (all_classes self.now) (class_of known.entry) field 0 (members field (class_of known.entry))) }
+    {
+        self.roster
+            .member_break(file, file_name, class, known, field)
+    }
+
     /// The first rule that a class or its members break.
     fn class_break<'w>(
         &'w self,
@@ -356,6 +413,7 @@ impl<'a> World<'a> {
         class: usize,
         known: Known<'w, 'a>,
     ) -> Option<Break<'w>>
+        requires { IsHeld self.now known }
         ensures { option_map break_of result ≡ head (class_breaks self.now.package_name file file_name.now class (all_classes self.now) (class_of known.entry)) }
     {
         if let Some(rule) = self.class_rule(known) {
@@ -394,16 +452,6 @@ impl<'a> World<'a> {
         None
     }
 
-    /// Whether the package of an export file stands in an earlier one, or is the package itself.
-    #[tactic(auto, unfolding(crate::specs::Rules::is_second_package))]
-    fn is_second_package(&self, place: u32, tree: &ExportTree) -> bool
-        requires { place < length self.now.exports }
-        ensures { result ≡ is_second_package self.now place tree.now }
-    {
-        tree.name.items() == self.package()
-            || has_tree(&self.exports().items()[..place as usize], tree.name.items())
-    }
-
     /// The first rule that a class file breaks.
     #[tactic(auto, unfolding(crate::specs::Rules::head))]
     fn class_file_break<'w>(
@@ -436,7 +484,7 @@ impl<'a> World<'a> {
             None => return Ok(None),
         };
         sum(number, tree.classes.items().len())?;
-        if self.is_second_package(place, tree) {
+        if self.roster.is_second_package(place, tree) {
             return Ok(Some(Break {
                 rule: 202,
                 file,

@@ -1,11 +1,13 @@
 //! Where a world keeps its classes.
 
-ghost use Rattle.std.specs.Prelude.{◌≡◌, ◌<◌, ◌^◌, ◌+◌, ◌++◌, ℕ, List, IfOk, OnOk, true, All, length, slice_get};
+ghost use Rattle.std.specs.Prelude.{◌≡◌, ◌<◌, ◌^◌, ◌+◌, ◌++◌, ℕ, List, IfOk, OnOk, true, All, length, slice_get, option_map};
 ghost use Rattle.cjc_classfile.specs.declared.tree.ClassTree.{ClassTree as ClassFile};
 ghost use Rattle.cjc_export.specs.declared.tree.ExportTree.{ExportTree as ExportFile};
 ghost use Rattle.cjc_world.specs.Classes.{size, numbered, of_class_file, of_export_file};
-ghost use Rattle.cjc_world.specs.Spots.{Grows, IsCounted, IsIndexed, spots_from};
+ghost use Rattle.cjc_world.specs.Known.{class_of};
+ghost use Rattle.cjc_world.specs.Spots.{at, Grows, IsCounted, IsIndexed, spots_from};
 
+use crate::class::Known;
 use cjc_bytes::{FileLine, NoMemory, Row};
 use cjc_classfile::ClassTree;
 use cjc_export::{ExportClass, ExportTree};
@@ -22,6 +24,24 @@ pub(crate) struct Spot {
     pub class: u32,
     /// The class's number in what a look-up finds.
     pub number: u32,
+}
+
+/// The class that a spot means.
+pub(crate) fn known<'w, 'a>(
+    classes: &'w [ClassTree<'a>],
+    exports: &'w [ExportTree],
+    spot: &Spot,
+) -> Option<Known<'w, 'a>>
+    ensures { option_map class_of result ≡ at classes.now exports.now spot.now }
+{
+    if spot.imported {
+        let tree = exports.get(spot.tree as usize)?;
+        let class = tree.classes.items().get(spot.class as usize)?;
+        Some(Known::Imported(spot.number, class))
+    } else {
+        let class = classes.get(spot.tree as usize)?;
+        Some(Known::Declared(spot.number, class))
+    }
 }
 
 /// The sum, where 32 bits hold it. More classes than that have no memory.

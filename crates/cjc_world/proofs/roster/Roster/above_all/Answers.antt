@@ -1,0 +1,31 @@
+use Rattle.std.proofs.Common.{◌≡◌, true, sym, ap, subst, arith, ◌∙◌}
+use Rattle.std.specs.Prelude.{is_some, slice_get}
+use Rattle.std.specs.List.{list_all}
+use Rattle.cjc_world.specs.Classes.{all_classes}
+use Rattle.cjc_world.specs.Tables.{IsTable, is_row}
+use Rattle.cjc_world.proofs.Filling.{reached-none, reached-next, filled, unfilled}
+use Rattle.cjc_world.proofs.roster.Roster.above_all.Goals as goal
+
+pub loop-step-init : goal.loop-step-init
+loop-step-init c = record {
+  count = c.in_ok-rows.ensures.count ∙ c.count-count.ensures;
+  right = λ x p a e g. let h : is_row (slice_get c.in_ok-rows.rows.items p) ≡ true = ap is_row g in let n = c.in_ok-rows.ensures.none p in absurd cc;
+  reached = reached-none (all_classes c.args.self.now) c.in_ok-rows.rows.items;
+}
+
+pub loop-step-preserved : goal.loop-step-preserved
+loop-step-preserved c = record {
+  count = c.in_ok-pass.ensures.count ∙ c.loop-step.invariant.count;
+  right = c.in_ok-pass.ensures.right c.loop-step.invariant.right;
+  reached = reached-next (all_classes c.args.self.now) c.loop-step.rows.items c.pass.new.rows.items c.loop-step._step c.count-count.result c.count-count.ensures c.in_ok-pass.ensures c.loop-step.invariant.reached;
+}
+
+pub returns-then-all_there : goal.returns-then-all_there
+returns-then-all_there c =
+    subst (λ rows. IsTable (all_classes c.args.self.now) rows) (sym c.of.ensures)
+    (filled (all_classes c.args.self.now) c.loop-step.rows.items c.loop-step.invariant.right c.loop-step.invariant.count (ap (list_all is_some) (sym c.deref.ensures.value) ∙ sym c.all_there.ensures ∙ c.if-all_there.true))
+
+pub returns-else-all_there : goal.returns-else-all_there
+returns-else-all_there c =
+    let n = c.count-count.ensures in
+    unfilled (all_classes c.args.self.now) c.loop-step.rows.items c.loop-step._step c.loop-step.invariant.reached (omega arith) c.loop-step.invariant.count (ap (list_all is_some) (sym c.deref.ensures.value) ∙ sym c.all_there.ensures ∙ c.if-all_there.false)

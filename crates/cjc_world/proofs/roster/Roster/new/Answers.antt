@@ -1,0 +1,23 @@
+use Rattle.std.proofs.Common.{length, sym, ap, subst, ◌∙◌}
+use Rattle.cjc_world.specs.Names.{spot_named}
+use Rattle.cjc_world.specs.Places.{place_named}
+use Rattle.cjc_world.specs.Spots.{IsIndexed}
+use Rattle.cjc_world.proofs.Noted.{spot-place}
+use Rattle.cjc_world.proofs.roster.Roster.new.Goals as goal
+
+pub invariant_of-result : goal.invariant_of-result
+invariant_of-result c =
+    let indexed : IsIndexed c.args.lines c.args.classes c.args.exports c.in_ok-spots.spots =
+    subst (λ v. IsIndexed v c.args.classes c.args.exports c.in_ok-spots.spots) c.items.ensures
+    (subst (λ v. IsIndexed c.items.result.now v c.args.exports c.in_ok-spots.spots) c.items-2.ensures
+    (subst (λ v. IsIndexed c.items.result.now c.items-2.result.now v c.in_ok-spots.spots) c.items-3.ensures c.in_ok-spots.ensures)) in
+    record {
+      indexed = indexed;
+      named = λ x.
+          c.in_ok-names.ensures x
+          ∙ ap (λ v. spot_named v c.items-6.result.now c.items-4.result.now x) c.items-5.ensures
+          ∙ ap (λ v. spot_named c.args.classes v c.items-4.result.now x) c.items-6.ensures
+          ∙ ap (λ v. spot_named c.args.classes c.args.exports v x) c.items-4.ensures
+          ∙ spot-place c.args.classes c.args.exports c.in_ok-spots.spots (indexed.count ∙ ap length (sym indexed.all)) x
+          ∙ ap (λ w. place_named w x) indexed.all;
+    }

@@ -1,0 +1,30 @@
+-- What the index of names answers.
+use Rattle.std.specs.Prelude.{◌≡◌, ℕ, suc, List, [], ◌∷◌, Bool, false, if◌then◌else◌, Option, Some, None, option_map}
+use Rattle.std.specs.HashMap.{get_by}
+use Rattle.std.specs.Str.{bytes_eq}
+use Rattle.cjc_bytes.specs.declared.settings.FileLine.{FileLine}
+use Rattle.cjc_classfile.specs.declared.tree.ClassTree.{ClassTree}
+use Rattle.cjc_export.specs.declared.tree.ExportTree.{ExportTree}
+use Rattle.cjc_world.specs.declared.names.Names.{Names}
+use Rattle.cjc_world.specs.declared.spot.Spot.{Spot}
+use Rattle.cjc_world.specs.Classes.{Class, classes_from}
+use Rattle.cjc_world.specs.Places.{place_named}
+use Rattle.cjc_world.specs.Spots.{at, IsIndexed}
+
+-- the place that is noted for a name
+abbrev pub place_in : Names → List ℕ → Option ℕ
+place_in n name = get_by (λ k. bytes_eq name k.items) n.places
+
+abbrev pub is_named : Option Class → List ℕ → Bool
+is_named None name = false
+is_named (Some c) name = bytes_eq c.name name
+
+-- the place of the first spot of a class of the name
+unfoldable pub spot_named : List ClassTree → List ExportTree → List Spot → List ℕ → Option ℕ
+spot_named classes exports [] name = None
+spot_named classes exports (s ∷ ss) name = if is_named (at classes exports s) name then Some 0 else option_map suc (spot_named classes exports ss name)
+
+-- The spots are those of all classes, in order, and each name is noted at its first class.
+pub record IsRoster (lines : List FileLine) (classes : List ClassTree) (exports : List ExportTree) (spots : List Spot) (names : Names) : Type 0 where
+  pub indexed : IsIndexed lines classes exports spots
+  pub named : (name : List ℕ) → place_in names name ≡ place_named (classes_from classes exports 0 0 0 lines) name

@@ -1,0 +1,360 @@
+//! All classes of a package and of its export files, by name, by number and by place. Nothing here takes memory
+//! but `new`.
+
+ghost use Rattle.std.specs.Prelude.{◌≡◌, suc, [], ◌∷◌, length, slice_get, false, option_map, IfSome, IfOk};
+ghost use Rattle.cjc_world.specs.Classes.{all_classes, class_at, class_named, is_at};
+ghost use Rattle.cjc_world.specs.Places.{place_named};
+ghost use Rattle.cjc_world.specs.Kin.{grown, is_below, kin, upwards, stands, stands_above};
+ghost use Rattle.cjc_world.specs.Files.{files_of};
+ghost use Rattle.std.specs.List.{list_any};
+ghost use Rattle.std.specs.Str.{bytes_eq};
+ghost use Rattle.cjc_world.specs.Interfaces.{gathered, known};
+ghost use Rattle.cjc_world.specs.Known.{class_of};
+ghost use Rattle.cjc_world.specs.Spots.{at, IsCounted, IsIndexed};
+ghost use Rattle.cjc_world.specs.Subtype.{is_subclass};
+ghost use Rattle.cjc_world.specs.Lookup.{first, own_field, own_method, field_in};
+
+use crate::class::Known;
+use crate::found::Found;
+use crate::names::{Names, names_of};
+use crate::spot::{Spot, index, known};
+use cjc_bytes::{Bytes, FileLine, NoMemory, Row};
+use cjc_classfile::ClassTree;
+use cjc_export::ExportTree;
+use std::alloc::Global;
+use std::marker::Model;
+
+/// A package with the export files that it stands on, before any rule is tested.
+#[derive(Drop)]
+pub(crate) struct Roster<'a> {
+    package: Bytes,
+    lines: Row<FileLine>,
+    classes: Row<ClassTree<'a>>,
+    exports: Row<ExportTree>,
+    spots: Row<Spot>,
+    names: Names,
+}
+
+impl<'a> Model for Roster<'a> {
+    ghost use Rattle.cjc_world.specs.Files.{Files};
+    ghost use Rattle.cjc_world.specs.Names.{IsRoster};
+
+    ghost Value = { Files };
+
+    ghost view = { λ w. record { package_name = w.package; lines = w.lines; classes = w.classes; exports = w.exports } };
+
+    ghost invariant = { λ w. IsRoster w.lines w.classes w.exports w.spots w.names };
+}
+
+impl<'a> Roster<'a> {
+    pub(crate) fn new(
+        alloc: Global,
+        package_name: &[u8],
+        lines: Row<FileLine>,
+        classes: Row<ClassTree<'a>>,
+        exports: Row<ExportTree>,
+    ) -> Result<Roster<'a>, NoMemory>
+        ensures { IfOk result (λ r. r ≡ files_of package_name.now lines classes.entry exports) }
+    {
+        let spots = index(alloc, lines.items(), classes.items(), exports.items())?;
+        let names = names_of(alloc, spots.items(), classes.items(), exports.items())?;
+        let package = Bytes::copy_of(alloc, package_name)?;
+        Ok(Roster {
+            package,
+            lines,
+            classes,
+            exports,
+            spots,
+            names,
+        })
+    }
+
+    /// The class files, in list order.
+    pub(crate) fn classes(&self) -> &Row<ClassTree<'a>>
+        ensures { result.now ≡ self.now.classes }
+    {
+        &self.classes
+    }
+
+    /// The export files, in list order.
+    pub(crate) fn exports(&self) -> &Row<ExportTree>
+        ensures { result.now ≡ self.now.exports }
+    {
+        &self.exports
+    }
+
+    /// The lines of the list that name files.
+    pub(crate) fn lines(&self) -> &Row<FileLine>
+        ensures { result.now ≡ self.now.lines }
+    {
+        &self.lines
+    }
+
+    /// The package's name.
+    pub(crate) fn package(&self) -> &[u8]
+        ensures { result.now ≡ self.now.package_name }
+    {
+        self.package.items()
+    }
+
+    /// Where all classes stand, in the order of the list.
+    pub(crate) fn spots(&self) -> &[Spot]
+        ensures { IsIndexed self.now.lines self.now.classes self.now.exports result.now }
+    {
+        self.spots.items()
+    }
+
+    /// The class that a spot means.
+    fn at(&self, spot: &Spot) -> Option<Known<'_, 'a>>
+        ensures { option_map class_of result ≡ at self.now.classes self.now.exports spot.now }
+    {
+        known(self.classes.items(), self.exports.items(), spot)
+    }
+
+    /// The first class of a name, in the order of the list.
+    pub(crate) fn class_named(&self, name: &[u8]) -> Option<Known<'_, 'a>>
+        ensures named { option_map class_of result ≡ class_named (all_classes self.now) name.now }
+        ensures counted { IfSome result (λ k. IsCounted (class_of k)) }
+    {
+        let place = self.place_named(name)?;
+        self.class_in(place)
+    }
+
+    /// The class that a look-up means by its number: among the package's classes, or among those of all export files.
+    pub(crate) fn class_at(&self, imported: bool, class: u32) -> Option<Known<'_, 'a>>
+        ensures at { option_map class_of result ≡ class_at (all_classes self.now) imported class }
+        ensures counted { IfSome result (λ k. IsCounted (class_of k)) }
+    {
+        for spot in self.spots() {
+            if let Some(known) = self.at(spot) {
+                if is_at(known, imported, class) {
+                    return Some(known);
+                }
+            }
+        }
+        None
+    }
+
+    /// How many classes there are.
+    #[tactic(auto, unfolding(crate::specs::Classes::all_classes))]
+    pub(crate) fn count(&self) -> u32
+        ensures { result ≡ length (all_classes self.now) }
+    {
+        self.spots().len() as u32
+    }
+
+    /// The class at a place in the order of the list.
+    pub(crate) fn class_in(&self, place: u32) -> Option<Known<'_, 'a>>
+        ensures at { option_map class_of result ≡ slice_get (all_classes self.now) place }
+        ensures counted { IfSome result (λ k. IsCounted (class_of k)) }
+    {
+        let spot = self.spots().get(place as usize)?;
+        self.at(spot)
+    }
+
+    /// The place of the first class of a name.
+    pub(crate) fn place_named(&self, name: &[u8]) -> Option<u32>
+        ensures { result ≡ place_named (all_classes self.now) name.now }
+    {
+        self.names.get(name)
+    }
+
+    /// The first method of this name and descriptor in a class or upwards, so many steps far.
+    pub(crate) fn method_above(
+        &self,
+        selecting: bool,
+        class: &[u8],
+        name: &[u8],
+        desc: &[u8],
+        steps: usize,
+    ) -> Option<Found>
+        ensures { result ≡ first (own_method selecting name.now desc.now) (upwards (grown (all_classes self.now) steps (class.now ∷ []))) }
+    {
+        if steps == 0 {
+            return None;
+        }
+        let class = self.class_named(class)?;
+        if let Some(found) = class.method(selecting, name, desc) {
+            return Some(found);
+        }
+        for sup in class.supers() {
+            if let Some(found) = self.method_above(selecting, sup.items(), name, desc, steps - 1) {
+                return Some(found);
+            }
+        }
+        None
+    }
+
+    /// The first method of this name and descriptor among the interfaces of a class in their order, so many steps
+    /// far. A class that is a listed interface itself follows its own.
+    pub(crate) fn interface_method(
+        &self,
+        listed: bool,
+        class: &[u8],
+        name: &[u8],
+        desc: &[u8],
+        steps: usize,
+    ) -> Option<Found>
+        ensures { result ≡ first (own_method false name.now desc.now) (known (gathered listed (grown (all_classes self.now) steps (class.now ∷ [])))) }
+    {
+        if steps == 0 {
+            return None;
+        }
+        let class = self.class_named(class)?;
+        for sup in class.supers() {
+            if let Some(found) = self.interface_method(false, sup.items(), name, desc, steps - 1) {
+                return Some(found);
+            }
+        }
+        for interface in class.interfaces() {
+            if let Some(found) = self.interface_method(
+                true,
+                interface.items(),
+                name,
+                desc,
+                steps - 1,
+            ) {
+                return Some(found);
+            }
+        }
+        if listed {
+            class.method(false, name, desc)
+        } else {
+            None
+        }
+    }
+
+    /// The field of this name and descriptor that a class has, so many steps far.
+    pub(crate) fn field_above(
+        &self,
+        class: &[u8],
+        name: &[u8],
+        desc: &[u8],
+        steps: usize,
+    ) -> Option<Found>
+        ensures { result ≡ field_in (own_field name.now desc.now) (grown (all_classes self.now) steps (class.now ∷ [])) }
+    {
+        if steps == 0 {
+            return None;
+        }
+        let class = self.class_named(class)?;
+        if let Some(found) = class.field(name, desc) {
+            return Some(found);
+        }
+        for interface in class.interfaces() {
+            if let Some(found) = self.field_above(interface.items(), name, desc, steps - 1) {
+                return Some(found);
+            }
+        }
+        for sup in class.supers() {
+            if let Some(found) = self.field_above(sup.items(), name, desc, steps - 1) {
+                return Some(found);
+            }
+        }
+        None
+    }
+
+    /// Whether the name is that of the class, or stands above it, so many steps far.
+    fn stands(&self, class: &[u8], name: &[u8], steps: usize) -> bool
+        ensures { result ≡ stands name.now (grown (all_classes self.now) steps (class.now ∷ [])) }
+    {
+        if steps == 0 {
+            return false;
+        }
+        let known = match self.class_named(class) {
+            Some(known) => known,
+            None => return class == name,
+        };
+        if known.name() == name {
+            return true;
+        }
+        for sup in known.supers() {
+            if self.stands(sup.items(), name, steps - 1) {
+                return true;
+            }
+        }
+        for interface in known.interfaces() {
+            if self.stands(interface.items(), name, steps - 1) {
+                return true;
+            }
+        }
+        false
+    }
+
+    /// As many steps as reach all that stands above a class.
+    #[tactic(auto, unfolding(crate::specs::Classes::all_classes))]
+    pub(crate) fn steps(&self) -> usize
+        ensures { result ≡ suc (length (all_classes self.now)) }
+    {
+        self.spots().len() + 1
+    }
+
+    /// Whether a class is another or stands below it.
+    #[tactic(auto, unfolding(crate::specs::Subtype::is_subclass, crate::specs::Kin::kin))]
+    pub(crate) fn is_subclass(&self, sub: &[u8], sup: &[u8]) -> bool
+        ensures { result ≡ is_subclass (all_classes self.now) sub.now sup.now }
+    {
+        self.stands(sub, sup, self.steps())
+    }
+
+    /// Whether a class is a superclass of another, or the class itself, so many steps far.
+    fn below(&self, sub: &[u8], sup: &[u8], steps: usize) -> bool
+        ensures { result ≡ list_any (λ c. bytes_eq c.name sup.now) (upwards (grown (all_classes self.now) steps (sub.now ∷ []))) }
+    {
+        if steps == 0 {
+            return false;
+        }
+        let known = match self.class_named(sub) {
+            Some(known) => known,
+            None => return false,
+        };
+        if known.name() == sup {
+            return true;
+        }
+        for above in known.supers() {
+            if self.below(above.items(), sup, steps - 1) {
+                return true;
+            }
+        }
+        false
+    }
+
+    /// Whether a class is a superclass of another, or the class itself.
+    #[tactic(auto, unfolding(crate::specs::Kin::is_below, crate::specs::Kin::line, crate::specs::Kin::kin))]
+    pub(crate) fn is_below(&self, sub: &[u8], sup: &[u8]) -> bool
+        ensures { result ≡ is_below (all_classes self.now) sub.now sup.now }
+    {
+        self.below(sub, sup, self.steps())
+    }
+
+    /// Whether a name stands above one of these classes, or is one of them.
+    fn stands_in(&self, classes: &[Bytes], name: &[u8]) -> bool
+        ensures { result ≡ stands name.now (kin (all_classes self.now) classes.now) }
+    {
+        for class in classes {
+            if self.is_subclass(class.items(), name) {
+                return true;
+            }
+        }
+        false
+    }
+
+    /// Whether a class is its own superclass or superinterface over steps.
+    #[tactic(auto, unfolding(crate::specs::Kin::stands_above), using(crate::proofs::Rising::stands_of_both))]
+    pub(crate) fn is_own_super(&self, class: &[u8]) -> bool
+        ensures { result ≡ stands_above (all_classes self.now) class.now class.now }
+    {
+        match self.class_named(class) {
+            Some(known) => {
+                self.stands_in(known.supers(), class) || self.stands_in(known.interfaces(), class)
+            }
+            None => false,
+        }
+    }
+}
+
+fn is_at(known: Known<'_, '_>, imported: bool, class: u32) -> bool
+    ensures { result ≡ is_at imported class (class_of known.entry) }
+{
+    known.is_imported() == imported && known.number() == class
+}
