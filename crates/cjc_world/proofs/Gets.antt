@@ -32,6 +32,13 @@ module _ (w : List Class) where
           by true e rest = absurd (acyclic c.name ((stands_where_above w c.name c.name).0 e))
           by false e rest = rest
 
+  pub none-above : IsAcyclic w → (x : List ℕ) → false ≡ stands_above w x x
+  none-above acyclic x = by (stands_above w x x) refl
+    where
+      by : (b : Bool) → stands_above w x x ≡ b → false ≡ b
+      by true e = absurd (acyclic x ((stands_where_above w x x).0 e))
+      by false e = refl
+
   named-none : (p : Class → Bool) (cs : List Class) (x : List ℕ) (c : Class) → class_named cs x ≡ Some c → list_any p cs ≡ false → p c ≡ false
   unfolding class_named
   named-none p [] x c e none = cc

@@ -7,7 +7,7 @@ use Rattle.std.proofs.lemmas.Grind.{common_steps}
 use Rattle.std.proofs.lemmas.List.Folds.{list_any-append}
 use Rattle.std.proofs.lemmas.Bool.Decides.{nat_tests}
 use Rattle.cjc_world.specs.declared.found.Found.{Found}
-use Rattle.cjc_world.specs.Places.{is_in, joined}
+use Rattle.cjc_world.specs.Places.{is_in, joined, first_place}
 use Rattle.cjc_world.specs.Lookup.{or_else}
 
 or-false : (b : Bool) → (b || false) ≡ b
@@ -106,10 +106,6 @@ unfolding joined
 joined-once ps rs = joined-joined ps [] rs
 
 -- ---- the first answer
-
-unfoldable pub first_place : (ℕ → Option Found) → List ℕ → Option Found
-first_place own [] = None
-first_place own (p ∷ ps) = or_else (own p) (first_place own ps)
 
 or_else-assoc : (f g h : Option Found) → or_else (or_else f g) h ≡ or_else f (or_else g h)
 or_else-assoc None g h = refl

@@ -23,3 +23,4 @@ pub mod Positions
 pub mod Asking
 pub mod Adding
 pub mod Gets
+pub mod Walked

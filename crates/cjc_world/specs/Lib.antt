@@ -1,11 +1,11 @@
 pub mod Files
 pub mod Classes
 pub mod Kin
-pub mod Places
 pub mod Interfaces
+pub mod Lookup
+pub mod Places
 pub mod Names
 pub mod Tables
-pub mod Lookup
 pub mod Subtype
 pub mod Access
 pub mod Added

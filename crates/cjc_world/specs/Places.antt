@@ -1,8 +1,10 @@
 -- Classes by their places in the order of the list, and lists of places without repeats.
-use Rattle.std.specs.Prelude.{ℕ, suc, List, [], ◌∷◌, ◌++◌, ◌==◌, Bool, if◌then◌else◌, Option, Some, None, option_map, option_to_list, slice_get}
+use Rattle.std.specs.Prelude.{ℕ, suc, List, [], ◌∷◌, ◌++◌, ◌==◌, ◌||◌, Bool, false, if◌then◌else◌, Option, Some, None, option_map, option_to_list, slice_get}
 use Rattle.std.specs.List.{list_any}
 use Rattle.std.specs.Str.{bytes_eq}
+use Rattle.cjc_world.specs.declared.found.Found.{Found}
 use Rattle.cjc_world.specs.Classes.{Class}
+use Rattle.cjc_world.specs.Lookup.{or_else, own_field, own_method}
 
 -- the place of the first class of a name
 unfoldable pub place_named : List Class → List ℕ → Option ℕ
@@ -26,3 +28,30 @@ is_in p ps = list_any (λ q. q == p) ps
 unfoldable pub joined : List ℕ → List ℕ → List ℕ
 joined ps [] = ps
 joined ps (q ∷ qs) = if is_in q ps then joined ps qs else joined (ps ++ q ∷ []) qs
+
+-- what the first place that answers does
+unfoldable pub first_place : (ℕ → Option Found) → List ℕ → Option Found
+first_place own [] = None
+first_place own (p ∷ ps) = or_else (own p) (first_place own ps)
+
+-- ---- what the class at a place answers
+
+abbrev pub field_of : (name desc : List ℕ) → Option Class → Option Found
+field_of name desc None = None
+field_of name desc (Some c) = own_field name desc c
+
+abbrev pub method_of : (selecting : Bool) → (name desc : List ℕ) → Option Class → Option Found
+method_of selecting name desc None = None
+method_of selecting name desc (Some c) = own_method selecting name desc c
+
+abbrev pub has_name : List ℕ → Option Class → Bool
+has_name name None = false
+has_name name (Some c) = bytes_eq c.name name
+
+-- the class has the name, or lists it
+abbrev pub names : List ℕ → Class → Bool
+names name c = bytes_eq c.name name || (list_any (λ x. bytes_eq x name) c.supers || list_any (λ x. bytes_eq x name) c.interfaces)
+
+abbrev pub names_of : List ℕ → Option Class → Bool
+names_of name None = false
+names_of name (Some c) = names name c

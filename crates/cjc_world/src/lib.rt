@@ -8,6 +8,7 @@ mod class;
 mod draft;
 mod found;
 mod laws;
+mod lookup;
 mod names;
 mod roster;
 mod rules;

@@ -159,101 +159,6 @@ impl<'a> Roster<'a> {
         self.names.get(name)
     }
 
-    /// The first method of this name and descriptor in a class or upwards, so many steps far.
-    pub(crate) fn method_above(
-        &self,
-        selecting: bool,
-        class: &[u8],
-        name: &[u8],
-        desc: &[u8],
-        steps: usize,
-    ) -> Option<Found>
-        ensures { result ≡ first (own_method selecting name.now desc.now) (upwards (grown (all_classes self.now) steps (class.now ∷ []))) }
-    {
-        if steps == 0 {
-            return None;
-        }
-        let class = self.class_named(class)?;
-        if let Some(found) = class.method(selecting, name, desc) {
-            return Some(found);
-        }
-        for sup in class.supers() {
-            if let Some(found) = self.method_above(selecting, sup.items(), name, desc, steps - 1) {
-                return Some(found);
-            }
-        }
-        None
-    }
-
-    /// The first method of this name and descriptor among the interfaces of a class in their order, so many steps
-    /// far. A class that is a listed interface itself follows its own.
-    pub(crate) fn interface_method(
-        &self,
-        listed: bool,
-        class: &[u8],
-        name: &[u8],
-        desc: &[u8],
-        steps: usize,
-    ) -> Option<Found>
-        ensures { result ≡ first (own_method false name.now desc.now) (known (gathered listed (grown (all_classes self.now) steps (class.now ∷ [])))) }
-    {
-        if steps == 0 {
-            return None;
-        }
-        let class = self.class_named(class)?;
-        for sup in class.supers() {
-            if let Some(found) = self.interface_method(false, sup.items(), name, desc, steps - 1) {
-                return Some(found);
-            }
-        }
-        for interface in class.interfaces() {
-            if let Some(found) = self.interface_method(
-                true,
-                interface.items(),
-                name,
-                desc,
-                steps - 1,
-            ) {
-                return Some(found);
-            }
-        }
-        if listed {
-            class.method(false, name, desc)
-        } else {
-            None
-        }
-    }
-
-    /// The field of this name and descriptor that a class has, so many steps far.
-    pub(crate) fn field_above(
-        &self,
-        class: &[u8],
-        name: &[u8],
-        desc: &[u8],
-        steps: usize,
-    ) -> Option<Found>
-        ensures { result ≡ field_in (own_field name.now desc.now) (grown (all_classes self.now) steps (class.now ∷ [])) }
-    {
-        if steps == 0 {
-            return None;
-        }
-        let class = self.class_named(class)?;
-        if let Some(found) = class.field(name, desc) {
-            return Some(found);
-        }
-        for interface in class.interfaces() {
-            if let Some(found) = self.field_above(interface.items(), name, desc, steps - 1) {
-                return Some(found);
-            }
-        }
-        for sup in class.supers() {
-            if let Some(found) = self.field_above(sup.items(), name, desc, steps - 1) {
-                return Some(found);
-            }
-        }
-        None
-    }
-
     /// Whether the name is that of the class, or stands above it, so many steps far.
     fn stands(&self, class: &[u8], name: &[u8], steps: usize) -> bool
         ensures { result ≡ stands name.now (grown (all_classes self.now) steps (class.now ∷ [])) }
@@ -291,7 +196,7 @@ impl<'a> Roster<'a> {
 
     /// Whether a class is another or stands below it.
     #[tactic(auto, unfolding(crate::specs::Subtype::is_subclass, crate::specs::Kin::kin))]
-    pub(crate) fn is_subclass(&self, sub: &[u8], sup: &[u8]) -> bool
+    pub(crate) fn reaches(&self, sub: &[u8], sup: &[u8]) -> bool
         ensures { result ≡ is_subclass (all_classes self.now) sub.now sup.now }
     {
         self.stands(sub, sup, self.steps())
@@ -321,7 +226,7 @@ impl<'a> Roster<'a> {
 
     /// Whether a class is a superclass of another, or the class itself.
     #[tactic(auto, unfolding(crate::specs::Kin::is_below, crate::specs::Kin::line, crate::specs::Kin::kin))]
-    pub(crate) fn is_below(&self, sub: &[u8], sup: &[u8]) -> bool
+    pub(crate) fn reaches_up(&self, sub: &[u8], sup: &[u8]) -> bool
         ensures { result ≡ is_below (all_classes self.now) sub.now sup.now }
     {
         self.below(sub, sup, self.steps())
@@ -332,7 +237,7 @@ impl<'a> Roster<'a> {
         ensures { result ≡ stands name.now (kin (all_classes self.now) classes.now) }
     {
         for class in classes {
-            if self.is_subclass(class.items(), name) {
+            if self.reaches(class.items(), name) {
                 return true;
             }
         }

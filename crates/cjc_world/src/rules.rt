@@ -7,6 +7,7 @@ ghost use Rattle.std.specs.List.{list_any, list_all};
 ghost use Rattle.std.specs.Str.{bytes_eq};
 ghost use Rattle.cjc_world.specs.Classes.{all_classes, class_named, is_interface, numbered};
 ghost use Rattle.cjc_world.specs.Drafts.{IsHeld};
+ghost use Rattle.cjc_world.specs.Kin.{is_below, stands_above};
 ghost use Rattle.cjc_world.specs.Known.{class_of};
 ghost use Rattle.cjc_world.specs.Lookup.{object};
 ghost use Rattle.cjc_world.specs.Rules.{breaks, breaks_from, class_breaks, class_file_breaks, classes_breaks, export_file_breaks, is_second_package, class_rules, is_earlier, member_rules, members, members_before, members_from, told, gets_missing, has_array_exceptions, has_class, has_exception, has_language, has_needed, has_other_exceptions, has_roots, head, is_class_of, is_desc_missing, is_element_missing, is_interface_of, is_missing, is_of_class_file, is_of_package, is_part, is_part_byte, is_second, is_slash_part, is_type_missing, lists_missing, lists_wrong, same_place};
@@ -338,7 +339,7 @@ impl<'a> Draft<'a> {
             && (self.roster.lists_missing(class) || self.gets_missing(class))
         {
             Some(203)
-        } else if self.roster.is_own_super(class.name()) {
+        } else if self.is_own_super(class.name()) {
             Some(204)
         } else if self.roster.lists_wrong(class) {
             Some(208)
@@ -347,10 +348,30 @@ impl<'a> Draft<'a> {
         }
     }
 
+    /// Whether a class is its own superclass or superinterface over steps.
+    fn is_own_super(&self, class: &[u8]) -> bool
+        ensures { result ≡ stands_above (all_classes self.now) class.now class.now }
+    {
+        match &self.tables {
+            Some(_) => false,
+            None => self.roster.is_own_super(class),
+        }
+    }
+
+    /// Whether a class is a superclass of another, or the class itself.
+    fn is_below(&self, sub: &[u8], sup: &[u8]) -> bool
+        ensures { result ≡ is_below (all_classes self.now) sub.now sup.now }
+    {
+        match &self.tables {
+            Some(tables) => self.roster.is_below(tables.above.items(), sub, sup),
+            None => self.roster.reaches_up(sub, sup),
+        }
+    }
+
     fn has_exception(&self, tree: &ExportTree, name: &[u8]) -> bool
         ensures { result ≡ has_exception (all_classes self.now) tree.now name.now }
     {
-        has_class(tree, name) && self.roster.is_below(name, THROWABLE)
+        has_class(tree, name) && self.is_below(name, THROWABLE)
     }
 
     #[tactic(auto, unfolding(crate::specs::Rules::has_array_exceptions))]

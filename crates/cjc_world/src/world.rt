@@ -8,12 +8,14 @@ ghost use Rattle.cjc_world.specs.Added.{added_at};
 ghost use Rattle.cjc_world.specs.Known.{class_of};
 ghost use Rattle.cjc_world.specs.Spots.{IsCounted};
 ghost use Rattle.cjc_world.specs.Subtype.{element, inner, is_element, is_subclass, is_subtype, starts};
+ghost use Rattle.cjc_world.specs.Tables.{IsTable};
 ghost use Rattle.cjc_world.specs.Lookup.{find_field, find_method, receiver, selected};
 
 use crate::class::Known;
 use crate::draft::{Draft, Tables};
 use crate::found::Found;
 use crate::roster::Roster;
+use crate::tables::Above;
 use cjc_bytes::{Fault, FileLine, MemberId, Row};
 use cjc_classfile::ClassTree;
 use cjc_export::ExportTree;
@@ -120,11 +122,18 @@ impl<'a> World<'a> {
         &self.tables.added.items()[class as usize]
     }
 
+    /// What stands above each class.
+    fn rows(&self) -> &[Option<Above>]
+        ensures { IsTable (all_classes self.now) result.now }
+    {
+        self.tables.above.items()
+    }
+
     /// Whether a class is another or stands below it.
     fn is_subclass(&self, sub: &[u8], sup: &[u8]) -> bool
         ensures { result ≡ is_subclass (all_classes self.now) sub.now sup.now }
     {
-        self.roster.is_subclass(sub, sup)
+        self.roster.is_subclass(self.rows(), sub, sup)
     }
 
     /// Whether elements of one type are of another. Both are descriptors.
@@ -167,49 +176,43 @@ impl<'a> World<'a> {
     /// The field that is found by its class, name and descriptor: in the class, then in the same way in each
     /// interface that it lists, then in the same way in its superclass, or of an imported class in each super that
     /// its file lists (Java Virtual Machine Specification, section 5.4.3.2). None where there is none.
-    #[tactic(auto, unfolding(crate::specs::Lookup::find_field, crate::specs::Kin::kin))]
     pub fn find_field(&self, id: &MemberId) -> Option<Found>
         ensures { result ≡ find_field (all_classes self.now) id.now.class id.now.name id.now.desc }
     {
-        self.roster.field_above(
+        self.roster.find_field(
+            self.rows(),
             id.class.items(),
             id.name.items(),
             id.desc.items(),
-            self.roster.steps(),
         )
     }
 
     /// The method that is found by its class, name and descriptor: in the class, then in its superclasses upwards,
     /// then in its interfaces in order (sections 5.4.3.3 and 5.4.3.4). None where there is none.
-    #[tactic(auto, unfolding(crate::specs::Lookup::find_method, crate::specs::Kin::line, crate::specs::Kin::kin))]
     pub fn find_method(&self, id: &MemberId) -> Option<Found>
         ensures { result ≡ find_method (all_classes self.now) id.now.class id.now.name id.now.desc }
     {
-        let class = id.class.items();
-        let name = id.name.items();
-        let desc = id.desc.items();
-        let steps = self.roster.steps();
-        match self.roster.method_above(false, class, name, desc, steps) {
-            Some(found) => Some(found),
-            None => self
-                .roster
-                .interface_method(false, class, name, desc, steps),
-        }
+        self.roster.find_method(
+            self.rows(),
+            id.class.items(),
+            id.name.items(),
+            id.desc.items(),
+        )
     }
 
     /// The method that is selected on an object of a class: the first of this name and descriptor from the class
     /// upwards through its superclasses that is neither private nor static (section 6.5, invokevirtual). An array
     /// counts as java/lang/Object. None where there is none.
-    #[tactic(auto, unfolding(crate::specs::Lookup::selected, crate::specs::Kin::line, crate::specs::Kin::kin))]
+    #[tactic(auto, unfolding(crate::specs::Lookup::selected))]
     pub fn selected(&self, class: &[u8], id: &MemberId) -> Option<Found>
         ensures { result ≡ selected (all_classes self.now) class.now id.now.name id.now.desc }
     {
         self.roster.method_above(
+            self.rows(),
             true,
             receiver(class),
             id.name.items(),
             id.desc.items(),
-            self.roster.steps(),
         )
     }
 }

@@ -6,19 +6,19 @@ use Rattle.cjc_world.specs.Subtype.{is_subclass}
 use Rattle.cjc_world.proofs.Rising.{walk_on, walk_ends, walk_past, stands-row, stands-empty}
 use Rattle.cjc_world.proofs.roster.Roster.stands_in.Goals as goal
 
-pub returns-then-is_subclass : goal.returns-then-is_subclass
+pub returns-then-reaches : goal.returns-then-reaches
 unfolding kin is_subclass
-returns-then-is_subclass c =
+returns-then-reaches c =
     let w = all_classes c.args.self.now in
     let y = c.args.name.now in
-    walk_ends (λ xs. stands y (kin w xs)) (λ a b. a || b) false (stands-row w y (suc (length w))) (stands-empty w y (suc (length w))) c.args.classes.now c.loop-class.class-index _ c.items.result.now true (λ s. refl) c.loop-class-test.true (c.items.ensures ∙ c.class-item.is) (sym c.if-is_subclass.true ∙ c.is_subclass.ensures) c.loop-class.invariant
+    walk_ends (λ xs. stands y (kin w xs)) (λ a b. a || b) false (stands-row w y (suc (length w))) (stands-empty w y (suc (length w))) c.args.classes.now c.loop-class.class-index _ c.items.result.now true (λ s. refl) c.loop-class-test.true (c.items.ensures ∙ c.class-item.is) (sym c.if-reaches.true ∙ c.reaches.ensures) c.loop-class.invariant
 
 pub loop-class-preserved : goal.loop-class-preserved
 unfolding kin is_subclass
 loop-class-preserved c =
     let w = all_classes c.args.self.now in
     let y = c.args.name.now in
-    walk_on (λ xs. stands y (kin w xs)) (λ a b. a || b) false (stands-row w y (suc (length w))) (stands-empty w y (suc (length w))) c.args.classes.now c.loop-class.class-index _ c.items.result.now (λ r. refl) c.loop-class-test.true (c.items.ensures ∙ c.class-item.is) (sym c.if-is_subclass.false ∙ c.is_subclass.ensures) c.loop-class.invariant
+    walk_on (λ xs. stands y (kin w xs)) (λ a b. a || b) false (stands-row w y (suc (length w))) (stands-empty w y (suc (length w))) c.args.classes.now c.loop-class.class-index _ c.items.result.now (λ r. refl) c.loop-class-test.true (c.items.ensures ∙ c.class-item.is) (sym c.if-reaches.false ∙ c.reaches.ensures) c.loop-class.invariant
 
 pub returns : goal.returns
 unfolding kin is_subclass

@@ -1,0 +1,7 @@
+use Rattle.std.proofs.Common.{sym, subst}
+use Rattle.cjc_world.specs.Classes.{all_classes}
+use Rattle.cjc_world.specs.Tables.{IsTable}
+use Rattle.cjc_world.proofs.world.World.selected.Goals as goal
+
+pub method_above-requires : goal.method_above-requires
+method_above-requires c = subst (λ f. IsTable (all_classes f) c.rows.result.now) (sym c.self.view_is) c.rows.ensures
