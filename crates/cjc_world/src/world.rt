@@ -5,6 +5,7 @@ ghost use Rattle.cjc_world.specs.Classes.{all_classes, class_at, class_named};
 ghost use Rattle.cjc_world.specs.Files.{files_of};
 ghost use Rattle.cjc_world.specs.Rules.{breaks, IsFirstRefusal};
 ghost use Rattle.cjc_world.specs.Added.{added_at};
+ghost use Rattle.cjc_world.specs.Kin.{is_below};
 ghost use Rattle.cjc_world.specs.Known.{class_of};
 ghost use Rattle.cjc_world.specs.Spots.{IsCounted};
 ghost use Rattle.cjc_world.specs.Subtype.{element, inner, is_element, is_subclass, is_subtype, starts};
@@ -134,6 +135,14 @@ impl<'a> World<'a> {
         ensures { result ≡ is_subclass (all_classes self.now) sub.now sup.now }
     {
         self.roster.is_subclass(self.rows(), sub, sup)
+    }
+
+    /// Whether a class is a superclass of another, or the class itself: the way up goes by superclasses, of an
+    /// imported class by the supers that its file lists.
+    pub fn is_below(&self, sub: &[u8], sup: &[u8]) -> bool
+        ensures { result ≡ is_below (all_classes self.now) sub.now sup.now }
+    {
+        self.roster.is_below(self.rows(), sub, sup)
     }
 
     /// Whether elements of one type are of another. Both are descriptors.
