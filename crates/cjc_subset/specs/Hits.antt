@@ -1,0 +1,7 @@
+-- What the code tells of what a look-up finds.
+use Rattle.cjc_world.specs.Known.{class_of}
+use Rattle.cjc_subset.specs.declared.members.Hit.{Hit}
+use Rattle.cjc_subset.specs.Members.{Hit as Met}
+
+abbrev pub hit_of : Hit → Met
+hit_of h = record { owner = class_of h.owner; flags = h.flags }

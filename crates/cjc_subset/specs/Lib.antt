@@ -1,0 +1,5 @@
+pub mod Places
+pub mod Breaks
+pub mod Members
+pub mod Names
+pub mod Hits

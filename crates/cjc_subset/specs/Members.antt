@@ -1,0 +1,88 @@
+-- What a look-up finds, and the types that instructions name.
+use Rattle.std.specs.Prelude.{ℕ, ◌-◌, ◌^◌, List, [], ◌∷◌, ◌++◌, length, slice_get, Bool, false, ◌&&◌, ◌||◌, ◌==◌, nat_lt, if◌then◌else◌, Option, Some, None, is_some, option_map, codes}
+use Rattle.std.specs.Str.{bytes_eq}
+use Rattle.cjc_bytes.specs.Spots.{desc_of}
+use Rattle.cjc_classfile.specs.declared.tree.ClassTree.{ClassTree}
+use Rattle.cjc_classfile.specs.declared.tree.FieldTree.{FieldTree}
+use Rattle.cjc_export.specs.declared.tree.ExportClass.{ExportClass}
+use Rattle.cjc_export.specs.declared.tree.ExportField.{ExportField}
+use Rattle.cjc_export.specs.declared.tree.ExportTree.{ExportTree}
+use Rattle.cjc_world.specs.declared.found.Found.{Found}
+use Rattle.cjc_world.specs.Files.{Files}
+use Rattle.cjc_world.specs.Classes.{Class, has, is_static, class_at}
+use Rattle.cjc_world.specs.Rules.{members, members_before}
+
+-- ---- names
+
+-- an array, by its descriptor; 91 is [
+abbrev pub is_array : List ℕ → Bool
+is_array [] = false
+is_array (b ∷ bs) = b == 91
+
+-- bytes that 32 bits count and that are a descriptor
+abbrev pub is_descriptor : List ℕ → Bool
+is_descriptor name = nat_lt (length name) (2 ^ 32) && is_some (desc_of name)
+
+abbrev pub is_constructor : List ℕ → Bool
+is_constructor name = bytes_eq name (codes "<init>")
+
+abbrev pub is_initialiser : List ℕ → Bool
+is_initialiser name = bytes_eq name (codes "<clinit>")
+
+-- ---- what a look-up finds
+
+-- a field or method: the class that declares it, and its flags
+pub record Hit : Type 0 where
+  pub owner : Class
+  pub flags : ℕ
+
+abbrev pub hit_at : (field : Bool) → Found → Class → Option Hit
+hit_at field f c = option_map (λ m. record { owner = c; flags = m.flags }) (slice_get (members field c) (f.member - members_before field c))
+
+abbrev pub hit_of : (field : Bool) → Found → Option Class → Option Hit
+hit_of field f None = None
+hit_of field f (Some c) = hit_at field f c
+
+unfoldable pub hit : List Class → (field : Bool) → Option Found → Option Hit
+hit w field None = None
+hit w field (Some f) = hit_of field f (class_at w f.imported f.class)
+
+-- ---- constants
+
+abbrev pub is_final : ℕ → Bool
+is_final flags = has flags 0x0010
+
+-- boolean, byte, short or int
+abbrev pub is_narrow : List ℕ → Bool
+is_narrow desc = bytes_eq desc (codes "Z") || bytes_eq desc (codes "B") || bytes_eq desc (codes "S") || bytes_eq desc (codes "I")
+
+-- a static final field of such a type that has a ConstantValue
+abbrev pub is_constant_with : (flags : ℕ) → (desc : List ℕ) → (has_value : Bool) → Bool
+is_constant_with flags desc has_value = is_static flags && is_final flags && is_narrow desc && has_value
+
+abbrev pub is_declared_constant : Option FieldTree → Bool
+is_declared_constant None = false
+is_declared_constant (Some m) = is_constant_with m.flags m.desc (is_some m.constant)
+
+abbrev pub is_imported_constant : Option ExportField → Bool
+is_imported_constant None = false
+is_imported_constant (Some m) = is_constant_with m.flags m.desc (is_some m.constant)
+
+-- the classes of all export files, in list order and as they stand in a file
+abbrev pub imports : List ExportTree → List ExportClass
+imports [] = []
+imports (t ∷ ts) = t.classes ++ imports ts
+
+abbrev pub declared_field : Option ClassTree → ℕ → Option FieldTree
+declared_field None i = None
+declared_field (Some c) i = slice_get c.fields i
+
+abbrev pub imported_field : Option ExportClass → ℕ → Option ExportField
+imported_field None i = None
+imported_field (Some c) i = slice_get c.fields i
+
+-- whether a field that is found is a constant
+unfoldable pub is_constant : Files → Found → Bool
+is_constant files f =
+    if f.imported then is_imported_constant (imported_field (slice_get (imports files.exports) f.class) f.member)
+    else is_declared_constant (declared_field (slice_get files.classes f.class) f.member)

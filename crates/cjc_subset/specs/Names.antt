@@ -1,0 +1,197 @@
+-- Rules 203, 205 and 206 of the instructions and catch types of methods.
+use Rattle.std.specs.Prelude.{ℕ, List, [], ◌++◌, slice_get, Bool, true, false, not, ◌&&◌, ◌||◌, ◌==◌, if◌then◌else◌, Option, Some, None}
+use Rattle.cjc_bytes.specs.declared.fault.MemberId.{MemberId}
+use Rattle.cjc_classfile.specs.declared.tree.Catch.{Catch}
+use Rattle.cjc_classfile.specs.declared.tree.ClassTree.{ClassTree}
+use Rattle.cjc_classfile.specs.declared.tree.MethodTree.{MethodTree}
+use Rattle.cjc_classfile.specs.Code.{CodeTree}
+use Rattle.cjc_code.specs.declared.insn.JInsn.{JInsn}
+use Rattle.cjc_code.specs.declared.insn.JOp.{JOp}
+use Rattle.cjc_code.specs.declared.insn.JOp.TheVariants as jop
+use Rattle.cjc_code.specs.declared.method_code.MethodCode.{MethodCode}
+use Rattle.cjc_world.specs.declared.found.Found.{Found}
+use Rattle.cjc_world.specs.Access.{is_accessible}
+use Rattle.cjc_world.specs.Classes.{Class, is_abstract, is_interface, is_private, is_static, all_classes, class_named}
+use Rattle.cjc_world.specs.Files.{Files}
+use Rattle.cjc_world.specs.Kin.{is_below}
+use Rattle.cjc_world.specs.Lookup.{find_field, find_method, selected}
+use Rattle.cjc_world.specs.Rules.{Break, is_missing, is_type_missing, is_desc_missing, is_interface_of, is_class_of}
+use Rattle.cjc_subset.specs.Places.{FilePlace, at, at_method, each, file_of}
+use Rattle.cjc_subset.specs.Members.{Hit, hit, is_array, is_constant, is_constructor, is_descriptor, is_initialiser}
+
+-- ---- 203: a class that an instruction or a catch type names is in no file
+
+-- The name of a class, or the descriptor of an array. What begins as one and is none names a class in no file.
+unfoldable pub is_name_missing : List Class → List ℕ → Bool
+is_name_missing w name = if is_array name then not (is_descriptor name) || is_type_missing w name else is_missing w name
+
+-- the class of a member, and the classes of its descriptor
+abbrev pub is_member_missing : List Class → MemberId → Bool
+is_member_missing w id = is_name_missing w id.class || is_desc_missing w id.desc
+
+unfoldable pub names_missing : List Class → JOp → Bool
+names_missing w (jop.Static put id) = is_member_missing w id
+names_missing w (jop.Field put id) = is_member_missing w id
+names_missing w (jop.Call op id) = is_member_missing w id
+names_missing w (jop.New name) = is_name_missing w name
+names_missing w (jop.ANewArray name) = is_name_missing w name
+names_missing w (jop.CheckCast name) = is_name_missing w name
+names_missing w (jop.InstanceOf name) = is_name_missing w name
+names_missing w _ = false
+
+-- a catch type that is an array too; none catches everything
+unfoldable pub catches_missing : List Class → Option (List ℕ) → Bool
+catches_missing w None = false
+catches_missing w (Some name) = is_array name || is_missing w name
+
+-- ---- 205: a named member is in neither the class nor its supers, or the class is an array. It needs the class, so
+-- ---- that 203 is not broken by the class's name
+
+abbrev pub is_not_found : Option Found → Bool
+is_not_found None = true
+is_not_found (Some f) = false
+
+abbrev pub is_unfound : List Class → MemberId → Option Found → Bool
+is_unfound w id found = not (is_name_missing w id.class) && (is_array id.class || is_not_found found)
+
+unfoldable pub names_unfound : List Class → JOp → Bool
+names_unfound w (jop.Static put id) = is_unfound w id (find_field w id.class id.name id.desc)
+names_unfound w (jop.Field put id) = is_unfound w id (find_field w id.class id.name id.desc)
+names_unfound w (jop.Call op id) = is_unfound w id (find_method w id.class id.name id.desc)
+names_unfound w _ = false
+
+-- ---- 206: what is named can't be used so. Of a member it needs that one is found
+
+abbrev pub is_hidden : List Class → ClassTree → MemberId → Hit → Bool
+is_hidden w c id h = not (is_accessible w c.name id.class h.owner h.flags)
+
+-- the instruction needs a static member and this is none, or the other way round
+abbrev pub is_other_kind : (static : Bool) → ℕ → Bool
+is_other_kind static flags = if is_static flags then not static else static
+
+abbrev pub is_constant_found : Files → Option Found → Bool
+is_constant_found files None = false
+is_constant_found files (Some f) = is_constant files f
+
+abbrev pub is_unfit_field : Files → ClassTree → (static put : Bool) → MemberId → Option Found → Option Hit → Bool
+is_unfit_field files c static put id found None = false
+is_unfit_field files c static put id found (Some h) =
+    -- the field is not accessible
+    is_hidden (all_classes files) c id h
+    -- getstatic and putstatic need a static field, getfield and putfield one that is not
+    || is_other_kind static h.flags
+    -- putstatic names a constant
+    || (static && put && is_constant_found files found)
+
+-- an imported class
+abbrev pub is_imported_class : Option Class → Bool
+is_imported_class None = false
+is_imported_class (Some c) = c.is_imported
+
+-- invokevirtual names an interface, or names an imported class and its method is found in an interface
+abbrev pub is_unfit_virtual : Option Class → Hit → Bool
+is_unfit_virtual named h = is_interface_of named || (is_imported_class named && is_interface h.owner.flags)
+
+-- invokeinterface names a class that is no interface, or its method is not found in an interface
+abbrev pub is_unfit_interface : Option Class → Hit → Bool
+is_unfit_interface named h = is_class_of named || not (is_interface h.owner.flags)
+
+-- no method, or an abstract one
+abbrev pub is_bodiless : Option Hit → Bool
+is_bodiless None = true
+is_bodiless (Some h) = is_abstract h.flags
+
+-- The named class is not a superclass of the class that holds the code, or the search from that class's superclass
+-- upwards selects no method or an abstract one.
+abbrev pub is_unfit_super : List Class → ClassTree → MemberId → Bool
+is_unfit_super w c id =
+    not (is_below w c.superclass id.class)
+    || is_bodiless (hit w false (selected w c.superclass id.name id.desc))
+
+-- 182 is invokevirtual, 183 invokespecial, 184 invokestatic, 185 invokeinterface
+abbrev pub is_unfit_call : (op : ℕ) → (name : List ℕ) → (flags : ℕ) → Bool
+is_unfit_call op name flags =
+    -- invokestatic needs a static method, the others one that is not
+    is_other_kind (op == 184) flags
+    -- invokevirtual and invokeinterface need one that is not private
+    || (((op == 182) || (op == 185)) && is_private flags)
+    || is_initialiser name
+    -- an instruction other than invokespecial names a constructor
+    || (not (op == 183) && is_constructor name)
+
+abbrev pub is_unfit_class : List Class → ClassTree → (op : ℕ) → MemberId → Hit → Bool
+is_unfit_class w c op id h =
+    if op == 182 then is_unfit_virtual (class_named w id.class) h
+    else if op == 185 then is_unfit_interface (class_named w id.class) h
+    -- invokespecial of neither a constructor nor a private method
+    else (op == 183) && not (is_constructor id.name) && not (is_private h.flags) && is_unfit_super w c id
+
+abbrev pub is_unfit_method : List Class → ClassTree → (op : ℕ) → MemberId → Option Hit → Bool
+is_unfit_method w c op id None = false
+is_unfit_method w c op id (Some h) =
+    -- the method is not accessible
+    is_hidden w c id h
+    -- it is of another kind, or it can't be called by name
+    || is_unfit_call op id.name h.flags
+    -- it is named by a class that does not fit the instruction
+    || is_unfit_class w c op id h
+
+abbrev pub is_abstract_of : Option Class → Bool
+is_abstract_of None = false
+is_abstract_of (Some c) = is_abstract c.flags
+
+-- new names an array, an abstract class or an interface
+abbrev pub is_unfit_new : List Class → List ℕ → Bool
+is_unfit_new w name = is_array name || is_abstract_of (class_named w name) || is_interface_of (class_named w name)
+
+abbrev pub field_found : List Class → MemberId → Option Found
+field_found w id = find_field w id.class id.name id.desc
+
+abbrev pub method_found : List Class → MemberId → Option Found
+method_found w id = find_method w id.class id.name id.desc
+
+-- by an instruction of the class
+unfoldable pub names_unfit : Files → ClassTree → JOp → Bool
+names_unfit files c (jop.Static put id) = is_unfit_field files c true put id (field_found (all_classes files) id) (hit (all_classes files) true (field_found (all_classes files) id))
+names_unfit files c (jop.Field put id) = is_unfit_field files c false put id (field_found (all_classes files) id) (hit (all_classes files) true (field_found (all_classes files) id))
+names_unfit files c (jop.Call op id) = is_unfit_method (all_classes files) c op id (hit (all_classes files) false (method_found (all_classes files) id))
+names_unfit files c (jop.New name) = is_unfit_new (all_classes files) name
+names_unfit files c _ = false
+
+-- ---- what is broken, and where
+
+-- at an instruction of the method at this place of the class
+unfoldable pub insn_breaks : Files → FilePlace → ClassTree → (method : ℕ) → MethodTree → JInsn → List Break
+insn_breaks files f c i m insn =
+    at (names_missing (all_classes files) insn.op) (at_method f c i m insn.at) 203
+    ++ at (names_unfound (all_classes files) insn.op) (at_method f c i m insn.at) 205
+    ++ at (names_unfit files c insn.op) (at_method f c i m insn.at) 206
+
+-- a catch type stands at the first instruction of its handler
+unfoldable pub catch_breaks : Files → FilePlace → ClassTree → (method : ℕ) → MethodTree → Catch → List Break
+catch_breaks files f c i m k = at (catches_missing (all_classes files) k.class) (at_method f c i m k.target) 203
+
+abbrev pub catches_of : Option CodeTree → List Catch
+catches_of None = []
+catches_of (Some code) = code.catches
+
+-- of a method that has these instructions
+unfoldable pub method_breaks : Files → FilePlace → ClassTree → (method : ℕ) → MethodTree → List JInsn → List Break
+method_breaks files f c i m insns =
+    each (λ _ insn. insn_breaks files f c i m insn) insns
+    ++ each (λ _ k. catch_breaks files f c i m k) (catches_of m.code)
+
+abbrev pub breaks_of_method : Files → MethodCode → ClassTree → Option MethodTree → List Break
+breaks_of_method files code c None = []
+breaks_of_method files code c (Some m) = method_breaks files (file_of files.lines code.class) c code.method m code.insns
+
+abbrev pub breaks_of_class : Files → MethodCode → Option ClassTree → List Break
+breaks_of_class files code None = []
+breaks_of_class files code (Some c) = breaks_of_method files code c (slice_get c.methods code.method)
+
+unfoldable pub code_breaks : Files → MethodCode → List Break
+code_breaks files code = breaks_of_class files code (slice_get files.classes code.class)
+
+-- All that is broken of 203, 205 and 206 in the methods that have instructions.
+unfoldable pub name_breaks : Files → List MethodCode → List Break
+name_breaks files codes = each (λ _ code. code_breaks files code) codes

@@ -1,0 +1,60 @@
+//! The places that rules speak of.
+
+ghost use Rattle.std.specs.Prelude.{◌≡◌, ◌<◌, length};
+ghost use Rattle.cjc_subset.specs.Breaks.{spot_of};
+ghost use Rattle.cjc_subset.specs.Places.{FilePlace, at_class, at_method, file_of};
+
+use crate::broken::{Part, Spot};
+use cjc_bytes::FileLine;
+use cjc_classfile::{ClassTree, MethodTree};
+
+/// The file of the class of this number: its place among the files of the list, from 1, and its name.
+pub(crate) fn file_of(lines: &[FileLine], class: u32) -> (usize, &[u8])
+    ensures place { result.0 ≡ (file_of lines.now class).place }
+    ensures name { result.1.now ≡ (file_of lines.now class).name }
+{
+    let mut left = class;
+    for (place, line) in lines.iter().enumerate() {
+        if line.class_file {
+            if left == 0 {
+                return (place + 1, line.name.items());
+            }
+            left -= 1;
+        }
+    }
+    (0, &[])
+}
+
+/// A class of the package, of the file at this place.
+pub(crate) fn class_spot<'w>(file: usize, file_name: &'w [u8], class: &'w ClassTree<'_>) -> Spot<'w>
+    ensures { spot_of result ≡ at_class (record { place = file; name = file_name.now }) class.now }
+{
+    Spot {
+        file,
+        file_name,
+        class: 1,
+        class_name: class.name.items(),
+        member: 0,
+        part: Part::Whole,
+        offset: 0,
+    }
+}
+
+/// An offset of the method at this place of a class.
+pub(crate) fn method_spot<'w>(
+    class: Spot<'w>,
+    tree: &'w ClassTree<'_>,
+    place: usize,
+    method: &'w MethodTree<'_>,
+    offset: u32,
+) -> Spot<'w>
+    requires { place < length tree.now.methods }
+    ensures { (f : FilePlace) → spot_of class.entry ≡ at_class f tree.now → spot_of result ≡ at_method f tree.now place method.now offset }
+{
+    Spot {
+        member: tree.fields.items().len() as u128 + place as u128 + 1,
+        part: Part::Method(method.name.items(), method.desc.items()),
+        offset,
+        ..class
+    }
+}
