@@ -1,17 +1,23 @@
--- What is broken in the method of a code, where the class and the method are there.
-use Rattle.std.proofs.Common.{◌≡◌, sym, subst}
-use Rattle.std.specs.Prelude.{Option, Some, slice_get}
+-- What is broken in a method by its numbers, where the class and the method are there, and where one is not.
+use Rattle.std.proofs.Common.{◌≡◌, ◌∙◌, ℕ, sym, ap, subst, List, []}
+use Rattle.std.specs.Prelude.{Option, Some, None, slice_get}
 use Rattle.cjc_classfile.specs.declared.tree.ClassTree.{ClassTree}
 use Rattle.cjc_classfile.specs.declared.tree.MethodTree.{MethodTree}
-use Rattle.cjc_code.specs.declared.method_code.MethodCode.{MethodCode}
 use Rattle.cjc_world.specs.Files.{Files}
 use Rattle.cjc_world.specs.Rules.{Break}
-use Rattle.cjc_subset.specs.Places.{FilePlace, IsFirstOf, file_of}
-use Rattle.cjc_subset.specs.Names.{breaks_of_class, breaks_of_method, code_breaks, method_breaks}
+use Rattle.cjc_subset.specs.Places.{FilePlace, IsFirstOf, file_of, of_class, of_code, of_method}
 
-pub code_there : (files : Files) (code : MethodCode) (c : ClassTree) (m : MethodTree) (f : FilePlace) (o : Option Break) → slice_get files.classes code.class ≡ Some c → slice_get c.methods code.method ≡ Some m → f ≡ file_of files.lines code.class → IsFirstOf (method_breaks files f c code.method m code.insns) o → IsFirstOf (code_breaks files code) o
-unfolding code_breaks
-code_there files code c m f o in_classes in_methods file h =
-    subst (λ (v : Option ClassTree). IsFirstOf (breaks_of_class files code v) o) (sym in_classes)
-    (subst (λ (v : Option MethodTree). IsFirstOf (breaks_of_method files code c v) o) (sym in_methods)
-    (subst (λ (v : FilePlace). IsFirstOf (method_breaks files v c code.method m code.insns) o) file h))
+module _ (files : Files) (class method : ℕ) (breaks : FilePlace → ClassTree → MethodTree → List Break) where
+  pub code_there : (c : ClassTree) (m : MethodTree) (f : FilePlace) (o : Option Break) → slice_get files.classes class ≡ Some c → slice_get c.methods method ≡ Some m → f ≡ file_of files.lines class → IsFirstOf (breaks f c m) o → IsFirstOf (of_code files class method breaks) o
+  code_there c m f o in_classes in_methods file h =
+      subst (λ (v : Option ClassTree). IsFirstOf (of_class breaks (file_of files.lines class) method v) o) (sym in_classes)
+      (subst (λ (v : Option MethodTree). IsFirstOf (of_method breaks (file_of files.lines class) c v) o) (sym in_methods)
+      (subst (λ (v : FilePlace). IsFirstOf (breaks v c m) o) file h))
+
+  pub class_missing : slice_get files.classes class ≡ None → of_code files class method breaks ≡ []
+  class_missing e = ap (λ (v : Option ClassTree). of_class breaks (file_of files.lines class) method v) e
+
+  pub method_missing : (c : ClassTree) → slice_get files.classes class ≡ Some c → slice_get c.methods method ≡ None → of_code files class method breaks ≡ []
+  method_missing c e n =
+      ap (λ (v : Option ClassTree). of_class breaks (file_of files.lines class) method v) e
+      ∙ ap (λ (v : Option MethodTree). of_method breaks (file_of files.lines class) c v) n

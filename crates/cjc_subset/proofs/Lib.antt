@@ -1,3 +1,5 @@
 pub mod Firsts
 pub mod Files
 pub mod Codes
+pub mod Any
+pub mod Kin

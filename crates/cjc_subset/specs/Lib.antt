@@ -3,3 +3,9 @@ pub mod Breaks
 pub mod Members
 pub mod Names
 pub mod Hits
+pub mod Types
+pub mod Flags
+pub mod Overriding
+pub mod Applets
+pub mod Limits
+pub mod Checks

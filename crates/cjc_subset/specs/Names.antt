@@ -1,5 +1,5 @@
 -- Rules 203, 205 and 206 of the instructions and catch types of methods.
-use Rattle.std.specs.Prelude.{ℕ, List, [], ◌++◌, slice_get, Bool, true, false, not, ◌&&◌, ◌||◌, ◌==◌, if◌then◌else◌, Option, Some, None}
+use Rattle.std.specs.Prelude.{ℕ, List, [], ◌++◌, Bool, true, false, not, ◌&&◌, ◌||◌, ◌==◌, if◌then◌else◌, Option, Some, None}
 use Rattle.cjc_bytes.specs.declared.fault.MemberId.{MemberId}
 use Rattle.cjc_classfile.specs.declared.tree.Catch.{Catch}
 use Rattle.cjc_classfile.specs.declared.tree.ClassTree.{ClassTree}
@@ -16,7 +16,7 @@ use Rattle.cjc_world.specs.Files.{Files}
 use Rattle.cjc_world.specs.Kin.{is_below}
 use Rattle.cjc_world.specs.Lookup.{find_field, find_method, selected}
 use Rattle.cjc_world.specs.Rules.{Break, is_missing, is_type_missing, is_desc_missing, is_interface_of, is_class_of}
-use Rattle.cjc_subset.specs.Places.{FilePlace, at, at_method, each, file_of}
+use Rattle.cjc_subset.specs.Places.{FilePlace, at, at_method, each, of_code}
 use Rattle.cjc_subset.specs.Members.{Hit, hit, is_array, is_constant, is_constructor, is_descriptor, is_initialiser}
 
 -- ---- 203: a class that an instruction or a catch type names is in no file
@@ -181,16 +181,8 @@ method_breaks files f c i m insns =
     each (λ _ insn. insn_breaks files f c i m insn) insns
     ++ each (λ _ k. catch_breaks files f c i m k) (catches_of m.code)
 
-abbrev pub breaks_of_method : Files → MethodCode → ClassTree → Option MethodTree → List Break
-breaks_of_method files code c None = []
-breaks_of_method files code c (Some m) = method_breaks files (file_of files.lines code.class) c code.method m code.insns
-
-abbrev pub breaks_of_class : Files → MethodCode → Option ClassTree → List Break
-breaks_of_class files code None = []
-breaks_of_class files code (Some c) = breaks_of_method files code c (slice_get c.methods code.method)
-
 unfoldable pub code_breaks : Files → MethodCode → List Break
-code_breaks files code = breaks_of_class files code (slice_get files.classes code.class)
+code_breaks files code = of_code files code.class code.method (λ f c m. method_breaks files f c code.method m code.insns)
 
 -- All that is broken of 203, 205 and 206 in the methods that have instructions.
 unfoldable pub name_breaks : Files → List MethodCode → List Break

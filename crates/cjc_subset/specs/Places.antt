@@ -1,9 +1,10 @@
 -- Where rules are broken, and which break of a list is answered.
-use Rattle.std.specs.Prelude.{◌≡◌, ℕ, ◌+◌, ◌/◌, ◌==◌, ◌&&◌, ◌||◌, nat_lt, List, [], ◌∷◌, ◌++◌, length, get_or, Bool, true, false, if◌then◌else◌, Option, Some, None}
+use Rattle.std.specs.Prelude.{◌≡◌, ℕ, ◌+◌, ◌/◌, ◌==◌, ◌&&◌, ◌||◌, nat_lt, List, [], ◌∷◌, ◌++◌, length, get_or, slice_get, Bool, true, false, if◌then◌else◌, Option, Some, None}
 use Rattle.cjc_bytes.specs.declared.settings.FileLine.{FileLine}
 use Rattle.cjc_classfile.specs.declared.tree.ClassTree.{ClassTree}
 use Rattle.cjc_classfile.specs.declared.tree.MethodTree.{MethodTree}
 use Rattle.cjc_classfile.specs.declared.tree.FieldTree.{FieldTree}
+use Rattle.cjc_world.specs.Files.{Files}
 use Rattle.cjc_world.specs.Rules.{Break, IsFirst}
 
 -- A place that a rule speaks of: where it stands in the order of refusals, and what is told of it.
@@ -75,6 +76,19 @@ each_from breaks i (x ∷ xs) = breaks i x ++ each_from breaks (i + 1) xs
 
 abbrev pub each : {A : Type 0} → (ℕ → A → List Break) → List A → List Break
 each breaks xs = each_from breaks 0 xs
+
+-- ---- of a method by the numbers of its class and of itself, where both are there
+
+abbrev pub of_method : (FilePlace → ClassTree → MethodTree → List Break) → FilePlace → ClassTree → Option MethodTree → List Break
+of_method breaks f c None = []
+of_method breaks f c (Some m) = breaks f c m
+
+abbrev pub of_class : (FilePlace → ClassTree → MethodTree → List Break) → FilePlace → (method : ℕ) → Option ClassTree → List Break
+of_class breaks f method None = []
+of_class breaks f method (Some c) = of_method breaks f c (slice_get c.methods method)
+
+abbrev pub of_code : Files → (class method : ℕ) → (FilePlace → ClassTree → MethodTree → List Break) → List Break
+of_code files class method breaks = of_class breaks (file_of files.lines class) method (slice_get files.classes class)
 
 -- None where there is no break, else one that no other stands before.
 abbrev pub IsFirstOf : List Break → Option Break → Type 0

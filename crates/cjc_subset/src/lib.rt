@@ -2,9 +2,16 @@
 //! what its instructions may name, and which types, flags, overriding methods, applets and sizes are allowed.
 #![tactic(auto)]
 
+mod applets;
 mod broken;
+mod checking;
+mod flags;
+mod limits;
 mod members;
 mod naming;
+mod overriding;
 mod places;
+mod types;
 
+pub use checking::check;
 pub use naming::names;

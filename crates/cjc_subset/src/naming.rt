@@ -338,7 +338,7 @@ fn catches_break<'w>(
 }
 
 /// The handlers of a method's code.
-fn catches_of<'w>(method: &'w MethodTree<'_>) -> &'w [Catch]
+pub(crate) fn catches_of<'w>(method: &'w MethodTree<'_>) -> &'w [Catch]
     ensures { result.now ≡ catches_of method.now.code }
 {
     match &method.code {
@@ -374,7 +374,7 @@ fn code_break<'w>(world: &'w World<'_>, code: &MethodCode) -> Option<Break<'w>>
     let class = world.classes().items().get(code.class as usize)?;
     let place = code.method as usize;
     let method = class.methods.items().get(place)?;
-    let (file, file_name) = file_of(world.lines().items(), code.class);
+    let (file, file_name) = file_of(world.lines().items(), code.class as usize);
     let spot = class_spot(file, file_name, class);
     method_break(world, class, place, method, code.insns.items(), spot)
 }

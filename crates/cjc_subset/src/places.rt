@@ -1,15 +1,16 @@
 //! The places that rules speak of.
 
 ghost use Rattle.std.specs.Prelude.{◌≡◌, ◌<◌, length};
+ghost use Rattle.cjc_classfile.specs.declared.tree.ClassTree.{ClassTree as Tree};
 ghost use Rattle.cjc_subset.specs.Breaks.{spot_of};
-ghost use Rattle.cjc_subset.specs.Places.{FilePlace, at_class, at_method, file_of};
+ghost use Rattle.cjc_subset.specs.Places.{FilePlace, at_class, at_field, at_method, file_of, in_list};
 
 use crate::broken::{Part, Spot};
 use cjc_bytes::FileLine;
-use cjc_classfile::{ClassTree, MethodTree};
+use cjc_classfile::{ClassTree, FieldTree, MethodTree};
 
 /// The file of the class of this number: its place among the files of the list, from 1, and its name.
-pub(crate) fn file_of(lines: &[FileLine], class: u32) -> (usize, &[u8])
+pub(crate) fn file_of(lines: &[FileLine], class: usize) -> (usize, &[u8])
     ensures place { result.0 ≡ (file_of lines.now class).place }
     ensures name { result.1.now ≡ (file_of lines.now class).name }
 {
@@ -25,6 +26,21 @@ pub(crate) fn file_of(lines: &[FileLine], class: u32) -> (usize, &[u8])
     (0, &[])
 }
 
+/// The list, of this name.
+pub(crate) fn list_spot(list: &[u8]) -> Spot<'_>
+    ensures { spot_of result ≡ in_list list.now }
+{
+    Spot {
+        file: 0,
+        file_name: list,
+        class: 0,
+        class_name: &[],
+        member: 0,
+        part: Part::Whole,
+        offset: 0,
+    }
+}
+
 /// A class of the package, of the file at this place.
 pub(crate) fn class_spot<'w>(file: usize, file_name: &'w [u8], class: &'w ClassTree<'_>) -> Spot<'w>
     ensures { spot_of result ≡ at_class (record { place = file; name = file_name.now }) class.now }
@@ -37,6 +53,17 @@ pub(crate) fn class_spot<'w>(file: usize, file_name: &'w [u8], class: &'w ClassT
         member: 0,
         part: Part::Whole,
         offset: 0,
+    }
+}
+
+/// The field at this place of a class.
+pub(crate) fn field_spot<'w>(class: Spot<'w>, place: usize, field: &'w FieldTree) -> Spot<'w>
+    ensures { (f : FilePlace) (c : Tree) → spot_of class.entry ≡ at_class f c → spot_of result ≡ at_field f c place field.now }
+{
+    Spot {
+        member: place as u128 + 1,
+        part: Part::Field(field.name.items(), field.desc.items()),
+        ..class
     }
 }
 

@@ -1,0 +1,10 @@
+use Rattle.std.proofs.Common.{◌≡◌, take}
+use Rattle.std.specs.Prelude.{option_map}
+use Rattle.cjc_world.specs.Classes.{all_classes, declared}
+use Rattle.cjc_subset.specs.Breaks.{break_of, spot_of}
+use Rattle.cjc_subset.specs.Overriding.{kin_breaks}
+use Rattle.cjc_subset.specs.Places.{FilePlace, IsFirstOf, at_class, each}
+use Rattle.cjc_subset.proofs.overriding.declared_break.Given as goal
+
+abbrev pub invariant-loop-other : goal.invariant-loop-other
+invariant-loop-other l = (f : FilePlace) → spot_of l.spot ≡ at_class f l.class → IsFirstOf (each (λ _ d. kin_breaks (all_classes l.world) f l.class (declared 0 d)) (take l.other-index l.others)) (option_map break_of l.least)

@@ -1,0 +1,89 @@
+-- What is broken of 301, 302, 304 to 307, 309, 310 and 401 to 409, and where. Not yet of 403, and of 301 and 302 in
+-- methods that abstract classes get from their interfaces.
+use Rattle.std.specs.Prelude.{ℕ, List, ◌++◌, length, Bool, false, not, ◌&&◌, nat_lt, Option, Some, None, is_some}
+use Rattle.cjc_bytes.specs.declared.settings.Settings.{Settings}
+use Rattle.cjc_classfile.specs.declared.tree.ClassTree.{ClassTree}
+use Rattle.cjc_classfile.specs.declared.tree.FieldTree.{FieldTree}
+use Rattle.cjc_classfile.specs.declared.tree.MethodTree.{MethodTree}
+use Rattle.cjc_code.specs.declared.insn.JInsn.{JInsn}
+use Rattle.cjc_code.specs.declared.insn.JOp.{JOp}
+use Rattle.cjc_code.specs.declared.insn.JOp.TheVariants as jop
+use Rattle.cjc_code.specs.declared.method_code.MethodCode.{MethodCode}
+use Rattle.cjc_world.specs.declared.found.Found.{Found}
+use Rattle.cjc_world.specs.Classes.{all_classes, is_interface}
+use Rattle.cjc_world.specs.Files.{Files}
+use Rattle.cjc_world.specs.Rules.{Break}
+use Rattle.cjc_subset.specs.Members.{is_constant}
+use Rattle.cjc_subset.specs.Names.{field_found}
+use Rattle.cjc_subset.specs.Places.{FilePlace, at, at_class, at_field, at_method, each, file_of, in_list, of_code}
+use Rattle.cjc_subset.specs.Types.{is_foreign_desc, is_int_desc, names_foreign, names_int}
+use Rattle.cjc_subset.specs.Flags.{is_unfit_class, is_unfit_field, is_unfit_method}
+use Rattle.cjc_subset.specs.Overriding.{overriding_breaks}
+use Rattle.cjc_subset.specs.Applets.{has_unfit_applets}
+use Rattle.cjc_subset.specs.Limits.{has_many_cells, has_many_exported, has_many_handlers, has_deep_stack, has_many_locals}
+
+-- ---- 310: an instruction names a field of an imported class that is no constant
+
+abbrev pub is_imported_variable : Files → Option Found → Bool
+is_imported_variable files None = false
+is_imported_variable files (Some f) = f.imported && not (is_constant files f)
+
+unfoldable pub names_variable : Files → JOp → Bool
+names_variable files (jop.Static put id) = is_imported_variable files (field_found (all_classes files) id)
+names_variable files (jop.Field put id) = is_imported_variable files (field_found (all_classes files) id)
+names_variable files _ = false
+
+-- ---- by instructions
+
+unfoldable pub insn_breaks : Files → Settings → FilePlace → ClassTree → (method : ℕ) → MethodTree → JInsn → List Break
+insn_breaks files settings f c i m insn =
+    at (names_foreign insn.op) (at_method f c i m insn.at) 301
+    ++ at (not settings.ints && names_int insn.op) (at_method f c i m insn.at) 302
+    ++ at (names_variable files insn.op) (at_method f c i m insn.at) 310
+
+-- of a method that has these instructions
+unfoldable pub code_breaks : Files → Settings → MethodCode → List Break
+code_breaks files settings code =
+    of_code files code.class code.method (λ f c m. each (λ _ insn. insn_breaks files settings f c code.method m insn) code.insns)
+
+-- ---- by classes and their members
+
+unfoldable pub field_breaks : Settings → FilePlace → ClassTree → (place : ℕ) → FieldTree → List Break
+field_breaks settings f c i m =
+    at (is_foreign_desc m.desc) (at_field f c i m) 301
+    ++ at (not settings.ints && is_int_desc m.desc) (at_field f c i m) 302
+    ++ at (is_unfit_field (is_interface c.flags) m.flags) (at_field f c i m) 304
+
+unfoldable pub method_breaks : Settings → FilePlace → ClassTree → (place : ℕ) → MethodTree → List Break
+method_breaks settings f c i m =
+    at (is_foreign_desc m.desc) (at_method f c i m 0) 301
+    ++ at (not settings.ints && is_int_desc m.desc) (at_method f c i m 0) 302
+    ++ at (is_unfit_method (is_interface c.flags) m.flags m.name (is_some m.code)) (at_method f c i m 0) 304
+    ++ at (has_many_locals m.code) (at_method f c i m 0) 404
+    ++ at (has_deep_stack m.code) (at_method f c i m 0) 405
+
+unfoldable pub class_breaks : Files → Settings → FilePlace → ClassTree → List Break
+class_breaks files settings f c =
+    at (is_unfit_class c.flags) (at_class f c) 304
+    ++ at (has_many_cells c) (at_class f c) 406
+    ++ each (λ i m. field_breaks settings f c i m) c.fields
+    ++ each (λ i m. method_breaks settings f c i m) c.methods
+    ++ overriding_breaks files f c
+
+-- ---- by the list
+
+unfoldable pub list_breaks : (list : List ℕ) → Files → Settings → List Break
+list_breaks list files settings =
+    at (has_unfit_applets (all_classes files) settings.applets) (in_list list) 309
+    ++ at (has_many_exported files settings) (in_list list) 401
+    ++ at (nat_lt 255 (length files.classes)) (in_list list) 402
+    ++ at (has_many_handlers files) (in_list list) 407
+    ++ at (nat_lt 255 (length files.package_name)) (in_list list) 408
+    ++ at (nat_lt 255 (length settings.applets)) (in_list list) 409
+
+-- All that is broken of these rules; the list's name is that of its file.
+unfoldable pub check_breaks : (list : List ℕ) → Files → List MethodCode → Settings → List Break
+check_breaks list files codes settings =
+    list_breaks list files settings
+    ++ each (λ n c. class_breaks files settings (file_of files.lines n) c) files.classes
+    ++ each (λ _ code. code_breaks files settings code) codes

@@ -1,0 +1,99 @@
+-- Rules 301 and 302: the types that a package may not use.
+use Rattle.std.specs.Prelude.{ℕ, ◌^◌, List, [], ◌∷◌, ◌++◌, length, Bool, true, false, ◌&&◌, ◌||◌, ◌==◌, nat_lt, if◌then◌else◌, Option, Some, None}
+use Rattle.std.specs.List.{list_any}
+use Rattle.cjc_bytes.specs.declared.fault.MemberId.{MemberId}
+use Rattle.cjc_bytes.specs.declared.names.Kind.{Kind}
+use Rattle.cjc_bytes.specs.declared.names.Kind.TheVariants as kinds
+use Rattle.cjc_bytes.specs.Descriptor.{Part, Parts}
+use Rattle.cjc_bytes.specs.Spots.{desc_of}
+use Rattle.cjc_code.specs.declared.insn.JOp.{JOp}
+use Rattle.cjc_code.specs.declared.insn.JOp.TheVariants as jop
+use Rattle.cjc_subset.specs.Members.{is_array}
+
+-- ---- 301: char, long, float, double or an array of more than one dimension
+
+-- Behind the [ of an array's descriptor: the elements are arrays (91), chars (67), doubles (68), floats (70) or longs (74).
+abbrev pub is_foreign_element : List ℕ → Bool
+is_foreign_element [] = false
+is_foreign_element (b ∷ bs) = (b == 91) || (b == 67) || (b == 68) || (b == 70) || (b == 74)
+
+-- such an array, by the name that the pool or a descriptor has
+abbrev pub is_foreign_name : List ℕ → Bool
+is_foreign_name [] = false
+is_foreign_name (b ∷ bs) = (b == 91) && is_foreign_element bs
+
+abbrev pub is_other : Kind → Bool
+is_other kinds.Other = true
+is_other _ = false
+
+abbrev pub is_foreign_part : Part → Bool
+is_foreign_part p = is_other p.kind || is_foreign_name p.class
+
+abbrev pub is_any_foreign : Option Parts → Bool
+is_any_foreign None = false
+is_any_foreign (Some d) = list_any (λ p. is_foreign_part p) (d.params ++ d.result ∷ [])
+
+-- in a descriptor; bytes that are none, or that 32 bits don't count, have no type
+unfoldable pub is_foreign_desc : List ℕ → Bool
+is_foreign_desc desc = nat_lt (length desc) (2 ^ 32) && is_any_foreign (desc_of desc)
+
+abbrev pub is_foreign_member : MemberId → Bool
+is_foreign_member id = is_foreign_name id.class || is_foreign_desc id.desc
+
+-- the type number of a newarray: char, float, double or long
+abbrev pub is_foreign_number : ℕ → Bool
+is_foreign_number n = (n == 5) || (n == 6) || (n == 7) || (n == 11)
+
+-- An instruction names such a type, or an anewarray names an array.
+unfoldable pub names_foreign : JOp → Bool
+names_foreign (jop.Static put id) = is_foreign_member id
+names_foreign (jop.Field put id) = is_foreign_member id
+names_foreign (jop.Call op id) = is_foreign_member id
+names_foreign (jop.New name) = is_foreign_name name
+names_foreign (jop.NewArray n) = is_foreign_number n
+names_foreign (jop.ANewArray name) = is_array name
+names_foreign (jop.CheckCast name) = is_foreign_name name
+names_foreign (jop.InstanceOf name) = is_foreign_name name
+names_foreign _ = false
+
+-- ---- 302: int
+
+-- behind the [ of an array's descriptor: ints (73), in whatever dimension
+unfoldable pub is_int_element : List ℕ → Bool
+is_int_element [] = false
+is_int_element (b ∷ bs) = if b == 91 then is_int_element bs else b == 73
+
+abbrev pub is_int_name : List ℕ → Bool
+is_int_name [] = false
+is_int_name (b ∷ bs) = (b == 91) && is_int_element bs
+
+abbrev pub is_int : Kind → Bool
+is_int kinds.Int = true
+is_int _ = false
+
+abbrev pub is_int_part : Part → Bool
+is_int_part p = is_int p.kind || is_int_name p.class
+
+abbrev pub is_any_int : Option Parts → Bool
+is_any_int None = false
+is_any_int (Some d) = list_any (λ p. is_int_part p) (d.params ++ d.result ∷ [])
+
+unfoldable pub is_int_desc : List ℕ → Bool
+is_int_desc desc = nat_lt (length desc) (2 ^ 32) && is_any_int (desc_of desc)
+
+abbrev pub is_int_member : MemberId → Bool
+is_int_member id = is_int_name id.class || is_int_desc id.desc
+
+-- An instruction names int, or loads or stores an element of an array of ints (iaload, iastore).
+unfoldable pub names_int : JOp → Bool
+names_int (jop.ArrayLoad op) = op == 0x2E
+names_int (jop.ArrayStore op) = op == 0x4F
+names_int (jop.Static put id) = is_int_member id
+names_int (jop.Field put id) = is_int_member id
+names_int (jop.Call op id) = is_int_member id
+names_int (jop.New name) = is_int_name name
+names_int (jop.NewArray n) = n == 10
+names_int (jop.ANewArray name) = is_int_name name
+names_int (jop.CheckCast name) = is_int_name name
+names_int (jop.InstanceOf name) = is_int_name name
+names_int _ = false

@@ -1,0 +1,143 @@
+//! Rules 401 to 409: limits of a package.
+
+ghost use Rattle.std.specs.Prelude.{◌≡◌, sum_by};
+ghost use Rattle.cjc_world.specs.Classes.{all_classes, class_named};
+ghost use Rattle.cjc_subset.specs.Names.{is_imported_class};
+ghost use Rattle.cjc_subset.specs.Limits.{cells, handlers, handlers_of_class, has_deep_stack, has_many_cells, has_many_exported, has_many_handlers, has_many_locals, is_exported, is_shareable, left_of};
+
+use crate::members::{has, is_public, is_static};
+use crate::naming::catches_of;
+use cjc_bytes::Settings;
+use cjc_classfile::{ClassTree, FieldTree, MethodTree};
+use cjc_world::World;
+
+const SHAREABLE: &[u8] = b"javacard/framework/Shareable";
+
+const INT: &[u8] = b"I";
+
+/// How many there may be of exported classes, cells of a class, and handlers.
+const MOST: usize = 255;
+
+// ---- 401
+
+fn is_imported(world: &World<'_>, name: &[u8]) -> bool
+    ensures { result ≡ is_imported_class (class_named (all_classes world.now) name.now) }
+{
+    match world.class_named(name) {
+        Some(class) => class.is_imported(),
+        None => false,
+    }
+}
+
+fn is_shareable(world: &World<'_>, class: &ClassTree<'_>) -> bool
+    ensures { result ≡ is_shareable (all_classes world.now) class.now }
+{
+    has(class.flags, 0x0200)
+        && is_imported(world, SHAREABLE)
+        && world.subtype(class.name.items(), SHAREABLE)
+}
+
+/// Whether a class gets a token.
+#[tactic(auto, unfolding(crate::specs::Limits::is_exported))]
+fn is_exported(world: &World<'_>, settings: &Settings, class: &ClassTree<'_>) -> bool
+    ensures { result ≡ is_exported (all_classes world.now) settings.now class.now }
+{
+    is_public(class.flags) && (settings.applets.items().is_empty() || is_shareable(world, class))
+}
+
+/// Whether more than 255 classes get a token.
+#[tactic(auto, unfolding(crate::specs::Limits::has_many_exported))]
+pub(crate) fn has_many_exported(world: &World<'_>, settings: &Settings) -> bool
+    ensures { result ≡ has_many_exported world.now settings.now }
+{
+    let classes = world.classes().items();
+    classes
+        .iter()
+        .filter(|class| is_exported(world, settings, class))
+        .count()
+        > MOST
+}
+
+// ---- 404 and 405
+
+pub(crate) fn has_many_locals(method: &MethodTree<'_>) -> bool
+    ensures { result ≡ has_many_locals method.now.code }
+{
+    match &method.code {
+        Some(code) => code.max_locals > 255,
+        None => false,
+    }
+}
+
+pub(crate) fn has_deep_stack(method: &MethodTree<'_>) -> bool
+    ensures { result ≡ has_deep_stack method.now.code }
+{
+    match &method.code {
+        Some(code) => code.max_stack > 255,
+        None => false,
+    }
+}
+
+// ---- 406
+
+fn cells(field: &FieldTree) -> usize
+    ensures { result ≡ cells field.now }
+{
+    if is_static(field.flags) {
+        0
+    } else if field.desc.items() == INT {
+        2
+    } else {
+        1
+    }
+}
+
+/// What is left of an allowance of cells, or None where the fields take more.
+fn cells_left(fields: &[FieldTree], allowance: usize) -> Option<usize>
+    ensures { result ≡ left_of allowance (sum_by cells fields.now) }
+{
+    let mut left = allowance;
+    for field in fields {
+        left = left.checked_sub(cells(field))?;
+    }
+    Some(left)
+}
+
+/// Whether a class declares more than 255 cells of instance fields.
+#[tactic(auto, unfolding(crate::specs::Limits::has_many_cells))]
+pub(crate) fn has_many_cells(class: &ClassTree<'_>) -> bool
+    ensures { result ≡ has_many_cells class.now }
+{
+    cells_left(class.fields.items(), MOST).is_none()
+}
+
+// ---- 407
+
+/// What is left of an allowance of handlers, or None where the methods have more.
+fn handlers_left(methods: &[MethodTree<'_>], allowance: usize) -> Option<usize>
+    ensures { result ≡ left_of allowance (sum_by handlers methods.now) }
+{
+    let mut left = allowance;
+    for method in methods {
+        left = left.checked_sub(catches_of(method).len())?;
+    }
+    Some(left)
+}
+
+fn all_handlers_left(classes: &[ClassTree<'_>], allowance: usize) -> Option<usize>
+    ensures { result ≡ left_of allowance (sum_by handlers_of_class classes.now) }
+{
+    let mut left = allowance;
+    for class in classes {
+        left = handlers_left(class.methods.items(), left)?;
+    }
+    Some(left)
+}
+
+/// Whether all exception tables together have more than 255 entries.
+#[tactic(auto, unfolding(crate::specs::Limits::has_many_handlers))]
+pub(crate) fn has_many_handlers(world: &World<'_>) -> bool
+    ensures { result ≡ has_many_handlers world.now }
+{
+    all_handlers_left(world.classes().items(), MOST).is_none()
+}

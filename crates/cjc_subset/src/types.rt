@@ -1,0 +1,188 @@
+//! Rules 301 and 302: the types that a package may not use, and int, which its list has to allow.
+
+ghost use Rattle.std.specs.Prelude.{◌≡◌, ◌∷◌, ◌++◌, []};
+ghost use Rattle.std.specs.List.{list_any};
+ghost use Rattle.cjc_subset.specs.Types.{is_foreign_desc, is_foreign_element, is_foreign_member, is_foreign_name, is_foreign_number, is_foreign_part, is_int, is_int_desc, is_int_element, is_int_member, is_int_name, is_int_part, is_other, names_foreign, names_int};
+
+use crate::members::is_array;
+use cjc_bytes::{Desc, Kind, MemberId};
+use cjc_code::JOp;
+
+const IALOAD: u8 = 0x2E;
+
+const IASTORE: u8 = 0x4F;
+
+/// The type number of int in a newarray.
+const T_INT: u8 = 10;
+
+// ---- 301
+
+fn is_foreign_element(bytes: &[u8]) -> bool
+    ensures { result ≡ is_foreign_element bytes.now }
+{
+    match bytes {
+        [] => false,
+        [byte, ..] => {
+            *byte == b'[' || *byte == b'C' || *byte == b'D' || *byte == b'F' || *byte == b'J'
+        }
+    }
+}
+
+/// Whether a name is that of an array of chars, longs, floats, doubles or arrays.
+fn is_foreign_name(name: &[u8]) -> bool
+    ensures { result ≡ is_foreign_name name.now }
+{
+    match name {
+        [] => false,
+        [byte, rest @ ..] => *byte == b'[' && is_foreign_element(rest),
+    }
+}
+
+fn is_other(kind: Kind) -> bool
+    ensures { result ≡ is_other kind }
+{
+    match kind {
+        Kind::Other => true,
+        _ => false,
+    }
+}
+
+fn is_any_foreign(desc: &Desc<'_>) -> bool
+    ensures { result ≡ list_any (λ p. is_foreign_part p) (desc.now.params ++ desc.now.result ∷ []) }
+{
+    for i in 0..desc.params() {
+        if is_other(desc.kind(i)) || is_foreign_name(desc.class(i)) {
+            return true;
+        }
+    }
+    let result = desc.params();
+    is_other(desc.kind(result)) || is_foreign_name(desc.class(result))
+}
+
+/// Whether char, long, float, double or an array of more than one dimension stands in a descriptor.
+#[tactic(auto, unfolding(crate::specs::Types::is_foreign_desc))]
+pub(crate) fn is_foreign_desc(desc: &[u8]) -> bool
+    ensures { result ≡ is_foreign_desc desc.now }
+{
+    if desc.len() >= 0x1_0000_0000 {
+        return false;
+    }
+    match Desc::parse(desc) {
+        Ok(desc) => is_any_foreign(&desc),
+        Err(_) => false,
+    }
+}
+
+fn is_foreign_member(id: &MemberId) -> bool
+    ensures { result ≡ is_foreign_member id.now }
+{
+    is_foreign_name(id.class.items()) || is_foreign_desc(id.desc.items())
+}
+
+fn is_foreign_number(number: u8) -> bool
+    ensures { result ≡ is_foreign_number number }
+{
+    number == 5 || number == 6 || number == 7 || number == 11
+}
+
+/// Whether an instruction names such a type, or its anewarray names an array.
+#[tactic(auto, unfolding(crate::specs::Types::names_foreign))]
+pub(crate) fn names_foreign(op: &JOp) -> bool
+    ensures { result ≡ names_foreign op.now }
+{
+    match op {
+        JOp::Static { field, .. } => is_foreign_member(field),
+        JOp::Field { field, .. } => is_foreign_member(field),
+        JOp::Call { method, .. } => is_foreign_member(method),
+        JOp::New(name) => is_foreign_name(name.items()),
+        JOp::NewArray(number) => is_foreign_number(*number),
+        JOp::ANewArray(name) => is_array(name.items()),
+        JOp::CheckCast(name) => is_foreign_name(name.items()),
+        JOp::InstanceOf(name) => is_foreign_name(name.items()),
+        _ => false,
+    }
+}
+
+// ---- 302
+
+#[tactic(auto, unfolding(crate::specs::Types::is_int_element))]
+fn is_int_element(bytes: &[u8]) -> bool
+    ensures { result ≡ is_int_element bytes.now }
+{
+    match bytes {
+        [] => false,
+        [b'[', rest @ ..] => is_int_element(rest),
+        [byte, ..] => *byte == b'I',
+    }
+}
+
+/// Whether a name is that of an array of ints, in whatever dimension.
+fn is_int_name(name: &[u8]) -> bool
+    ensures { result ≡ is_int_name name.now }
+{
+    match name {
+        [] => false,
+        [byte, rest @ ..] => *byte == b'[' && is_int_element(rest),
+    }
+}
+
+fn is_int(kind: Kind) -> bool
+    ensures { result ≡ is_int kind }
+{
+    match kind {
+        Kind::Int => true,
+        _ => false,
+    }
+}
+
+fn is_any_int(desc: &Desc<'_>) -> bool
+    ensures { result ≡ list_any (λ p. is_int_part p) (desc.now.params ++ desc.now.result ∷ []) }
+{
+    for i in 0..desc.params() {
+        if is_int(desc.kind(i)) || is_int_name(desc.class(i)) {
+            return true;
+        }
+    }
+    let result = desc.params();
+    is_int(desc.kind(result)) || is_int_name(desc.class(result))
+}
+
+/// Whether int stands in a descriptor.
+#[tactic(auto, unfolding(crate::specs::Types::is_int_desc))]
+pub(crate) fn is_int_desc(desc: &[u8]) -> bool
+    ensures { result ≡ is_int_desc desc.now }
+{
+    if desc.len() >= 0x1_0000_0000 {
+        return false;
+    }
+    match Desc::parse(desc) {
+        Ok(desc) => is_any_int(&desc),
+        Err(_) => false,
+    }
+}
+
+fn is_int_member(id: &MemberId) -> bool
+    ensures { result ≡ is_int_member id.now }
+{
+    is_int_name(id.class.items()) || is_int_desc(id.desc.items())
+}
+
+/// Whether an instruction names int, or works on arrays of ints.
+#[tactic(auto, unfolding(crate::specs::Types::names_int))]
+pub(crate) fn names_int(op: &JOp) -> bool
+    ensures { result ≡ names_int op.now }
+{
+    match op {
+        JOp::ArrayLoad(op) => *op == IALOAD,
+        JOp::ArrayStore(op) => *op == IASTORE,
+        JOp::Static { field, .. } => is_int_member(field),
+        JOp::Field { field, .. } => is_int_member(field),
+        JOp::Call { method, .. } => is_int_member(method),
+        JOp::New(name) => is_int_name(name.items()),
+        JOp::NewArray(number) => *number == T_INT,
+        JOp::ANewArray(name) => is_int_name(name.items()),
+        JOp::CheckCast(name) => is_int_name(name.items()),
+        JOp::InstanceOf(name) => is_int_name(name.items()),
+        _ => false,
+    }
+}
