@@ -1,4 +1,4 @@
--- What is broken of 301, 302, 304 to 307, 309, 310 and 401 to 409, and where. Not yet of 403, and of 301 and 302 in
+-- What is broken of 301, 302, 304 to 307, 309, 310 and 401 to 409, and where. Not yet of 301 and 302 in
 -- methods that abstract classes get from their interfaces.
 use Rattle.std.specs.Prelude.{ℕ, List, ◌++◌, length, Bool, false, not, ◌&&◌, nat_lt, Option, Some, None, is_some}
 use Rattle.cjc_bytes.specs.declared.settings.Settings.{Settings}
@@ -20,7 +20,7 @@ use Rattle.cjc_subset.specs.Types.{is_foreign_desc, is_int_desc, names_foreign, 
 use Rattle.cjc_subset.specs.Flags.{is_unfit_class, is_unfit_field, is_unfit_method}
 use Rattle.cjc_subset.specs.Overriding.{overriding_breaks}
 use Rattle.cjc_subset.specs.Applets.{has_unfit_applets}
-use Rattle.cjc_subset.specs.Limits.{has_many_cells, has_many_exported, has_many_handlers, has_deep_stack, has_many_locals}
+use Rattle.cjc_subset.specs.Limits.{has_deep_stack, has_many_cells, has_many_exported, has_many_handlers, has_many_interfaces, has_many_locals}
 
 -- ---- 310: an instruction names a field of an imported class that is no constant
 
@@ -65,6 +65,7 @@ method_breaks settings f c i m =
 unfoldable pub class_breaks : Files → Settings → FilePlace → ClassTree → List Break
 class_breaks files settings f c =
     at (is_unfit_class c.flags) (at_class f c) 304
+    ++ at (has_many_interfaces files c) (at_class f c) 403
     ++ at (has_many_cells c) (at_class f c) 406
     ++ each (λ i m. field_breaks settings f c i m) c.fields
     ++ each (λ i m. method_breaks settings f c i m) c.methods

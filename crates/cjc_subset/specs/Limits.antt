@@ -1,15 +1,17 @@
 -- Rules 401 to 409: limits of a package.
-use Rattle.std.specs.Prelude.{ℕ, ◌-◌, List, length, sum_by, count_by, Bool, false, ◌&&◌, ◌||◌, ◌==◌, nat_le, nat_lt, if◌then◌else◌, Option, Some, None, codes}
+use Rattle.std.specs.Prelude.{ℕ, ◌-◌, List, [], ◌∷◌, ◌++◌, length, sum_by, count_by, Bool, false, ◌&&◌, ◌||◌, ◌==◌, nat_le, nat_lt, if◌then◌else◌, Option, Some, None, codes}
+use Rattle.std.specs.List.{flat_map, list_any}
 use Rattle.std.specs.Str.{bytes_eq}
 use Rattle.cjc_bytes.specs.declared.settings.Settings.{Settings}
 use Rattle.cjc_classfile.specs.declared.tree.ClassTree.{ClassTree}
 use Rattle.cjc_classfile.specs.declared.tree.FieldTree.{FieldTree}
 use Rattle.cjc_classfile.specs.declared.tree.MethodTree.{MethodTree}
 use Rattle.cjc_classfile.specs.Code.{CodeTree}
-use Rattle.cjc_world.specs.Classes.{Class, all_classes, class_named, is_interface, is_public, is_static}
+use Rattle.cjc_export.specs.declared.tree.ExportClass.{ExportClass}
+use Rattle.cjc_world.specs.Classes.{Class, all_classes, class_named, declared, imported, is_interface, is_public, is_static}
 use Rattle.cjc_world.specs.Files.{Files}
-use Rattle.cjc_world.specs.Interfaces.{interfaces_of}
 use Rattle.cjc_world.specs.Subtype.{is_subtype}
+use Rattle.cjc_subset.specs.Overriding.{is_above}
 use Rattle.cjc_subset.specs.Names.{catches_of, is_imported_class}
 
 -- ---- 401: more than 255 exported classes
@@ -32,11 +34,33 @@ has_many_exported files settings = nat_lt 255 (count_by (λ c. is_exported (all_
 -- ---- 403: a class has more than 15 interfaces, or an interface more than 14, inherited ones counted and those that
 -- ---- are in no file
 
+-- the interfaces that a class lists, where it stands above another
+abbrev pub listed_above : List Class → ClassTree → Class → List (List ℕ)
+listed_above w c d = if is_above w c d then d.interfaces else []
+
+abbrev pub listed_by_declared : List Class → ClassTree → List ClassTree → List (List ℕ)
+listed_by_declared w c ds = flat_map (λ d. listed_above w c (declared 0 d)) ds
+
+abbrev pub listed_by_imported : List Class → ClassTree → List ExportClass → List (List ℕ)
+listed_by_imported w c ds = flat_map (λ d. listed_above w c (imported 0 d)) ds
+
+-- what the class and all that stand above it list
+unfoldable pub listed_names : Files → ClassTree → List (List ℕ)
+listed_names files c =
+    c.interfaces
+    ++ listed_by_declared (all_classes files) c files.classes
+    ++ flat_map (λ t. listed_by_imported (all_classes files) c t.classes) files.exports
+
+-- these, and each other name once
+unfoldable pub noted : List (List ℕ) → List (List ℕ) → List (List ℕ)
+noted known [] = known
+noted known (x ∷ xs) = noted (if list_any (λ y. bytes_eq y x) known then known else known ++ x ∷ []) xs
+
 abbrev pub most_interfaces : ClassTree → ℕ
 most_interfaces c = if is_interface c.flags then 14 else 15
 
-unfoldable pub has_many_interfaces : List Class → ClassTree → Bool
-has_many_interfaces w c = nat_lt (most_interfaces c) (length (interfaces_of w c.name))
+unfoldable pub has_many_interfaces : Files → ClassTree → Bool
+has_many_interfaces files c = nat_lt (most_interfaces c) (length (noted [] (listed_names files c)))
 
 -- ---- 404 and 405
 

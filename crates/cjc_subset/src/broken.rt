@@ -12,7 +12,7 @@ use std::alloc::Global;
 
 /// What of a class a place is.
 #[derive(Clone, Copy)]
-pub(crate) enum Part<'w> {
+pub enum Part<'w> {
     /// The class itself, or no class.
     Whole,
     /// A field, by its name and its descriptor.
@@ -23,7 +23,7 @@ pub(crate) enum Part<'w> {
 
 /// A place that a rule speaks of.
 #[derive(Clone, Copy)]
-pub(crate) struct Spot<'w> {
+pub struct Spot<'w> {
     /// The list is 0; then the files in list order.
     pub file: usize,
     pub file_name: &'w [u8],
@@ -38,7 +38,7 @@ pub(crate) struct Spot<'w> {
 
 /// A broken rule and its place.
 #[derive(Clone, Copy)]
-pub(crate) struct Break<'w> {
+pub struct Break<'w> {
     pub rule: u16,
     pub spot: Spot<'w>,
 }
@@ -85,7 +85,7 @@ fn is_up_to(left: &Break<'_>, right: &Break<'_>) -> bool
 }
 
 /// The first of two in the order of refusals.
-pub(crate) fn first<'w>(left: Option<Break<'w>>, right: Option<Break<'w>>) -> Option<Break<'w>>
+pub fn first<'w>(left: Option<Break<'w>>, right: Option<Break<'w>>) -> Option<Break<'w>>
     ensures { (xs ys : List Broken) → IsFirstOf xs (option_map break_of left.entry) → IsFirstOf ys (option_map break_of right.entry) → IsFirstOf (xs ++ ys) (option_map break_of result) }
 {
     match (left, right) {
@@ -132,7 +132,7 @@ fn refusal(alloc: Global, broken: Break<'_>) -> Result<Refusal, NoMemory>
 }
 
 /// The refusal of what is broken, or that there is no memory to say so; or nothing.
-pub(crate) fn answer(alloc: Global, broken: Option<Break<'_>>) -> Result<(), Fault>
+pub fn answer(alloc: Global, broken: Option<Break<'_>>) -> Result<(), Fault>
     ensures ok { (bs : List Broken) → IsFirstOf bs (option_map break_of broken.entry) → OnOk result (bs ≡ []) }
     ensures refused { (bs : List Broken) → IsFirstOf bs (option_map break_of broken.entry) → IfErr result (IsFirstRefusal bs) }
 {

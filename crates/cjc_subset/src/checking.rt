@@ -14,6 +14,7 @@ ghost use Rattle.cjc_subset.specs.Types.{is_int_desc, names_int};
 use crate::applets::has_unfit_applets;
 use crate::broken::{Break, Spot, answer, broken, first};
 use crate::flags::{is_unfit_class, is_unfit_field, is_unfit_method};
+use crate::interfaces::has_many_interfaces;
 use crate::limits::{
     has_deep_stack, has_many_cells, has_many_exported, has_many_handlers, has_many_locals,
 };
@@ -233,14 +234,13 @@ fn class_break<'w>(
     ensures { (f : FilePlace) → spot_of spot.entry ≡ at_class f class.now → IfOk result (λ b. IsFirstOf (class_breaks world.now settings.now f class.now) (option_map break_of b)) }
 {
     let unfit = broken(is_unfit_class(class.flags), spot, 304);
+    let interfaces = broken(has_many_interfaces(alloc, world, class)?, spot, 403);
     let cells = broken(has_many_cells(class), spot, 406);
     let fields = fields_break(settings, class, spot);
     let methods = methods_break(settings, class, spot);
     let overriding = overriding_break(alloc, world, class, spot)?;
-    Ok(first(
-        first(first(first(unfit, cells), fields), methods),
-        overriding,
-    ))
+    let limits = first(first(unfit, interfaces), cells);
+    Ok(first(first(first(limits, fields), methods), overriding))
 }
 
 /// The first rule that the classes of the package break.
@@ -277,8 +277,9 @@ fn list_break<'w>(list: &'w [u8], world: &World<'_>, settings: &Settings) -> Opt
     first(first(first(front, handlers), package), lines)
 }
 
-/// The first rule that a package breaks.
-fn first_broken<'w>(
+/// The first of rules 301, 302, 304 to 307, 309, 310 and 401 to 409 that a package breaks, with its place in the order
+/// of refusals, for whoever tests further rules of the same hundreds.
+pub fn first_broken<'w>(
     alloc: Global,
     list: &'w [u8],
     world: &'w World<'_>,

@@ -6,6 +6,7 @@ mod applets;
 mod broken;
 mod checking;
 mod flags;
+mod interfaces;
 mod limits;
 mod members;
 mod naming;
@@ -13,5 +14,6 @@ mod overriding;
 mod places;
 mod types;
 
-pub use checking::check;
+pub use broken::{Break, Part, Spot, answer, first};
+pub use checking::{check, first_broken};
 pub use naming::names;

@@ -252,7 +252,7 @@ fn class_against<'w>(
     ))
 }
 
-fn is_above(world: &World<'_>, class: &ClassTree<'_>, known: Known<'_, '_>) -> bool
+pub(crate) fn is_above(world: &World<'_>, class: &ClassTree<'_>, known: Known<'_, '_>) -> bool
     ensures { result ≡ is_above (all_classes world.now) class.now (class_of known.entry) }
 {
     let name = class.name.items();
