@@ -1,0 +1,9 @@
+//! Type inference: what each word of a frame holds before each instruction of a method, as the least table that is
+//! closed under the instructions, and the rules 501, 502 and 503 over that table.
+//!
+//! Nothing here knows what number a word holds, nor what is written for an instruction.
+#![tactic(auto)]
+
+mod cell;
+
+pub use cell::{Cell, Stack, State};
