@@ -12,8 +12,8 @@ use Rattle.cjc_fixpoint.specs.Lattice.{flow_of}
 use Rattle.cjc_world.specs.Classes.{is_static}
 use Rattle.cjc_types.specs.declared.cell.Cell.{Cell}
 use Rattle.cjc_types.specs.declared.cell.Cell.TheVariants.{Refs, Unusable}
-use Rattle.cjc_types.specs.declared.cell.Stack.TheVariants.{Cells}
-use Rattle.cjc_types.specs.declared.cell.State.{State}
+use Rattle.cjc_types.specs.declared.state.Stack.TheVariants.{Cells}
+use Rattle.cjc_types.specs.declared.state.State.{State}
 use Rattle.cjc_types.specs.States.{states}
 use Rattle.cjc_types.specs.Types.{parts, value_of}
 use Rattle.cjc_types.specs.Steps.{after, goes_on, targets}

@@ -15,7 +15,7 @@ use Rattle.cjc_fixpoint.proofs.Lattices.{flow_laws}
 use Rattle.cjc_world.specs.Classes.{is_static}
 use Rattle.cjc_types.specs.declared.cell.Cell.{Cell}
 use Rattle.cjc_types.specs.declared.cell.Cell.TheVariants.{Refs, Unusable}
-use Rattle.cjc_types.specs.declared.cell.State.{State}
+use Rattle.cjc_types.specs.declared.state.State.{State}
 use Rattle.cjc_types.specs.Cells.{IsCell}
 use Rattle.cjc_types.specs.States.{most_cells, states}
 use Rattle.cjc_types.specs.StateLaws.{state_lattice}

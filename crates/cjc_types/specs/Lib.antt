@@ -10,3 +10,4 @@ pub mod Steps
 pub mod StepLaws
 pub mod Flow
 pub mod FlowLaws
+pub mod Index

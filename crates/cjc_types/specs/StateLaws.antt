@@ -8,9 +8,9 @@ use Rattle.std.proofs.Math.Nat.{mul-le-mul_left, mul_comm}
 use Rattle.cjc_fixpoint.specs.Lattice.{IsLattice, IsListOf, joined, lists_of}
 use Rattle.cjc_fixpoint.proofs.Lattices.{lists_lattice, parts_lattice}
 use Rattle.cjc_types.specs.declared.cell.Cell.{Cell}
-use Rattle.cjc_types.specs.declared.cell.Stack.{Stack}
-use Rattle.cjc_types.specs.declared.cell.Stack.TheVariants.{Cells, Clash}
-use Rattle.cjc_types.specs.declared.cell.State.{State}
+use Rattle.cjc_types.specs.declared.state.Stack.{Stack}
+use Rattle.cjc_types.specs.declared.state.Stack.TheVariants.{Cells, Clash}
+use Rattle.cjc_types.specs.declared.state.State.{State}
 use Rattle.cjc_types.specs.Cells.{most_names, IsCell, IsCellBelow, joined_cell, cell_rank, cells}
 use Rattle.cjc_types.specs.CellLaws.{cell_lattice, rank_bounded, same_cell}
 use Rattle.cjc_types.specs.States.{most_cells, stack_of, IsCellStack, IsStack, IsStackBelow, joined_stack, clash_rank, stack_rank, stacks, states}

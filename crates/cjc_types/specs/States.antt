@@ -3,9 +3,9 @@ use Rattle.std.specs.Prelude.{ℕ, suc, ◌*◌, ◌≤◌, ◌==◌, List, leng
 use Rattle.std.specs.List.{AllZip}
 use Rattle.cjc_fixpoint.specs.Lattice.{Lattice, joined, lists_of, parts_of}
 use Rattle.cjc_types.specs.declared.cell.Cell.{Cell}
-use Rattle.cjc_types.specs.declared.cell.Stack.{Stack}
-use Rattle.cjc_types.specs.declared.cell.Stack.TheVariants.{Cells, Clash}
-use Rattle.cjc_types.specs.declared.cell.State.{State}
+use Rattle.cjc_types.specs.declared.state.Stack.{Stack}
+use Rattle.cjc_types.specs.declared.state.Stack.TheVariants.{Cells, Clash}
+use Rattle.cjc_types.specs.declared.state.State.{State}
 use Rattle.cjc_types.specs.Cells.{most_names, IsCell, IsCellBelow, joined_cell, cell_rank, cells}
 
 -- An instruction adds at most two cells to a stack, and a handler begins with one. So a way that passes each of 65,535

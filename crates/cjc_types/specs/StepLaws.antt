@@ -10,9 +10,9 @@ use Rattle.cjc_fixpoint.specs.Lattice.{IsListOf}
 use Rattle.cjc_fixpoint.proofs.Lattices.{zip-slice_set}
 use Rattle.cjc_types.specs.declared.cell.Cell.{Cell}
 use Rattle.cjc_types.specs.declared.cell.Cell.TheVariants.{Number, Refs}
-use Rattle.cjc_types.specs.declared.cell.Stack.{Stack}
-use Rattle.cjc_types.specs.declared.cell.Stack.TheVariants.{Cells, Clash}
-use Rattle.cjc_types.specs.declared.cell.State.{State}
+use Rattle.cjc_types.specs.declared.state.Stack.{Stack}
+use Rattle.cjc_types.specs.declared.state.Stack.TheVariants.{Cells, Clash}
+use Rattle.cjc_types.specs.declared.state.State.{State}
 use Rattle.cjc_types.specs.Cells.{IsCell, IsCellBelow, cells}
 use Rattle.cjc_types.specs.CellLaws.{below_refl}
 use Rattle.cjc_types.specs.States.{IsStack, IsStackBelow, states}

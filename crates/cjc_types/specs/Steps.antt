@@ -6,9 +6,9 @@ use Rattle.cjc_code.specs.declared.insn.JOp.TheVariants as jop
 use Rattle.cjc_code.specs.declared.insn.JCase.{JCase}
 use Rattle.cjc_types.specs.declared.cell.Cell.{Cell}
 use Rattle.cjc_types.specs.declared.cell.Cell.TheVariants.{Number, Refs, Unusable}
-use Rattle.cjc_types.specs.declared.cell.Stack.{Stack}
-use Rattle.cjc_types.specs.declared.cell.Stack.TheVariants.{Cells, Clash}
-use Rattle.cjc_types.specs.declared.cell.State.{State}
+use Rattle.cjc_types.specs.declared.state.Stack.{Stack}
+use Rattle.cjc_types.specs.declared.state.Stack.TheVariants.{Cells, Clash}
+use Rattle.cjc_types.specs.declared.state.State.{State}
 use Rattle.cjc_types.specs.States.{stack_of}
 use Rattle.cjc_types.specs.Types.{parts, result_of, array_of, letter, element_of, as_reference}
 

@@ -1,6 +1,11 @@
 //! What is known of the words of a frame.
 
-use cjc_bytes::{Bytes, Row};
+ghost use Rattle.std.specs.Prelude.{◌≡◌, ◌≤◌, ◌^◌, IfOk};
+ghost use Rattle.cjc_types.specs.Cells.{IsCell, cell_rank, joined_cell, refs as refs_cell};
+
+use crate::names;
+use cjc_bytes::{Bytes, NoMemory, Row};
+use std::alloc::Global;
 
 /// What is known of a word of a frame.
 #[derive(Drop)]
@@ -14,18 +19,52 @@ pub enum Cell {
     Unusable,
 }
 
-/// An operand stack.
-#[derive(Drop)]
-pub enum Stack {
-    /// Its cells, the top first.
-    Cells(Row<Cell>),
-    /// Two ways come here with stacks of different heights.
-    Clash,
+/// The cell of a set of types.
+#[tactic(auto, unfolding(crate::specs::Cells::most_names))]
+pub(crate) fn refs(types: Row<Bytes>) -> Cell
+    ensures { result ≡ refs_cell types }
+{
+    if types.items().len() <= 0xFFFF_FFFF {
+        Cell::Refs(types)
+    } else {
+        Cell::Unusable
+    }
 }
 
-/// What is known of a frame before an instruction.
-#[derive(Drop)]
-pub struct State {
-    pub stack: Stack,
-    pub locals: Row<Cell>,
+/// The same cell once more.
+pub(crate) fn copied(alloc: Global, cell: &Cell) -> Result<Cell, NoMemory>
+    ensures { IfOk result (λ copied. copied ≡ cell.now) }
+{
+    match cell {
+        Cell::Number => Ok(Cell::Number),
+        Cell::Refs(types) => Ok(Cell::Refs(names::copied(alloc, types.items())?)),
+        Cell::Unusable => Ok(Cell::Unusable),
+    }
+}
+
+/// The least cell above both.
+pub(crate) fn joined(alloc: Global, left: &Cell, right: &Cell) -> Result<Cell, NoMemory>
+    ensures { IfOk result (λ joined. joined ≡ joined_cell left.now right.now) }
+{
+    match (left, right) {
+        (Cell::Number, Cell::Number) => Ok(Cell::Number),
+        (Cell::Refs(types), Cell::Refs(others)) => {
+            Ok(refs(names::either(alloc, types.items(), others.items())?))
+        }
+        _ => Ok(Cell::Unusable),
+    }
+}
+
+/// How high a cell stands in their order.
+#[tactic(auto, unfolding(crate::specs::Cells::most_names))]
+pub(crate) fn rank(cell: &Cell) -> u64
+    requires { IsCell cell.now }
+    ensures rank { result ≡ cell_rank cell.now }
+    ensures small { result ≤ 2 ^ 32 }
+{
+    match cell {
+        Cell::Number => 0,
+        Cell::Refs(types) => types.items().len() as u64,
+        Cell::Unusable => 1 << 32,
+    }
 }

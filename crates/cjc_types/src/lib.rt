@@ -5,5 +5,11 @@
 #![tactic(auto)]
 
 mod cell;
+mod method;
+mod names;
+mod state;
+mod steps;
+mod types;
 
-pub use cell::{Cell, Stack, State};
+pub use cell::Cell;
+pub use state::{Stack, State};

@@ -1,0 +1,277 @@
+//! A method as a dataflow problem, whose places are its instructions.
+
+ghost use Rattle.std.specs.Prelude.{◌≡◌, ◌<◌, ◌≤◌, ◌+◌, ◌^◌, [], ◌∷◌, ◌++◌, map, filter_map, length, All, ℕ, None, get_or, option_to_list, IfOk, OnOk};
+ghost use Rattle.cjc_types.specs.Cells.{IsCell};
+ghost use Rattle.cjc_types.specs.Flow.{Body, arguments as arguments_of, entry as entry_of, place_at as place_by, next_place as next_by, successors as successors_of, edge, covers as covers_offset, caught_type as type_caught, caught as caught_by, handler_edge as handler_edge_of, insn_edges as insn_edges_of, place_edges, type_flow};
+ghost use Rattle.cjc_types.specs.Index.{IsIndex};
+ghost use Rattle.cjc_types.specs.Types.{parts, value_of};
+
+use crate::cell::Cell;
+use crate::state::{self, Stack, State};
+use crate::{names, steps, types};
+use cjc_bytes::{Bytes, NoMemory, Row};
+use cjc_classfile::Catch;
+use cjc_code::{JInsn, JOp};
+use cjc_fixpoint::{Edge, Flow};
+use std::alloc::Global;
+use std::marker::Model;
+
+/// What inference reads of a method with code.
+#[derive(Drop)]
+pub(crate) struct Method<'a> {
+    /// The class that holds the method.
+    pub(crate) class: &'a [u8],
+    pub(crate) flags: u16,
+    pub(crate) desc: &'a [u8],
+    pub(crate) max_stack: u16,
+    pub(crate) max_locals: u16,
+    pub(crate) catches: &'a [Catch],
+    pub(crate) insns: &'a [JInsn],
+    /// By the offset of an instruction its place.
+    pub(crate) places: &'a [Option<u32>],
+}
+
+impl<'a> Model for Method<'a> {
+    ghost use Rattle.std.specs.Prelude.{◌<◌, ◌^◌, length};
+    ghost use Rattle.cjc_types.specs.Flow.{Body};
+    ghost use Rattle.cjc_types.specs.Index.{IsIndex};
+
+    ghost Value = { Body };
+
+    ghost view = { λ m. record { class = m.class.now; flags = m.flags; desc = m.desc.now; max_stack = m.max_stack; max_locals = m.max_locals; catches = m.catches.now; insns = m.insns.now } };
+
+    ghost invariant = { λ m. IsIndex m.insns.now m.places.now × (length m.insns.now < 2 ^ 32) };
+}
+
+/// The class that a handler catches.
+fn caught_type(class: &Option<Bytes>) -> &[u8]
+    ensures { result.now ≡ type_caught class.now }
+{
+    match class {
+        Some(class) => class.items(),
+        None => b"java/lang/Throwable",
+    }
+}
+
+/// Whether a handler is that of the instruction at an offset.
+fn covers(catch: &Catch, offset: u32) -> bool
+    ensures { result ≡ covers_offset catch.now offset }
+{
+    u32::from(catch.start) <= offset && offset < u32::from(catch.end)
+}
+
+/// The state in which a handler is entered.
+fn caught(alloc: Global, catch: &Catch, before: &State) -> Result<State, NoMemory>
+    ensures { IfOk result (λ caught. caught ≡ caught_by catch.now before.now) }
+{
+    let mut stack = Row::new(alloc);
+    let types = names::one_name(alloc, caught_type(&catch.class))?;
+    stack.push(Cell::Refs(types))?;
+    Ok(State {
+        stack: Stack::Cells(stack),
+        locals: state::copied_cells(alloc, before.locals.items())?,
+    })
+}
+
+/// An edge with the state to each of these places.
+fn edges_to(alloc: Global, state: &State, places: &[u32]) -> Result<Row<Edge<State>>, NoMemory>
+    ensures { IfOk result (λ edges. edges ≡ map (edge state.now) places.now) }
+{
+    let mut edges = Row::new(alloc);
+    for to in places {
+        edges.push(Edge {
+            to: *to,
+            state: state::copied(alloc, state)?,
+        })?;
+    }
+    Ok(edges)
+}
+
+/// Puts the item at the end, where there is one.
+fn put_some<T: Drop>(row: &mut Row<T>, item: Option<T>) -> Result<(), NoMemory>
+    ensures { OnOk result (row.new ≡ row.old ++ option_to_list item) }
+{
+    match item {
+        Some(item) => row.push(item),
+        None => Ok(()),
+    }
+}
+
+/// Puts what values of the parameters are at the end.
+fn put_parameters(alloc: Global, cells: &mut Row<Cell>, desc: &[u8]) -> Result<(), NoMemory>
+    ensures { OnOk result (cells.new ≡ cells.old ++ map value_of (parts desc.now).params) }
+{
+    if let Some(parsed) = types::parsed(desc) {
+        for i in 0..parsed.params() {
+            cells.push(types::value_of(alloc, parsed.kind(i), parsed.class(i))?)?;
+        }
+    }
+    Ok(())
+}
+
+impl<'a> Method<'a> {
+    /// What the arguments of the method are.
+    fn arguments(&self, alloc: Global) -> Result<Row<Cell>, NoMemory>
+        ensures { IfOk result (λ cells. cells ≡ arguments_of self.now) }
+    {
+        let mut cells = Row::new(alloc);
+        if self.flags & 0x0008 == 0 {
+            let types = names::one_name(alloc, self.class)?;
+            cells.push(Cell::Refs(types))?;
+        }
+        put_parameters(alloc, &mut cells, self.desc)?;
+        Ok(cells)
+    }
+
+    /// The place of the instruction at an offset.
+    fn place_at(&self, offset: u32) -> Option<u32>
+        ensures { result ≡ place_by self.now.insns offset }
+    {
+        match self.places.get(offset as usize) {
+            Some(place) => *place,
+            None => None,
+        }
+    }
+
+    /// Puts the place behind at the end, where an instruction stands there and may follow.
+    fn put_next(&self, places: &mut Row<u32>, goes_on: bool, at: u32) -> Result<(), NoMemory>
+        requires { at < length self.now.insns }
+        ensures { OnOk result (places.new ≡ places.old ++ next_by goes_on (length self.now.insns) at) }
+    {
+        let next = at as usize + 1;
+        if goes_on && next < self.insns.len() {
+            places.push(next as u32)?;
+        }
+        Ok(())
+    }
+
+    /// Puts the places at some offsets at the end.
+    fn put_places(&self, places: &mut Row<u32>, offsets: &[u32]) -> Result<(), NoMemory>
+        ensures { OnOk result (places.new ≡ places.old ++ filter_map (place_by self.now.insns) offsets.now) }
+    {
+        for offset in offsets {
+            put_some(places, self.place_at(*offset))?;
+        }
+        Ok(())
+    }
+
+    /// The places of the instructions that may follow.
+    fn successors(&self, alloc: Global, at: u32, op: &JOp) -> Result<Row<u32>, NoMemory>
+        requires { at < length self.now.insns }
+        ensures { IfOk result (λ places. places ≡ successors_of self.now.insns at op.now) }
+    {
+        let mut places = Row::new(alloc);
+        self.put_next(&mut places, steps::goes_on(op), at)?;
+        let offsets = steps::targets(alloc, op)?;
+        self.put_places(&mut places, offsets.items())?;
+        Ok(places)
+    }
+
+    /// The edge to a handler, where it is that of the instruction at an offset.
+    fn handler_edge(
+        &self,
+        alloc: Global,
+        offset: u32,
+        before: &State,
+        catch: &Catch,
+    ) -> Result<Option<Edge<State>>, NoMemory>
+        ensures { IfOk result (λ edge. edge ≡ handler_edge_of self.now.insns offset before.now catch.now) }
+    {
+        if !covers(catch, offset) {
+            return Ok(None);
+        }
+        match self.place_at(u32::from(catch.target)) {
+            Some(to) => Ok(Some(Edge {
+                to,
+                state: caught(alloc, catch, before)?,
+            })),
+            None => Ok(None),
+        }
+    }
+
+    /// Puts the edges to the handlers of the instruction at an offset at the end.
+    fn put_handlers(
+        &self,
+        alloc: Global,
+        edges: &mut Row<Edge<State>>,
+        offset: u32,
+        before: &State,
+    ) -> Result<(), NoMemory>
+        ensures { OnOk result (edges.new ≡ edges.old ++ filter_map (handler_edge_of self.now.insns offset before.now) self.now.catches) }
+    {
+        for catch in self.catches {
+            put_some(edges, self.handler_edge(alloc, offset, before, catch)?)?;
+        }
+        Ok(())
+    }
+
+    /// What an instruction hands on.
+    fn insn_edges(
+        &self,
+        alloc: Global,
+        at: u32,
+        insn: &JInsn,
+        before: &State,
+    ) -> Result<Row<Edge<State>>, NoMemory>
+        requires { at < length self.now.insns }
+        ensures { IfOk result (λ edges. edges ≡ insn_edges_of self.now at insn.now before.now) }
+    {
+        let places = self.successors(alloc, at, &insn.op)?;
+        let after = steps::after(alloc, &insn.op, before)?;
+        let mut edges = edges_to(alloc, &after, places.items())?;
+        self.put_handlers(alloc, &mut edges, insn.at, before)?;
+        Ok(edges)
+    }
+}
+
+impl Flow for Method<'_> {
+    ghost use Rattle.cjc_types.specs.Flow.{type_flow};
+    ghost use Rattle.cjc_types.specs.FlowLaws.{type_laws};
+
+    type State = State;
+
+    ghost meaning = { λ method. type_flow method };
+
+    ghost laws = { λ method. type_laws method };
+
+    fn copy(&self, alloc: Global, state: &State) -> Result<State, NoMemory> {
+        state::copied(alloc, state)
+    }
+
+    fn join(&self, alloc: Global, left: &State, right: &State) -> Result<State, NoMemory> {
+        state::joined(alloc, self.max_locals, left, right)
+    }
+
+    fn transfer(
+        &self,
+        alloc: Global,
+        at: u32,
+        before: &State,
+    ) -> Result<Row<Edge<State>>, NoMemory> {
+        match self.insns.get(at as usize) {
+            Some(insn) => self.insn_edges(alloc, at, insn, before),
+            None => Ok(Row::new(alloc)),
+        }
+    }
+
+    fn entry(&self, alloc: Global) -> Result<State, NoMemory> {
+        let mut locals = self.arguments(alloc)?.into_vec();
+        for _ in 0..self.max_locals {
+            locals.push(Cell::Unusable)?;
+        }
+        locals.truncate(self.max_locals as usize);
+        Ok(State {
+            stack: Stack::Cells(Row::new(alloc)),
+            locals: Row::of(locals),
+        })
+    }
+
+    fn rank(&self, state: &State) -> u64 {
+        state::rank(self.max_locals, state)
+    }
+
+    #[tactic(auto, unfolding(crate::specs::States::most_cells, crate::specs::Cells::most_names))]
+    fn height(&self) -> u64 {
+        131_071 * (1 << 32) + 1 + u64::from(self.max_locals) * (1 << 32)
+    }
+}

@@ -1,0 +1,174 @@
+//! Types by name, and the cells of their values.
+
+ghost use Rattle.std.specs.Prelude.{◌≡◌, ◌+◌, ◌≤◌, ◌<◌, ◌^◌, [], ◌∷◌, ◌++◌, length, IfOk, option_map};
+ghost use Rattle.cjc_bytes.specs.Descriptor.{Part, part_at};
+ghost use Rattle.cjc_world.specs.Subtype.{starts as starts_by, inner as inner_of};
+ghost use Rattle.cjc_types.specs.Types.{parts, parts_or_none, cell_of as cell_of_kind, value_of as value_of_part, is_void, result_of, array_of as array_of_name, letter as letter_of, held, held_by, elements as elements_of, element_of as element_of_cell, as_reference as reference_of, with_held};
+
+use crate::cell::{self, Cell};
+use crate::names;
+use cjc_bytes::{Bytes, Desc, Kind, NoMemory, Row};
+use std::alloc::Global;
+
+/// The parts of a descriptor, or nothing where the bytes are none.
+#[tactic(auto, unfolding(crate::specs::Types::parts))]
+pub(crate) fn parsed(desc: &[u8]) -> Option<Desc<'_>>
+    ensures { parts_or_none result ≡ parts desc.now }
+{
+    if desc.len() >= 1 << 32 {
+        return None;
+    }
+    match Desc::parse(desc) {
+        Ok(parsed) => Some(parsed),
+        Err(_) => None,
+    }
+}
+
+/// The number of parameters of a descriptor.
+pub(crate) fn parameters(desc: &[u8]) -> usize
+    ensures count { result ≡ length (parts desc.now).params }
+    ensures small { result < 2 ^ 32 }
+{
+    match parsed(desc) {
+        Some(parsed) => parsed.params() as usize,
+        None => 0,
+    }
+}
+
+/// What a value of a type is.
+pub(crate) fn value_of(alloc: Global, kind: Kind, class: &[u8]) -> Result<Cell, NoMemory>
+    ensures { IfOk result (λ cell. cell ≡ cell_of_kind kind class.now) }
+{
+    match kind {
+        Kind::Bool | Kind::Byte | Kind::Short | Kind::Int => Ok(Cell::Number),
+        Kind::Ref => Ok(Cell::Refs(names::one_name(alloc, class)?)),
+        Kind::Other | Kind::Void => Ok(Cell::Unusable),
+    }
+}
+
+fn is_void(kind: Kind) -> bool
+    ensures { result ≡ is_void kind }
+{
+    match kind {
+        Kind::Void => true,
+        _ => false,
+    }
+}
+
+/// What a result of a descriptor puts on the stack.
+pub(crate) fn given_by(alloc: Global, desc: &[u8]) -> Result<Row<Cell>, NoMemory>
+    ensures { IfOk result (λ cells. cells ≡ result_of (parts desc.now).result) }
+{
+    let mut cells = Row::new(alloc);
+    if let Some(parsed) = parsed(desc) {
+        let last = parsed.params();
+        let kind = parsed.kind(last);
+        if !is_void(kind) {
+            cells.push(value_of(alloc, kind, parsed.class(last))?)?;
+        }
+    }
+    Ok(cells)
+}
+
+fn starts(first: u8, bytes: &[u8]) -> bool
+    ensures { result ≡ starts_by first bytes.now }
+{
+    match bytes {
+        [] => false,
+        [byte, ..] => *byte == first,
+    }
+}
+
+/// What stands between the first byte and the last.
+fn inner(bytes: &[u8]) -> &[u8]
+    ensures { result.now ≡ inner_of bytes.now }
+{
+    match bytes {
+        [] => bytes,
+        [_, rest @ ..] => &rest[..rest.len().saturating_sub(1)],
+    }
+}
+
+/// The array type of elements of a class or array type.
+pub(crate) fn array_of(alloc: Global, name: &[u8]) -> Result<Bytes, NoMemory>
+    ensures { IfOk result (λ array. array ≡ array_of_name name.now) }
+{
+    let mut array = Vec::new(alloc);
+    array.push(b'[')?;
+    if starts(b'[', name) {
+        array.extend_from_slice(name)?;
+    } else {
+        array.push(b'L')?;
+        array.extend_from_slice(name)?;
+        array.push(b';')?;
+    }
+    Ok(Row::of(array))
+}
+
+/// The letter of a newarray's type number.
+pub(crate) fn letter(number: u8) -> u8
+    ensures { result ≡ letter_of number }
+{
+    match number {
+        4 => b'Z',
+        5 => b'C',
+        6 => b'F',
+        7 => b'D',
+        8 => b'B',
+        9 => b'S',
+        10 => b'I',
+        _ => b'J',
+    }
+}
+
+/// The type that an array of references holds.
+fn held(array: &[u8]) -> Option<&[u8]>
+    ensures { option_map (λ name. name.now) result ≡ held array.now }
+{
+    match array {
+        [b'[', element @ ..] => {
+            if starts(b'[', element) {
+                Some(element)
+            } else if starts(b'L', element) {
+                Some(inner(element))
+            } else {
+                None
+            }
+        }
+        _ => None,
+    }
+}
+
+/// The types that the arrays of references among these hold.
+fn elements(alloc: Global, types: &[Bytes]) -> Result<Row<Bytes>, NoMemory>
+    ensures { IfOk result (λ held. held ≡ elements_of types.now []) }
+{
+    let mut names = Vec::new(alloc);
+    for array in types {
+        if let Some(name) = held(array.items()) {
+            names::put(alloc, &mut names, name)?;
+        }
+    }
+    Ok(Row::of(names))
+}
+
+/// What an array load gives.
+pub(crate) fn element_of(alloc: Global, opcode: u8, array: &Cell) -> Result<Cell, NoMemory>
+    ensures { IfOk result (λ cell. cell ≡ element_of_cell opcode array.now) }
+{
+    match array {
+        Cell::Refs(types) if opcode == 0x32 => Ok(cell::refs(elements(alloc, types.items())?)),
+        Cell::Refs(_) => Ok(Cell::Number),
+        _ => Ok(Cell::Unusable),
+    }
+}
+
+/// A reference, or else unusable.
+pub(crate) fn as_reference(alloc: Global, cell: &Cell) -> Result<Cell, NoMemory>
+    ensures { IfOk result (λ reference. reference ≡ reference_of cell.now) }
+{
+    match cell {
+        Cell::Refs(types) => Ok(Cell::Refs(names::copied(alloc, types.items())?)),
+        _ => Ok(Cell::Unusable),
+    }
+}
