@@ -11,3 +11,5 @@ pub mod StepLaws
 pub mod Flow
 pub mod FlowLaws
 pub mod Index
+pub mod Rules
+pub mod Tables

@@ -7,9 +7,12 @@
 mod cell;
 mod method;
 mod names;
+mod rules;
 mod state;
 mod steps;
+mod table;
 mod types;
 
 pub use cell::Cell;
 pub use state::{Stack, State};
+pub use table::{Frame, TypeTable};

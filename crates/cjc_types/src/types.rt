@@ -70,7 +70,7 @@ pub(crate) fn given_by(alloc: Global, desc: &[u8]) -> Result<Row<Cell>, NoMemory
     Ok(cells)
 }
 
-fn starts(first: u8, bytes: &[u8]) -> bool
+pub(crate) fn starts(first: u8, bytes: &[u8]) -> bool
     ensures { result ≡ starts_by first bytes.now }
 {
     match bytes {
@@ -122,7 +122,7 @@ pub(crate) fn letter(number: u8) -> u8
 }
 
 /// The type that an array of references holds.
-fn held(array: &[u8]) -> Option<&[u8]>
+pub(crate) fn held(array: &[u8]) -> Option<&[u8]>
     ensures { option_map (λ name. name.now) result ≡ held array.now }
 {
     match array {

@@ -1,0 +1,78 @@
+-- What inference answers: the least table of a method, or the first rule that it breaks.
+use Rattle.std.specs.Prelude.{◌≡◌, ◌⊎◌, ◌<◌, ◌≤◌, ℕ, List, [], map, length, slice_get, Option, Some, None, option_map, Result, Ok}
+use Rattle.cjc_bytes.specs.declared.fault.Fault.{Fault}
+use Rattle.cjc_bytes.specs.declared.fault.Fault.TheVariants as faults
+use Rattle.cjc_bytes.specs.declared.fault.Refusal.{Refusal}
+use Rattle.cjc_classfile.specs.Code.{CodeTree}
+use Rattle.cjc_classfile.specs.declared.tree.ClassTree.{ClassTree}
+use Rattle.cjc_classfile.specs.declared.tree.MethodTree.{MethodTree}
+use Rattle.cjc_code.specs.Decoded.{HasCode, decoding_at, refusal_in}
+use Rattle.cjc_code.specs.declared.insn.JInsn.{JInsn}
+use Rattle.cjc_code.specs.declared.method_code.MethodCode.{MethodCode}
+use Rattle.cjc_fixpoint.specs.Tables.{HasRow, IsLeastClosed}
+use Rattle.cjc_world.specs.Classes.{Class}
+use Rattle.cjc_world.specs.Files.{Files}
+use Rattle.cjc_types.specs.declared.state.Stack.TheVariants.{Cells}
+use Rattle.cjc_types.specs.declared.state.State.{State}
+use Rattle.cjc_types.specs.declared.table.Frame.{Frame}
+use Rattle.cjc_types.specs.declared.table.TypeTable.{TypeTable}
+use Rattle.cjc_types.specs.Flow.{Body, body_of, type_flow}
+use Rattle.cjc_types.specs.Rules.{Breaks}
+
+-- ---- which method
+
+-- A method of the package with its class, and the instructions that its code is.
+pub record IsMethodOf (files : Files) (code : MethodCode) (class : ClassTree) (method : MethodTree) (tree : CodeTree) : Type 0 where
+  pub is_class : slice_get files.classes code.class ≡ Some class
+  pub is_method : slice_get class.methods code.method ≡ Some method
+  pub is_code : method.code ≡ Some tree
+  pub bytes : length tree.bytes ≤ 65535
+  pub insns : decoding_at class code.method ≡ Ok code.insns
+
+-- the code is that of some method of the package
+abbrev pub IsOfPackage : Files → MethodCode → Type 0
+IsOfPackage files code = (class : ClassTree) × (method : MethodTree) × (tree : CodeTree) × IsMethodOf files code class method tree
+
+-- ---- tables
+
+abbrev pub state_of : Frame → State
+state_of f = record { stack = Cells f.stack; locals = f.locals }
+
+-- the states that the frames of a table are
+abbrev pub states_of : List (Option Frame) → List (Option State)
+states_of frames = map (option_map state_of) frames
+
+-- the least table that is closed under the instructions of a method
+abbrev pub IsLeastTable : Body → List (Option State) → Type 0
+IsLeastTable b rows = IsLeastClosed (type_flow b) (length b.insns) rows
+
+-- ---- broken rules
+
+-- The instruction at this place is reached, and breaks the rule.
+pub record Breach (w : List Class) (b : Body) (rows : List (Option State)) (place rule : ℕ) : Type 0 where
+  pub insn : JInsn
+  pub is_insn : slice_get b.insns place ≡ Some insn
+  pub state : State
+  pub reached : HasRow rows place state
+  pub breaks : Breaks w b insn.op state rule
+
+-- No breach stands before this one: at an earlier instruction, or by a lower rule at the same.
+pub record FirstBreach (w : List Class) (b : Body) (rows : List (Option State)) (place rule : ℕ) : Type 0 where
+  pub breach : Breach w b rows place rule
+  pub first : (other_place other_rule : ℕ) → Breach w b rows other_place other_rule → (place < other_place) ⊎ ((place ≡ other_place) × (rule ≤ other_rule))
+
+-- ---- what is answered
+
+-- The table is the least one, and no reached instruction breaks a rule.
+pub record IsTypeTable (w : List Class) (b : Body) (table : TypeTable) : Type 0 where
+  pub least : IsLeastTable b (states_of table.frames)
+  pub unbroken : (place rule : ℕ) → Breach w b (states_of table.frames) place rule → ⊥
+
+-- The refusal is the first breach of the least table, at the offset of its instruction.
+pub record IsRefusedBy (w : List Class) (file : List ℕ) (class : ClassTree) (method : MethodTree) (b : Body) (r : Refusal) : Type 0 where
+  pub rows : List (Option State)
+  pub least : IsLeastTable b rows
+  pub place : ℕ
+  pub rule : ℕ
+  pub first : FirstBreach w b rows place rule
+  pub is : r ≡ refusal_in file class method (record { rule = rule; offset = first.breach.insn.at })

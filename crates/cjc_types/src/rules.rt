@@ -1,0 +1,421 @@
+//! Rules 501, 502 and 503 over what is known before an instruction.
+
+ghost use Rattle.std.specs.Prelude.{◌≡◌, ◌+◌, ◌<◌, ◌≤◌, ◌||◌, length, if◌then◌else◌, IfOk};
+ghost use Rattle.std.specs.List.{list_all};
+ghost use Rattle.cjc_world.specs.Classes.{all_classes};
+ghost use Rattle.cjc_world.specs.Subtype.{is_subtype, starts};
+ghost use Rattle.cjc_world.specs.Known.{class_of};
+ghost use Rattle.cjc_types.specs.Steps.{operand};
+ghost use Rattle.cjc_types.specs.Types.{parts};
+ghost use Rattle.cjc_types.specs.Rules.{is_number as is_number_cell, is_reference as is_reference_cell, all_types, is_of as is_of_class, is_value as is_value_by, is_array_by as is_array_of, is_array_for as is_array_loaded, names_private as names_private_method, is_private_in, is_super_call as is_called_by_super, receiver_class as class_of_receiver, is_argument as is_argument_at, tests_references as tests_references_by, is_load_operand as is_operand_of_load, is_store_operand as is_operand_of_store, is_field_operand as is_operand_of_field, accepts as accepts_cell, has_wrong, has_wrong_local as is_local_wrong, returns as returns_kind, is_wrong_return as is_return_wrong, is_wrong as is_stack_wrong, is_off as is_stack_off, first_rule as first_broken};
+
+use crate::cell::Cell;
+use crate::method::Method;
+use crate::state::{Stack, State};
+use crate::{steps, types};
+use cjc_bytes::{Bytes, Kind, MemberId, NoMemory};
+use cjc_code::JOp;
+use cjc_world::{Found, Known, World};
+use std::alloc::Global;
+
+fn is_number(cell: &Cell) -> bool
+    ensures { result ≡ is_number_cell cell.now }
+{
+    match cell {
+        Cell::Number => true,
+        _ => false,
+    }
+}
+
+fn is_reference(cell: &Cell) -> bool
+    ensures { result ≡ is_reference_cell cell.now }
+{
+    match cell {
+        Cell::Refs(_) => true,
+        _ => false,
+    }
+}
+
+/// A reference or a number.
+fn is_kind(refs: bool, cell: &Cell) -> bool
+    ensures { result ≡ (if refs then is_reference_cell cell.now else is_number_cell cell.now) }
+{
+    if refs {
+        is_reference(cell)
+    } else {
+        is_number(cell)
+    }
+}
+
+fn are_of(world: &World<'_>, types: &[Bytes], class: &[u8]) -> bool
+    ensures { result ≡ list_all (λ name. is_subtype (all_classes world.now) name class.now) types.now }
+{
+    for name in types {
+        if !world.subtype(name.items(), class) {
+            return false;
+        }
+    }
+    true
+}
+
+/// Whether a cell is a reference of a class or array type.
+fn is_of(world: &World<'_>, class: &[u8], cell: &Cell) -> bool
+    ensures { result ≡ is_of_class (all_classes world.now) class.now cell.now }
+{
+    match cell {
+        Cell::Refs(types) => are_of(world, types.items(), class),
+        _ => false,
+    }
+}
+
+/// Whether a cell is a value of a type.
+fn is_value(world: &World<'_>, kind: Kind, class: &[u8], cell: &Cell) -> bool
+    ensures { result ≡ is_value_by (all_classes world.now) kind class.now cell.now }
+{
+    match kind {
+        Kind::Bool | Kind::Byte | Kind::Short | Kind::Int => is_number(cell),
+        Kind::Ref => is_of(world, class, cell),
+        Kind::Other | Kind::Void => false,
+    }
+}
+
+/// Whether a cell is a value of the type of a field, or of a method's result.
+fn is_result(world: &World<'_>, desc: &[u8], cell: &Cell) -> bool
+    ensures { result ≡ is_value_by (all_classes world.now) (parts desc.now).result.kind (parts desc.now).result.class cell.now }
+{
+    match types::parsed(desc) {
+        Some(parsed) => {
+            let last = parsed.params();
+            is_value(world, parsed.kind(last), parsed.class(last), cell)
+        }
+        None => false,
+    }
+}
+
+/// The kind of a method's result.
+fn result_kind(desc: &[u8]) -> Kind
+    ensures { result ≡ (parts desc.now).result.kind }
+{
+    match types::parsed(desc) {
+        Some(parsed) => parsed.kind(parsed.params()),
+        None => Kind::Void,
+    }
+}
+
+fn is_array_by(letter: u8, name: &[u8]) -> bool
+    ensures { result ≡ is_array_of letter name.now }
+{
+    match name {
+        [b'[', other] => *other == letter,
+        _ => false,
+    }
+}
+
+fn is_array_for(opcode: u8, name: &[u8]) -> bool
+    ensures { result ≡ is_array_loaded opcode name.now }
+{
+    if opcode == 0x2E || opcode == 0x4F {
+        is_array_by(b'I', name)
+    } else if opcode == 0x32 || opcode == 0x53 {
+        types::held(name).is_some()
+    } else if opcode == 0x33 || opcode == 0x54 {
+        is_array_by(b'B', name) || is_array_by(b'Z', name)
+    } else {
+        is_array_by(b'S', name)
+    }
+}
+
+fn are_arrays_for(opcode: u8, types: &[Bytes]) -> bool
+    ensures { result ≡ list_all (is_array_loaded opcode) types.now }
+{
+    for name in types {
+        if !is_array_for(opcode, name.items()) {
+            return false;
+        }
+    }
+    true
+}
+
+/// Whether a cell is an array for a load or store by this opcode.
+fn is_array(opcode: u8, cell: &Cell) -> bool
+    ensures { result ≡ all_types (is_array_loaded opcode) cell.now }
+{
+    match cell {
+        Cell::Refs(types) => are_arrays_for(opcode, types.items()),
+        _ => false,
+    }
+}
+
+fn are_arrays(types: &[Bytes]) -> bool
+    ensures { result ≡ list_all (starts 91) types.now }
+{
+    for name in types {
+        if !types::starts(b'[', name.items()) {
+            return false;
+        }
+    }
+    true
+}
+
+/// Whether a cell is an array of any type.
+fn is_any_array(cell: &Cell) -> bool
+    ensures { result ≡ all_types (starts 91) cell.now }
+{
+    match cell {
+        Cell::Refs(types) => are_arrays(types.items()),
+        _ => false,
+    }
+}
+
+/// Whether the method of a place of a class, behind its fields, is private.
+fn is_private_at(class: Known<'_, '_>, found: Found) -> bool
+    ensures { result ≡ is_private_in found (Some (class_of class.entry)) }
+{
+    let place = (found.member as usize).saturating_sub(class.field_count());
+    place < class.member_count(false) && class.member_flags(false, place) & 0x0002 > 0
+}
+
+/// Whether an instruction names a private method.
+#[tactic(auto, unfolding(crate::specs::Rules::names_private))]
+fn names_private(world: &World<'_>, id: &MemberId) -> bool
+    ensures { result ≡ names_private_method (all_classes world.now) id.now }
+{
+    let found = match world.find_method(id) {
+        Some(found) => found,
+        None => return false,
+    };
+    match world.class_at(found.imported, found.class) {
+        Some(class) => is_private_at(class, found),
+        None => false,
+    }
+}
+
+/// Whether an instruction calls a method of a superclass of the class that holds the code.
+fn is_super_call(world: &World<'_>, opcode: u8, id: &MemberId) -> bool
+    ensures { result ≡ is_called_by_super (all_classes world.now) opcode id.now }
+{
+    opcode == 0xB7 && id.name.items() != b"<init>".as_slice() && !names_private(world, id)
+}
+
+/// Whether the receiver of a call may be this cell.
+fn is_receiver(
+    world: &World<'_>,
+    method: &Method<'_>,
+    opcode: u8,
+    id: &MemberId,
+    cell: &Cell,
+) -> bool
+    ensures { result ≡ is_of_class (all_classes world.now) (class_of_receiver (all_classes world.now) method.now opcode id.now) cell.now }
+{
+    if is_super_call(world, opcode, id) {
+        is_of(world, method.class, cell)
+    } else {
+        is_of(world, id.class.items(), cell)
+    }
+}
+
+/// Whether the k-th operand of a call from the top may be this cell.
+fn is_argument(
+    world: &World<'_>,
+    method: &Method<'_>,
+    opcode: u8,
+    id: &MemberId,
+    k: usize,
+    cell: &Cell,
+) -> bool
+    ensures { result ≡ is_argument_at (all_classes world.now) method.now opcode id.now k cell.now }
+{
+    if let Some(parsed) = types::parsed(id.desc.items()) {
+        let count = parsed.params() as usize;
+        if k < count {
+            let i = (count - 1 - k) as u32;
+            return is_value(world, parsed.kind(i), parsed.class(i), cell);
+        }
+    }
+    is_receiver(world, method, opcode, id, cell)
+}
+
+fn tests_references(opcode: u8) -> bool
+    ensures { result ≡ tests_references_by opcode }
+{
+    opcode == 0xA5 || opcode == 0xA6 || opcode == 0xC6 || opcode == 0xC7
+}
+
+fn is_load_operand(opcode: u8, k: usize, cell: &Cell) -> bool
+    ensures { result ≡ is_operand_of_load opcode k cell.now }
+{
+    if k == 0 {
+        is_number(cell)
+    } else {
+        is_array(opcode, cell)
+    }
+}
+
+fn is_store_operand(opcode: u8, k: usize, cell: &Cell) -> bool
+    ensures { result ≡ is_operand_of_store opcode k cell.now }
+{
+    if k == 0 {
+        if opcode == 0x53 {
+            is_reference(cell)
+        } else {
+            is_number(cell)
+        }
+    } else if k == 1 {
+        is_number(cell)
+    } else {
+        is_array(opcode, cell)
+    }
+}
+
+fn is_field_operand(world: &World<'_>, put: bool, field: &MemberId, k: usize, cell: &Cell) -> bool
+    ensures { result ≡ is_operand_of_field (all_classes world.now) put field.now k cell.now }
+{
+    if put && k == 0 {
+        is_result(world, field.desc.items(), cell)
+    } else {
+        is_of(world, field.class.items(), cell)
+    }
+}
+
+/// Whether the k-th operand of an instruction from the top may be this cell.
+fn accepts(world: &World<'_>, method: &Method<'_>, op: &JOp, k: usize, cell: &Cell) -> bool
+    ensures { result ≡ accepts_cell (all_classes world.now) method.now op.now k cell.now }
+{
+    match op {
+        JOp::Arith(_) | JOp::Narrow(_) | JOp::TableSwitch { .. } | JOp::LookupSwitch { .. } => {
+            is_number(cell)
+        }
+        JOp::NewArray(_) | JOp::ANewArray(_) => is_number(cell),
+        JOp::CheckCast(_) | JOp::InstanceOf(_) => is_reference(cell),
+        JOp::Store { refs, .. } => is_kind(*refs, cell),
+        JOp::If { op: opcode, .. } => is_kind(tests_references(*opcode), cell),
+        JOp::ArrayLoad(opcode) => is_load_operand(*opcode, k, cell),
+        JOp::ArrayStore(opcode) => is_store_operand(*opcode, k, cell),
+        JOp::ArrayLength => is_any_array(cell),
+        JOp::Return(_) => is_result(world, method.desc, cell),
+        JOp::Static { field, .. } => is_result(world, field.desc.items(), cell),
+        JOp::Field { put, field } => is_field_operand(world, *put, field, k, cell),
+        JOp::Call {
+            op: opcode,
+            method: id,
+        } => is_argument(world, method, *opcode, id, k, cell),
+        JOp::Throw => is_of(world, b"java/lang/Throwable", cell),
+        _ => true,
+    }
+}
+
+/// Whether one of so many operands that are there is wrong.
+fn has_wrong_operand(
+    world: &World<'_>,
+    method: &Method<'_>,
+    op: &JOp,
+    count: usize,
+    stack: &[Cell],
+) -> bool
+    ensures { result ≡ has_wrong (all_classes world.now) method.now op.now count 0 stack.now }
+{
+    for (k, cell) in stack.iter().enumerate() {
+        if k < count && !accepts(world, method, op, k, cell) {
+            return true;
+        }
+    }
+    false
+}
+
+/// Whether a local is there and of a kind.
+fn is_local(refs: bool, locals: &[Cell], local: u16) -> bool
+    ensures { result ≡ (if refs then is_reference_cell (operand locals.now local) else is_number_cell (operand locals.now local)) }
+{
+    match locals.get(local as usize) {
+        Some(cell) => is_kind(refs, cell),
+        None => false,
+    }
+}
+
+fn has_wrong_local(op: &JOp, locals: &[Cell]) -> bool
+    ensures { result ≡ is_local_wrong op.now locals.now }
+{
+    match op {
+        JOp::Load { refs, local } => !is_local(*refs, locals, *local),
+        JOp::Inc { local, .. } => !is_local(false, locals, *local),
+        _ => false,
+    }
+}
+
+fn returns(opcode: u8, kind: Kind) -> bool
+    ensures { result ≡ returns_kind opcode kind }
+{
+    match kind {
+        Kind::Bool | Kind::Byte | Kind::Short | Kind::Int => opcode == 0xAC,
+        Kind::Ref => opcode == 0xB0,
+        Kind::Void => opcode == 0xB1,
+        Kind::Other => false,
+    }
+}
+
+fn is_wrong_return(method: &Method<'_>, op: &JOp) -> bool
+    ensures { result ≡ is_return_wrong method.now op.now }
+{
+    match op {
+        JOp::Return(opcode) => !returns(*opcode, result_kind(method.desc)),
+        _ => false,
+    }
+}
+
+/// Whether rule 502 is broken.
+fn is_wrong(
+    world: &World<'_>,
+    method: &Method<'_>,
+    op: &JOp,
+    locals: &[Cell],
+    stack: &[Cell],
+) -> bool
+    ensures { result ≡ is_stack_wrong (all_classes world.now) method.now op.now locals.now stack.now }
+{
+    has_wrong_operand(world, method, op, steps::takes(op), stack)
+        || has_wrong_local(op, locals)
+        || is_wrong_return(method, op)
+}
+
+/// Whether rule 503 is broken.
+fn is_off(
+    alloc: Global,
+    method: &Method<'_>,
+    op: &JOp,
+    locals: &[Cell],
+    stack: &[Cell],
+) -> Result<bool, NoMemory>
+    ensures { IfOk result (λ is. is ≡ is_stack_off method.now op.now locals.now stack.now) }
+{
+    let max_stack = method.max_stack as usize;
+    if stack.len() < steps::takes(op) || max_stack < stack.len() {
+        return Ok(true);
+    }
+    let behind = steps::behind(alloc, op, locals, stack)?;
+    Ok(max_stack < behind.items().len())
+}
+
+/// The first rule that the state before an instruction breaks.
+#[tactic(auto, unfolding(crate::specs::Rules::first_rule))]
+pub(crate) fn first_rule(
+    alloc: Global,
+    world: &World<'_>,
+    method: &Method<'_>,
+    op: &JOp,
+    state: &State,
+) -> Result<Option<u16>, NoMemory>
+    ensures { IfOk result (λ rule. rule ≡ first_broken (all_classes world.now) method.now op.now state.now) }
+{
+    let stack = match &state.stack {
+        Stack::Cells(cells) => cells.items(),
+        Stack::Clash => return Ok(Some(501)),
+    };
+    let locals = state.locals.items();
+    if is_wrong(world, method, op, locals, stack) {
+        return Ok(Some(502));
+    }
+    if is_off(alloc, method, op, locals, stack)? {
+        return Ok(Some(503));
+    }
+    Ok(None)
+}
