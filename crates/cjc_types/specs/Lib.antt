@@ -13,3 +13,4 @@ pub mod FlowLaws
 pub mod Index
 pub mod Rules
 pub mod Tables
+pub mod Search

@@ -6,7 +6,6 @@ use Rattle.cjc_bytes.specs.Descriptor.{Part}
 use Rattle.cjc_bytes.specs.declared.fault.MemberId.{MemberId}
 use Rattle.cjc_bytes.specs.declared.names.Kind.{Kind}
 use Rattle.cjc_bytes.specs.declared.names.Kind.TheVariants as kinds
-use Rattle.cjc_code.specs.declared.insn.JInsn.{JInsn}
 use Rattle.cjc_code.specs.declared.insn.JOp.{JOp}
 use Rattle.cjc_code.specs.declared.insn.JOp.TheVariants as jop
 use Rattle.cjc_world.specs.Classes.{Class, Member, class_at, is_private}

@@ -1,12 +1,12 @@
 -- What inference answers: the least table of a method, or the first rule that it breaks.
-use Rattle.std.specs.Prelude.{◌≡◌, ◌⊎◌, ◌<◌, ◌≤◌, ℕ, List, [], map, length, slice_get, Option, Some, None, option_map, Result, Ok}
+use Rattle.std.specs.Prelude.{◌≡◌, ◌⊎◌, ◌<◌, ◌≤◌, ℕ, List, map, length, slice_get, Option, Some, option_map, Result, Ok, Err}
 use Rattle.cjc_bytes.specs.declared.fault.Fault.{Fault}
 use Rattle.cjc_bytes.specs.declared.fault.Fault.TheVariants as faults
 use Rattle.cjc_bytes.specs.declared.fault.Refusal.{Refusal}
 use Rattle.cjc_classfile.specs.Code.{CodeTree}
 use Rattle.cjc_classfile.specs.declared.tree.ClassTree.{ClassTree}
 use Rattle.cjc_classfile.specs.declared.tree.MethodTree.{MethodTree}
-use Rattle.cjc_code.specs.Decoded.{HasCode, decoding_at, refusal_in}
+use Rattle.cjc_code.specs.Decoded.{decoding_at, refusal_in}
 use Rattle.cjc_code.specs.declared.insn.JInsn.{JInsn}
 use Rattle.cjc_code.specs.declared.method_code.MethodCode.{MethodCode}
 use Rattle.cjc_fixpoint.specs.Tables.{HasRow, IsLeastClosed}
@@ -16,7 +16,7 @@ use Rattle.cjc_types.specs.declared.state.Stack.TheVariants.{Cells}
 use Rattle.cjc_types.specs.declared.state.State.{State}
 use Rattle.cjc_types.specs.declared.table.Frame.{Frame}
 use Rattle.cjc_types.specs.declared.table.TypeTable.{TypeTable}
-use Rattle.cjc_types.specs.Flow.{Body, body_of, type_flow}
+use Rattle.cjc_types.specs.Flow.{Body, type_flow}
 use Rattle.cjc_types.specs.Rules.{Breaks}
 
 -- ---- which method
@@ -76,3 +76,12 @@ pub record IsRefusedBy (w : List Class) (file : List ℕ) (class : ClassTree) (m
   pub rule : ℕ
   pub first : FirstBreach w b rows place rule
   pub is : r ≡ refusal_in file class method (record { rule = rule; offset = first.breach.insn.at })
+
+-- The error is the refusal of the first breach, or that memory ran out.
+abbrev pub IsRefused : List Class → (file : List ℕ) → ClassTree → MethodTree → Body → Fault → Type 0
+IsRefused w file class method b e = (e ≡ faults.NoMemory) ⊎ ((r : Refusal) × IsRefusedBy w file class method b r × (e ≡ faults.Refused r))
+
+-- A call answered the least table, or the refusal of its first breach.
+abbrev pub Answers : List Class → (file : List ℕ) → ClassTree → MethodTree → Body → Result TypeTable Fault → Type 0
+Answers w file class method b (Ok table) = IsTypeTable w b table
+Answers w file class method b (Err e) = IsRefused w file class method b e

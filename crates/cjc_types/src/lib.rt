@@ -6,6 +6,7 @@
 
 mod cell;
 mod index;
+mod inference;
 mod method;
 mod names;
 mod rules;
@@ -15,5 +16,6 @@ mod table;
 mod types;
 
 pub use cell::Cell;
+pub use inference::infer;
 pub use state::{Stack, State};
 pub use table::{Frame, TypeTable};

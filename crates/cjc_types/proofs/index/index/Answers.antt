@@ -1,4 +1,4 @@
-use Rattle.std.proofs.Common.{ℕ, ◌<◌, List, Option, length, All, subst, sym, ap, ◌∙◌}
+use Rattle.std.proofs.Common.{ℕ, ◌<◌, length, All, subst, sym, ap, ◌∙◌}
 use Rattle.cjc_code.specs.declared.insn.JInsn.{JInsn}
 use Rattle.cjc_types.proofs.Indexing.{index_more, length-put}
 use Rattle.cjc_types.proofs.index.index.Goals as goal

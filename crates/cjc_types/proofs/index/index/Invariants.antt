@@ -1,4 +1,4 @@
-use Rattle.std.proofs.Common.{◌≡◌, ◌<◌, length, take, All}
+use Rattle.std.proofs.Common.{◌<◌, length, take, All}
 use Rattle.cjc_types.specs.Index.{IsIndex}
 use Rattle.cjc_types.proofs.index.index.Given as goal
 

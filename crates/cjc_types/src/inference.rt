@@ -1,0 +1,243 @@
+//! Inference: the least table of a method, or the first rule that it breaks.
+
+ghost use Rattle.std.specs.Prelude.{◌≡◌, ◌<◌, ◌^◌, List, length, option_map, IfOk, IfErr, IfSome, Ok, Err, ℕ};
+ghost use Rattle.cjc_world.specs.Classes.{all_classes};
+ghost use Rattle.cjc_types.specs.Search.{row_rule as row_rule_of, first_from, cells_of as cells_of_stack, frame_of as frame_of_state, frames_of};
+ghost use Rattle.cjc_types.specs.Flow.{body_of};
+ghost use Rattle.cjc_types.specs.Tables.{Answers, IsLeastTable, IsMethodOf, IsOfPackage, IsRefused, IsRefusedBy, IsTypeTable};
+ghost use Rattle.cjc_bytes.specs.Refused.{IsUnlessNoMemory};
+ghost use Rattle.cjc_bytes.specs.declared.fault.Fault.TheVariants as faults;
+ghost use Rattle.cjc_code.specs.Decoded.{refusal_in};
+ghost use Rattle.cjc_classfile.specs.Code.{CodeTree};
+ghost use Rattle.cjc_classfile.specs.declared.tree.ClassTree.{ClassTree as Class};
+ghost use Rattle.cjc_classfile.specs.declared.tree.MethodTree.{MethodTree as ClassMethod};
+ghost use Rattle.cjc_bytes.specs.declared.fault.Refusal.{Refusal as Told};
+ghost use Rattle.cjc_types.specs.declared.table.TypeTable.{TypeTable as Types};
+
+use crate::cell::Cell;
+use crate::index::index;
+use crate::method::Method;
+use crate::rules;
+use crate::state::{Stack, State};
+use crate::table::{Frame, TypeTable};
+use cjc_bytes::{Bytes, Fault, NoMemory, Place, Refusal, Row, Rule};
+use cjc_classfile::{ClassTree, Code, MethodTree};
+use cjc_code::{JInsn, MethodCode};
+use cjc_fixpoint::solve;
+use cjc_world::World;
+use std::alloc::Global;
+
+/// The first broken rule of a method.
+#[derive(Clone, Copy)]
+struct FirstBroken {
+    /// The place of the instruction that breaks it.
+    place: usize,
+    /// 501, 502 or 503.
+    rule: u16,
+}
+
+/// The first rule that an instruction breaks, where it is reached.
+fn row_rule(
+    alloc: Global,
+    world: &World<'_>,
+    method: &Method<'_>,
+    insn: &JInsn,
+    row: &Option<State>,
+) -> Result<Option<u16>, NoMemory>
+    ensures { IfOk result (λ rule. rule ≡ row_rule_of (all_classes world.now) method.now insn.now row.now) }
+{
+    match row {
+        Some(state) => rules::first_rule(alloc, world, method, &insn.op, state),
+        None => Ok(None),
+    }
+}
+
+/// The first rule that a method breaks.
+fn first_broken(
+    alloc: Global,
+    world: &World<'_>,
+    method: &Method<'_>,
+    insns: &[JInsn],
+    rows: &[Option<State>],
+) -> Result<Option<FirstBroken>, NoMemory>
+    requires { length rows.now ≡ length insns.now }
+    ensures first { IfOk result (λ first. first ≡ first_from (all_classes world.now) method.now 0 insns.now rows.now) }
+    ensures within { IfOk result (λ first. IfSome first (λ f. f.place < length insns.now)) }
+{
+    for place in 0..insns.len() {
+        if let Some(rule) = row_rule(alloc, world, method, &insns[place], &rows[place])? {
+            return Ok(Some(FirstBroken { place, rule }));
+        }
+    }
+    Ok(None)
+}
+
+/// The cells of a stack; of a clash none.
+fn cells_of(alloc: Global, stack: Stack) -> Row<Cell>
+    ensures { result ≡ cells_of_stack stack }
+{
+    match stack {
+        Stack::Cells(cells) => cells,
+        Stack::Clash => Row::new(alloc),
+    }
+}
+
+/// The frame of a state.
+fn frame_of(alloc: Global, state: State) -> Frame
+    ensures { result ≡ frame_of_state state }
+{
+    let State { stack, locals } = state;
+    Frame {
+        stack: cells_of(alloc, stack),
+        locals,
+    }
+}
+
+/// The frame of a row.
+fn frame_in(alloc: Global, row: Option<State>) -> Option<Frame>
+    ensures { result ≡ option_map frame_of_state row }
+{
+    match row {
+        Some(state) => Some(frame_of(alloc, state)),
+        None => None,
+    }
+}
+
+/// The frames of all rows.
+fn frames(alloc: Global, rows: Vec<Option<State>>) -> Result<Row<Option<Frame>>, NoMemory>
+    ensures { IfOk result (λ frames. frames ≡ frames_of rows.items) }
+{
+    let mut frames = Row::new(alloc);
+    for row in rows {
+        frames.push(frame_in(alloc, row))?;
+    }
+    Ok(frames)
+}
+
+/// The refusal of a method by a rule at an offset in its code.
+fn refused(
+    alloc: Global,
+    file: &[u8],
+    class: &ClassTree<'_>,
+    method: &MethodTree<'_>,
+    rule: u16,
+    offset: u32,
+) -> Result<Refusal, NoMemory>
+    ensures { IfOk result (λ r. r ≡ refusal_in file.now class.now method.now (record { rule = rule; offset = offset })) }
+{
+    let mut member = Vec::from_slice(alloc, method.name.items())?;
+    member.extend_from_slice(method.desc.items())?;
+    Ok(Refusal {
+        rule: Rule(rule),
+        place: Place {
+            file: Bytes::copy_of(alloc, file)?,
+            class: Bytes::copy_of(alloc, class.name.items())?,
+            member: Row::of(member),
+            offset,
+        },
+    })
+}
+
+/// What the least table of a method gives: the table, or the first rule that it breaks.
+fn judged(
+    alloc: Global,
+    file: &[u8],
+    world: &World<'_>,
+    class: &ClassTree<'_>,
+    method: &MethodTree<'_>,
+    body: &Method<'_>,
+    rows: Vec<Option<State>>,
+) -> Result<TypeTable, Fault>
+    requires { IsLeastTable body.now rows.items }
+    ensures { Answers (all_classes world.now) file.now class.now method.now body.now result }
+{
+    let first = first_broken(alloc, world, body, body.insns, &rows)?;
+    match first {
+        Some(first) => {
+            let offset = body.insns[first.place].at;
+            let refusal = refused(alloc, file, class, method, first.rule, offset)?;
+            Err(Fault::Refused(refusal))
+        }
+        None => {
+            let frames = frames(alloc, rows)?;
+            Ok(TypeTable { frames })
+        }
+    }
+}
+
+/// Inference for a method of a class with its code and its instructions.
+fn infer_code(
+    alloc: Global,
+    file: &[u8],
+    world: &World<'_>,
+    class: &ClassTree<'_>,
+    method: &MethodTree<'_>,
+    tree: &Code<'_>,
+    insns: &[JInsn],
+) -> Result<TypeTable, Fault>
+    requires { length insns.now < 2 ^ 32 }
+    ensures { Answers (all_classes world.now) file.now class.now method.now (body_of class.now method.now tree.now insns.now) result }
+{
+    let places = index(alloc, insns)?;
+    let body = Method {
+        class: class.name.items(),
+        flags: method.flags,
+        desc: method.desc.items(),
+        max_stack: tree.max_stack,
+        max_locals: tree.max_locals,
+        catches: tree.catches.items(),
+        insns,
+        places: places.items(),
+    };
+    let table = solve(alloc, &body, insns.len() as u32)?;
+    judged(
+        alloc,
+        file,
+        world,
+        class,
+        method,
+        &body,
+        table.rows.into_vec(),
+    )
+}
+
+/// The types of a method: the least table that is closed under its instructions.
+///
+/// The code is that of a method of the world, and its instructions are those that `decode` gives for it. `file` is the
+/// file of a refusal.
+///
+/// # Errors
+///
+/// The first broken rule of the method, in the order of its instructions: 501 where two ways to an instruction have
+/// stacks of different heights, 502 where an operand is of the wrong kind or class, 503 where the stack goes below empty
+/// or above `max_stack`. The place has the file, the class, the method's name and descriptor, and the offset of the
+/// instruction in bytes.
+pub fn infer(
+    alloc: Global,
+    file: &[u8],
+    world: &World<'_>,
+    code: &MethodCode,
+) -> Result<TypeTable, Fault>
+    requires { IsOfPackage world.now code.now }
+
+    // What is inferred is the least table, in which no rule is broken; and where there is such a table it is inferred.
+    ensures inferred { (c : Class) (m : ClassMethod) (t : CodeTree) → IsMethodOf world.now code.now c m t
+        → IfOk result (λ table. IsTypeTable (all_classes world.now) (body_of c m t code.now.insns) table) }
+    ensures only { (c : Class) (m : ClassMethod) (t : CodeTree) → IsMethodOf world.now code.now c m t
+        → (table : Types) → IsTypeTable (all_classes world.now) (body_of c m t code.now.insns) table
+        → IsUnlessNoMemory result (Ok table) }
+
+    // A refusal is the first broken rule of the least table; and where there is one it is refused.
+    ensures refused { (c : Class) (m : ClassMethod) (t : CodeTree) → IsMethodOf world.now code.now c m t
+        → IfErr result (λ e. IsRefused (all_classes world.now) file.now c m (body_of c m t code.now.insns) e) }
+    ensures breaks { (c : Class) (m : ClassMethod) (t : CodeTree) → IsMethodOf world.now code.now c m t
+        → (r : Told) → IsRefusedBy (all_classes world.now) file.now c m (body_of c m t code.now.insns) r
+        → IsUnlessNoMemory result (Err (faults.Refused r)) }
+{
+    let class = &world.classes().items()[code.class as usize];
+    let method = &class.methods.items()[code.method as usize];
+    match &method.code {
+        Some(tree) => infer_code(alloc, file, world, class, method, tree, code.insns.items()),
+        None => Err(Fault::NoMemory),
+    }
+}
