@@ -74,15 +74,18 @@ fn caught(alloc: Global, catch: &Catch, before: &State) -> Result<State, NoMemor
 }
 
 /// An edge with the state to each of these places.
-fn edges_to(alloc: Global, state: &State, places: &[u32]) -> Result<Row<Edge<State>>, NoMemory>
-    ensures { IfOk result (λ edges. edges ≡ map (edge state.now) places.now) }
+fn edges_to(alloc: Global, state: State, places: &[u32]) -> Result<Row<Edge<State>>, NoMemory>
+    ensures { IfOk result (λ edges. edges ≡ map (edge state) places.now) }
 {
     let mut edges = Row::new(alloc);
-    for to in places {
-        edges.push(Edge {
-            to: *to,
-            state: state::copied(alloc, state)?,
-        })?;
+    if let [more @ .., last] = places {
+        for to in more {
+            edges.push(Edge {
+                to: *to,
+                state: state::copied(alloc, &state)?,
+            })?;
+        }
+        edges.push(Edge { to: *last, state })?;
     }
     Ok(edges)
 }
@@ -218,7 +221,7 @@ impl<'a> Method<'a> {
     {
         let places = self.successors(alloc, at, &insn.op)?;
         let after = steps::after(alloc, &insn.op, before)?;
-        let mut edges = edges_to(alloc, &after, places.items())?;
+        let mut edges = edges_to(alloc, after, places.items())?;
         self.put_handlers(alloc, &mut edges, insn.at, before)?;
         Ok(edges)
     }

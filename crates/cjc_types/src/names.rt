@@ -19,20 +19,20 @@ pub(crate) fn no_names(alloc: Global) -> Row<Bytes>
 pub(crate) fn one_name(alloc: Global, name: &[u8]) -> Result<Row<Bytes>, NoMemory>
     ensures { IfOk result (λ set. set ≡ name.now ∷ []) }
 {
-    let mut set = Row::new(alloc);
+    let mut set = Vec::with_capacity(alloc, 1)?;
     set.push(Bytes::copy_of(alloc, name)?)?;
-    Ok(set)
+    Ok(Row::of(set))
 }
 
 /// The same names once more.
 pub(crate) fn copied(alloc: Global, names: &[Bytes]) -> Result<Row<Bytes>, NoMemory>
     ensures { IfOk result (λ copied. copied ≡ names.now) }
 {
-    let mut copied = Row::new(alloc);
+    let mut copied = Vec::with_capacity(alloc, names.len())?;
     for name in names {
         copied.push(Bytes::copy_of(alloc, name.items())?)?;
     }
-    Ok(copied)
+    Ok(Row::of(copied))
 }
 
 /// How the first name compares with the second.

@@ -29,11 +29,11 @@ pub struct State {
 pub(crate) fn copied_cells(alloc: Global, cells: &[Cell]) -> Result<Row<Cell>, NoMemory>
     ensures { IfOk result (λ copied. copied ≡ cells.now) }
 {
-    let mut copied = Row::new(alloc);
+    let mut copied = Vec::with_capacity(alloc, cells.len())?;
     for cell in cells {
         copied.push(cell::copied(alloc, cell)?)?;
     }
-    Ok(copied)
+    Ok(Row::of(copied))
 }
 
 /// The cells joined in turn.

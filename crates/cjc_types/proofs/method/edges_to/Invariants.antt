@@ -3,4 +3,4 @@ use Rattle.cjc_types.specs.Flow.{edge}
 use Rattle.cjc_types.proofs.method.edges_to.Given as goal
 
 abbrev pub invariant-loop-to : goal.invariant-loop-to
-invariant-loop-to l = l.edges ≡ map (edge l.state) (take l.to-index l.places)
+invariant-loop-to l = l.edges ≡ map (edge l.state) (take l.to-index l.more)

@@ -2,4 +2,4 @@ use Rattle.std.proofs.Common.{◌≡◌, take}
 use Rattle.cjc_types.proofs.state.copied_cells.Given as goal
 
 abbrev pub invariant-loop-cell : goal.invariant-loop-cell
-invariant-loop-cell l = l.copied ≡ take l.cell-index l.cells
+invariant-loop-cell l = l.copied.items ≡ take l.cell-index l.cells
