@@ -16,3 +16,4 @@ pub mod Spots
 pub mod Rules
 pub mod Broken
 pub mod Laws
+pub mod Order

@@ -1,0 +1,55 @@
+-- Members by name and descriptor, and which methods are virtual.
+use Rattle.std.specs.Prelude.{ℕ, List, [], ◌∷◌, ◌++◌, Bool, false, not, ◌&&◌, ◌||◌, if◌then◌else◌, codes}
+use Rattle.std.specs.Str.{bytes_eq}
+use Rattle.cjc_world.specs.Classes.{Member, Class, is_public, is_protected}
+use Rattle.cjc_world.specs.Lookup.{is_selectable}
+
+-- the name and the descriptor of a method
+pub record Signature : Type 0 where
+  pub name : List ℕ
+  pub desc : List ℕ
+
+abbrev pub signature_of : Member → Signature
+signature_of m = record { name = m.name; desc = m.desc }
+
+abbrev pub same : Signature → Signature → Bool
+same s t = bytes_eq s.name t.name && bytes_eq s.desc t.desc
+
+-- whether the signature is one of these
+abbrev pub has : List Signature → Signature → Bool
+has [] s = false
+has (t ∷ ts) s = same t s || has ts s
+
+-- the signatures of the methods that pass the test, in their order
+abbrev pub signatures : (Member → Bool) → List Member → List Signature
+signatures test [] = []
+signatures test (m ∷ ms) = if test m then signature_of m ∷ signatures test ms else signatures test ms
+
+-- public or protected
+abbrev pub is_exposed : ℕ → Bool
+is_exposed flags = is_public flags || is_protected flags
+
+-- a constructor
+abbrev pub is_constructor : List ℕ → Bool
+is_constructor name = bytes_eq name (codes "<init>")
+
+-- the initialiser of a class, which has no token
+abbrev pub is_initialiser : List ℕ → Bool
+is_initialiser name = bytes_eq name (codes "<clinit>")
+
+-- neither static nor private, and no constructor
+abbrev pub is_virtual : Member → Bool
+is_virtual m = is_selectable m.flags && not (is_constructor m.name || is_initialiser m.name)
+
+-- a virtual method that is public or protected
+abbrev pub is_shown : Member → Bool
+is_shown m = is_exposed m.flags && is_virtual m
+
+-- a virtual method that is package-visible
+abbrev pub is_hidden : Member → Bool
+is_hidden m = not (is_exposed m.flags) && is_virtual m
+
+-- the methods of these classes, in turn
+abbrev pub all_methods : List Class → List Member
+all_methods [] = []
+all_methods (c ∷ cs) = c.methods ++ all_methods cs

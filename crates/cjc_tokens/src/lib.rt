@@ -1,0 +1,2 @@
+//! The tokens of the classes and members of a package.
+#![tactic(auto)]

@@ -1,0 +1,10 @@
+pub mod Facts
+pub mod Places
+pub mod Tables
+pub mod Agrees
+pub mod Calls
+pub mod Given
+pub mod Once
+pub mod Sent
+pub mod Asked
+pub mod Worlds

@@ -1,0 +1,4 @@
+pub mod Tables
+pub mod Dispatch
+pub mod Calls
+pub mod Laws

@@ -1,0 +1,9 @@
+//! Class tables and interface maps of a package, and that dispatch by them is selection by name (Java Card Virtual
+//! Machine Specification 2.2.2, sections 4.3.7 and 6.8).
+#![tactic(auto)]
+
+mod laws;
+mod table;
+
+pub use laws::{dispatch_laws, token_laws};
+pub use table::{ClassTable, ClassTables, InterfaceMap};
