@@ -14,6 +14,7 @@ use Rattle.cjc_classfile.specs.declared.tree.ClassTree.{ClassTree}
 use Rattle.cjc_classfile.specs.declared.tree.Catch.{Catch}
 use Rattle.cjc_code.specs.declared.insn.JInsn.{JInsn}
 use Rattle.cjc_code.specs.Decoded.{decoding, decoded, insns_of}
+use Rattle.cjc_export.specs.declared.tree.ExportClass.{ExportClass}
 use Rattle.cjc_export.specs.declared.tree.ExportTree.{ExportTree}
 use Rattle.cjc_ncode.specs.Linked.{Method, Linked, linked, declared_methods, method_of, method_with, is_static, initialiser, declares_class, has_class, exported, entered_among, is_subtype, has_plain_class}
 use Rattle.cjc_ncode.specs.ByName
@@ -220,20 +221,20 @@ module _ (line : PackageLine) (tree : ClassTree) (form : IsFirstForm line tree) 
       ap (λ ms. filter (λ m. not (same_text m.name initialiser)) ms) form.methods
       ∙ ap (λ t. if not t then form.method ∷ [] else []) small.named
 
-  loaded_is : loaded (converted line tree form) exports (tree ∷ []) ≡ Steps.by_token exports tree.name there id form.params room nlocals form.insns
+  loaded_is : (lang : ExportTree) (root : ExportClass) → loaded (converted line lang root tree form) exports (tree ∷ []) ≡ Steps.by_token exports tree.name there id form.params room nlocals form.insns
   unfolding loaded tree_for
-  loaded_is =
+  loaded_is lang root =
       let m = form.is_sum in
       ap (λ ms. card_of (method_bytes form.params form.code (ops_of form.insns)) ms) written_is
       ∙ ap (λ h. card_of (h ++ selected_code (ops_of form.insns)) (form.method ∷ [])) (short_header room form.params (nlocals - form.params) m.is_sum.stack m.few (omega (arith, m.is_sum.locals)))
 
-  pub behaves : (script : Script) → RunAlike (tree ∷ []) exports (converted line tree form) script
-  behaves script =
+  pub behaves : (lang : ExportTree) (root : ExportClass) (script : Script) → RunAlike (tree ∷ []) exports (converted line lang root tree form) script
+  behaves lang root script =
       let a = alike exports tree.name there id form.params room nlocals form.insns small script in
       let b : Alike (linked (tree ∷ []) exports) (Steps.by_token exports tree.name there id form.params room nlocals form.insns) script = subst (λ l. Alike l (Steps.by_token exports tree.name there id form.params room nlocals form.insns) script) (sym linked_is) a in
-      let c : Alike (linked (tree ∷ []) exports) (loaded (converted line tree form) exports (tree ∷ [])) script = subst (λ c. Alike (linked (tree ∷ []) exports) c script) (sym loaded_is) b in
+      let c : Alike (linked (tree ∷ []) exports) (loaded (converted line lang root tree form) exports (tree ∷ [])) script = subst (λ c. Alike (linked (tree ∷ []) exports) c script) (sym (loaded_is lang root)) b in
       record { notes = c.notes; ends = c.ends; ends_only = c.ends_only; never_stuck = c.never_stuck }
 
 -- A package of the form and the components that are written for it behave alike.
-pub form_behaves_alike : (line : PackageLine) (tree : ClassTree) (form : IsFirstForm line tree) (exports : List ExportTree) → HaveOwnTokens exports → BehaveAlike (tree ∷ []) exports (converted line tree form)
-form_behaves_alike line tree form exports own script = behaves line tree form exports own script
+pub form_behaves_alike : (line : PackageLine) (tree : ClassTree) (form : IsFirstForm line tree) (lang : ExportTree) (root : ExportClass) (exports : List ExportTree) → HaveOwnTokens exports → BehaveAlike (tree ∷ []) exports (converted line lang root tree form)
+form_behaves_alike line tree form lang root exports own script = behaves line tree form exports own lang root script

@@ -1,7 +1,7 @@
 -- The components of a package of the form are consistent with the export file of java/lang.
-use Rattle.std.proofs.Common.{◌≡◌, ℕ, zero, suc, ◌+◌, ◌-◌, ◌*◌, ◌/◌, ◌≤◌, Bool, true, false, List, [], ◌∷◌, ◌++◌, length, replicate, take, drop, refl, sym, ap, subst, ◌∙◌, arith, length-append}
-use Rattle.std.specs.Prelude.{Some, None, is_some, slice_get, nat_eq, nat_le, ◌&&◌, if◌then◌else◌, flat_map, option_map, pos, ◌+ℤ◌}
-use Rattle.std.specs.List.{list_all, list_any, last_or}
+use Rattle.std.proofs.Common.{◌≡◌, ℕ, zero, suc, ◌+◌, ◌-◌, ◌*◌, ◌/◌, ◌≤◌, Bool, true, false, cond, List, [], ◌∷◌, ◌++◌, length, replicate, take, drop, refl, sym, ap, ◌∙◌, arith, length-append}
+use Rattle.std.specs.Prelude.{Some, None, is_some, not, ◌==◌, ◌||◌, slice_get, nat_eq, nat_le, ◌&&◌, if◌then◌else◌, flat_map, option_map, pos, ◌+ℤ◌}
+use Rattle.std.specs.List.{find, list_all, list_any, last_or}
 use Rattle.std.specs.Ordering.{int_eq}
 use Rattle.std.specs.Str.{bytes_eq}
 use Rattle.std.proofs.lemmas.Bool.Decides.{nat_tests}
@@ -35,16 +35,17 @@ use Rattle.cjc_classfile.specs.declared.tree.ClassTree.{ClassTree}
 use Rattle.cjc_code.specs.declared.insn.JOp.{JOp}
 use Rattle.cjc_export.specs.declared.tree.ExportTree.{ExportTree}
 use Rattle.cjc_export.specs.Words.{has}
-use Rattle.cjc_bytes.specs.Format.{FileSpells}
-use Rattle.cjc_export.specs.ExportFile.{export_file}
-use Rattle.cjc_convert.specs.FirstForm.{PackageLine, IsFirstForm, is_sum, ops_of}
+use Rattle.cjc_export.specs.Tokens.{has_token, own_tokens, HaveOwnTokens}
+use Rattle.cjc_check.specs.Classes.{imported, is_exported_class}
+use Rattle.cjc_export.specs.declared.tree.ExportClass.{ExportClass}
+use Rattle.cjc_convert.specs.Conversion.{IsRoot}
+use Rattle.cjc_convert.proofs.Inheriting.{and_true}
+use Rattle.cjc_convert.specs.FirstForm.{PackageLine, IsFirstForm, is_sum, ops_of, object}
 use Rattle.cjc_convert.specs.Selected.{selected_code}
 use Rattle.cjc_convert.specs.Converted.{converted, tree_for, sizes, header_part, import_part, pool_part, class_part, method_part, static_part, location_part, export_part, descriptor_part, method_bytes as method_of}
-use Rattle.cjc_convert.specs.declared.lang.TheConstants.{LANG}
 use Rattle.cjc_convert.proofs.Lists.{le_test}
 use Rattle.cjc_convert.proofs.Whole.{AreQuiet, Whole, sum_whole, quiet_lands, quiet_indices}
 use Rattle.cjc_convert.proofs.BehavesAlike.{short_header}
-use Rattle.cjc_convert.proofs.LangTree.{lang_tree, lang_only}
 
 -- ---- sizes
 
@@ -58,9 +59,9 @@ packed_exactly (n ∷ ns) =
     let rest = packed_exactly ns in
     (omega (arith, rest.1 n), λ high. omega (arith, rest.0))
 
-module _ (line : PackageLine) (params : ℕ) (code : CodeTree) (ops : List JOp) where
+module _ (line : PackageLine) (lang : ExportTree) (root : ExportClass) (params : ℕ) (code : CodeTree) (ops : List JOp) where
   abbrev tree : CapTree
-  tree = tree_for line params code ops
+  tree = tree_for line lang root params code ops
 
   abbrev methods : List ℕ
   methods = method_of params code ops
@@ -82,9 +83,9 @@ module _ (line : PackageLine) (params : ℕ) (code : CodeTree) (ops : List JOp) 
   abbrev parts : Complete
   parts = record {
     applet = None;
-    import = import_part;
+    import = import_part lang;
     pool = pool_part;
-    class = class_part;
+    class = class_part root;
     method = method_part methods;
     statics = static_part;
     locations = location_part;
@@ -92,18 +93,23 @@ module _ (line : PackageLine) (params : ℕ) (code : CodeTree) (ops : List JOp) 
     descriptor = descriptor_part params count;
   }
 
-  items : size_items tree ≡ sizes line params (length methods)
-  unfolding tree_for directory_bytes import_bytes imported_package_bytes pool_bytes class_info_bytes class_entry_bytes method_bytes static_field_bytes reference_location_bytes export_bytes exported_class_bytes
+  import_long : length (import_bytes (import_part lang)) ≡ 4 + length lang.aid
+  unfolding import_bytes imported_package_bytes
+  import_long = simp length-append (omega arith)
+
+  items : size_items tree ≡ sizes line lang.aid params (length methods)
+  unfolding tree_for directory_bytes pool_bytes class_info_bytes class_entry_bytes method_bytes static_field_bytes reference_location_bytes export_bytes exported_class_bytes
   items =
       let m : suc (length methods) ≡ 1 + length methods = omega arith in
-      ap (λ h. h ∷ 33 ∷ 0 ∷ 11 ∷ 2 ∷ 12 ∷ suc (length methods) ∷ 10 ∷ 4 ∷ 7 ∷ length (descriptor_bytes (descriptor_part params count)) ∷ 0 ∷ []) header_long
-      ∙ ap (λ n. (11 + length line.aid + length line.name) ∷ 33 ∷ 0 ∷ 11 ∷ 2 ∷ 12 ∷ n ∷ 10 ∷ 4 ∷ 7 ∷ length (descriptor_bytes (descriptor_part params count)) ∷ 0 ∷ []) m
-      ∙ ap (λ d. (11 + length line.aid + length line.name) ∷ 33 ∷ 0 ∷ 11 ∷ 2 ∷ 12 ∷ (1 + length methods) ∷ 10 ∷ 4 ∷ 7 ∷ d ∷ 0 ∷ []) descriptor_long
+      ap (λ h. h ∷ 33 ∷ 0 ∷ length (import_bytes (import_part lang)) ∷ 2 ∷ 12 ∷ suc (length methods) ∷ 10 ∷ 4 ∷ 7 ∷ length (descriptor_bytes (descriptor_part params count)) ∷ 0 ∷ []) header_long
+      ∙ ap (λ i. (11 + length line.aid + length line.name) ∷ 33 ∷ 0 ∷ i ∷ 2 ∷ 12 ∷ suc (length methods) ∷ 10 ∷ 4 ∷ 7 ∷ length (descriptor_bytes (descriptor_part params count)) ∷ 0 ∷ []) import_long
+      ∙ ap (λ n. (11 + length line.aid + length line.name) ∷ 33 ∷ 0 ∷ (4 + length lang.aid) ∷ 2 ∷ 12 ∷ n ∷ 10 ∷ 4 ∷ 7 ∷ length (descriptor_bytes (descriptor_part params count)) ∷ 0 ∷ []) m
+      ∙ ap (λ d. (11 + length line.aid + length line.name) ∷ 33 ∷ 0 ∷ (4 + length lang.aid) ∷ 2 ∷ 12 ∷ (1 + length methods) ∷ 10 ∷ 4 ∷ 7 ∷ d ∷ 0 ∷ []) descriptor_long
 
   directory : directory_agrees tree ≡ true
   unfolding directory_agrees tree_for
   directory =
-      let s = sizes line params (length methods) in
+      let s = sizes line lang.aid params (length methods) in
       ap (λ xs. bytes_eq s xs && true) items ∙ ap (λ t. t && true) (same_bytes s)
 
   flags : flags_agree tree ≡ true
@@ -149,12 +155,61 @@ types_name_none (suc (suc (suc (suc (suc n))))) = types_name_none (suc (suc (suc
 
 -- ---- the other sentences
 
-module _ (line : PackageLine) (params : ℕ) (code : CodeTree) (ops : List JOp) (room : code.max_stack ≤ 15) (few : params ≤ 15) (locals : code.max_locals ≤ 15) (sum : is_sum params ops ≡ true) where
+or_true : (a b : Bool) → b ≡ true → (a || b) ≡ true
+or_true true b e = refl
+or_true false b e = e
+
+same_token : (t : ℕ) → (t == t) ≡ true
+same_token t = grind (arith, nat_tests)
+
+-- a class that is found has its token among those of the classes
+token_among : (classes : List ExportClass) (root : ExportClass) → find (λ c. bytes_eq c.name object) classes ≡ Some root → has_token root.token classes ≡ true
+token_among [] root e = absurd cc
+token_among (c ∷ cs) root e = by (bytes_eq c.name object) e (token_among cs root)
+  where
+    by : (b : Bool) → cond b (Some c) (find (λ x. bytes_eq x.name object) cs) ≡ Some root → (find (λ x. bytes_eq x.name object) cs ≡ Some root → has_token root.token cs ≡ true) → (c.token == root.token || has_token root.token cs) ≡ true
+    by true f more =
+        let same : c ≡ root = cc in
+        ap (λ (x : ExportClass). x.token == root.token || has_token root.token cs) same ∙ ap (λ t. t || has_token root.token cs) (same_token root.token)
+    by false f more = or_true (c.token == root.token) (has_token root.token cs) (more f)
+
+other_token : (c root : ExportClass) (cs : List ExportClass) → has_token c.token cs ≡ false → has_token root.token cs ≡ true → (c.token == root.token) ≡ false
+other_token c root cs unlike there =
+    elim (c.token == root.token) as (λ (b : Bool). (c.token == root.token) ≡ b → b ≡ false) [
+      | true ↦ λ is. (
+          let same : c.token ≡ root.token = grind (arith, nat_tests) in
+          let both : true ≡ false = sym there ∙ ap (λ t. has_token t cs) (sym same) ∙ unlike in
+          absurd cc)
+      | false ↦ λ is. refl
+    ] refl
+
+not_there : (a b : Bool) → (not a && b) ≡ true → (a ≡ false) × (b ≡ true)
+not_there true b e = absurd cc
+not_there false b e = (refl, e)
+
+-- the class of the export file by its name is that by its token
+by_its_token : (classes : List ExportClass) (root : ExportClass) → own_tokens classes ≡ true → find (λ c. bytes_eq c.name object) classes ≡ Some root → find (λ c. c.token == root.token) classes ≡ Some root
+by_its_token [] root own e = absurd cc
+by_its_token (c ∷ cs) root own e =
+    let both = not_there (has_token c.token cs) (own_tokens cs) own in
+    by both.0 (bytes_eq c.name object) e (by_its_token cs root both.1)
+  where
+    by : has_token c.token cs ≡ false → (b : Bool) → cond b (Some c) (find (λ x. bytes_eq x.name object) cs) ≡ Some root
+        → (find (λ x. bytes_eq x.name object) cs ≡ Some root → find (λ x. x.token == root.token) cs ≡ Some root) → find (λ x. x.token == root.token) (c ∷ cs) ≡ Some root
+    by unlike true f more =
+        let same : c ≡ root = cc in
+        let test : (c.token == root.token) ≡ true = ap (λ (x : ExportClass). x.token == root.token) same ∙ same_token root.token in
+        ap (λ t. cond t (Some c) (find (λ x. x.token == root.token) cs)) test ∙ ap Some same
+    by unlike false f more =
+        let test = other_token c root cs unlike (token_among cs root f) in
+        ap (λ t. cond t (Some c) (find (λ x. x.token == root.token) cs)) test ∙ more f
+
+module _ (line : PackageLine) (lang : ExportTree) (root : ExportClass) (is_root : IsRoot lang root) (own : own_tokens lang.classes ≡ true) (params : ℕ) (code : CodeTree) (ops : List JOp) (room : code.max_stack ≤ 15) (few : params ≤ 15) (locals : code.max_locals ≤ 15) (sum : is_sum params ops ≡ true) where
   abbrev whole : Whole 3 (selected_code ops)
   whole = sum_whole params ops sum 3
 
   abbrev written : Complete
-  written = parts line params code ops
+  written = parts line lang root params code ops
 
   abbrev cut_code : Code
   cut_code = code_of false 3 (length (selected_code ops)) whole.is
@@ -168,27 +223,39 @@ module _ (line : PackageLine) (params : ℕ) (code : CodeTree) (ops : List JOp) 
   no_indices : all_indices written ≡ []
   no_indices = ap (λ o. flat_map (λ c. flat_map indices c.instructions) (all_codes o)) cut_is ∙ ap (λ xs. xs ++ []) (quiet_indices whole.is whole.quiet)
 
-  imports : imports_agree written (lang_tree ∷ []) ≡ true
+  and_also : (a b : Bool) → a ≡ true → b ≡ true → (a && b) ≡ true
+  and_also a b e f = ap (λ t. t && b) e ∙ f
+
+  imports : imports_agree written (lang ∷ []) ≡ true
   unfolding imports_agree
-  imports = refl
+  imports =
+      let major : (lang.major == lang.major) ≡ true = grind (arith, nat_tests) in
+      and_also _ _ (and_also _ _ major (same_bytes lang.aid)) refl
 
-  classes : classes_are_there written (lang_tree ∷ []) ≡ true
+  found : imported (lang ∷ []) 0 root.token ≡ Some root
+  found = by_its_token lang.classes root own is_root.named
+
+  classes : classes_are_there written (lang ∷ []) ≡ true
   unfolding classes_are_there
-  classes = ap (λ rs. list_all (is_there class_part (lang_tree ∷ [])) (Outside 0 0 ∷ Inside 2 ∷ (rs ++ []))) (types_name_none (params + 1))
+  classes =
+      ap (λ rs. list_all (is_there (class_part root) (lang ∷ [])) (Outside 0 root.token ∷ Inside 2 ∷ (rs ++ []))) (types_name_none (params + 1))
+      ∙ ap (λ o. is_some o && true) found
 
-  supers : supers_fit written (lang_tree ∷ []) ≡ true
+  supers : supers_fit written (lang ∷ []) ≡ true
   unfolding supers_fit
-  supers = refl
+  supers =
+      ap (λ o. ((is_exported_class o && true) && true) && true) found
+      ∙ ap (λ b. ((not b && true) && true) && true) is_root.is_class
 
   tables : tables_hold_methods written ≡ true
   unfolding tables_hold_methods
   tables = refl
 
-  maps : maps_hold_tokens written (lang_tree ∷ []) ≡ true
+  maps : maps_hold_tokens written (lang ∷ []) ≡ true
   unfolding maps_hold_tokens
   maps = refl
 
-  members : members_are_there written (lang_tree ∷ []) ≡ true
+  members : members_are_there written (lang ∷ []) ≡ true
   unfolding members_are_there
   members = refl
 
@@ -234,14 +301,11 @@ module _ (line : PackageLine) (params : ℕ) (code : CodeTree) (ops : List JOp) 
   unfolding descriptor_is_whole
   descriptor = refl
 
-  and_also : (a b : Bool) → a ≡ true → b ≡ true → (a && b) ≡ true
-  and_also a b e f = ap (λ t. t && b) e ∙ f
-
-  pub consistent : Consistent (tree_for line params code ops) (lang_tree ∷ [])
+  pub consistent : Consistent (tree_for line lang root params code ops) (lang ∷ [])
   unfolding tree_for
   consistent =
-      and_also _ _ (directory line params code ops)
-      (and_also _ _ (flags line params code ops)
+      and_also _ _ (directory line lang root params code ops)
+      (and_also _ _ (flags line lang root params code ops)
       (and_also _ _ imports
       (and_also _ _ classes
       (and_also _ _ supers
@@ -259,9 +323,9 @@ module _ (line : PackageLine) (params : ℕ) (code : CodeTree) (ops : List JOp) 
       (and_also _ _ exports
       (and_also _ _ descriptor refl)))))))))))))))))
 
--- The components of a package of the form are consistent with what the export file of java/lang spells.
-pub form_is_consistent : (line : PackageLine) (tree : ClassTree) (form : IsFirstForm line tree) (lang : ExportTree) → FileSpells export_file lang LANG → Consistent (converted line tree form) (lang ∷ [])
-form_is_consistent line tree form lang spelt =
+-- The components of a package of the form are consistent with the export file whose class is the superclass.
+pub form_is_consistent : (line : PackageLine) (tree : ClassTree) (form : IsFirstForm line tree) (lang : ExportTree) (root : ExportClass) → IsRoot lang root → HaveOwnTokens (lang ∷ []) → Consistent (converted line lang root tree form) (lang ∷ [])
+form_is_consistent line class form lang root is_root own =
     let m = form.is_sum in
     let c = m.is_sum in
-    subst (λ t. Consistent (converted line tree form) (t ∷ [])) (sym (lang_only lang spelt)) (consistent line form.params form.code (ops_of form.insns) c.stack m.few c.locals c.is_sum)
+    consistent line lang root is_root (and_true (own_tokens lang.classes) true own).0 form.params form.code (ops_of form.insns) c.stack m.few c.locals c.is_sum

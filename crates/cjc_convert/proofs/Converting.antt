@@ -1,5 +1,7 @@
 -- From the parts of a conversion to the whole.
-use Rattle.std.proofs.Common.{◌≡◌, ℕ, suc, ◌+◌, ◌<◌, ◌⊎◌, inl, inr, Bool, true, false, List, [], ◌∷◌, count_by, not, if◌then◌else◌, Option, Some, None, Result, Ok, Err, IfOk, IfSome, IfNone, length, get_or, refl, sym, ap, subst, ◌∙◌, arith}
+use Rattle.std.proofs.Common.{◌≡◌, ℕ, suc, ◌+◌, ◌<◌, ◌⊎◌, inl, inr, Bool, true, false, List, [], ◌∷◌, count_by, not, if◌then◌else◌, Option, Some, None, Result, Ok, Err, IfOk, IfNone, length, get_or, refl, sym, ap, subst, ◌∙◌, arith}
+use Rattle.std.specs.Prelude.{◌==◌}
+use Rattle.std.proofs.lemmas.Bool.Decides.{nat_tests}
 use Rattle.std.proofs.lemmas.List.Sums.{sum_by-cons}
 use Rattle.cjc_bytes.specs.Format.{FileSpells}
 use Rattle.cjc_bytes.proofs.Laws.{one_value}
@@ -15,18 +17,19 @@ use Rattle.cjc_code.specs.declared.insn.JInsn.{JInsn}
 use Rattle.cjc_code.specs.declared.method_code.MethodCode.{MethodCode}
 use Rattle.cjc_capread.specs.declared.tree.CapTree.{CapTree}
 use Rattle.cjc_list.specs.Listed.{ListTree}
-use Rattle.cjc_convert.specs.declared.lang.TheConstants.{LANG}
 use Rattle.cjc_convert.specs.declared.conversion.Converted.{Converted}
 use Rattle.cjc_convert.specs.FirstForm.{PackageLine, IsFirstForm, ops_of}
 use Rattle.cjc_convert.specs.Converted.{tree_for}
 use Rattle.cjc_convert.specs.Tests.{IsFormWith}
-use Rattle.cjc_convert.proofs.Forms.{one_code}
-use Rattle.cjc_convert.specs.Codes.{code_with, all_codes, first_insns}
+use Rattle.cjc_convert.specs.Codes.{all_codes, first_insns}
 use Rattle.cjc_world.specs.Files.{Files}
 use Rattle.cjc_world.specs.Rules.{Break, IsFirstRefusal, breaks}
-use Rattle.cjc_convert.specs.Spelt.{FileTree, of_class, of_export, classes_of}
+use Rattle.cjc_export.specs.Writable.{IsWritable}
+use Rattle.cjc_export.specs.declared.tree.ExportClass.{ExportClass}
+use Rattle.cjc_convert.proofs.Inheriting.{small_import}
+use Rattle.cjc_convert.specs.Spelt.{FileTree, of_class, of_export, classes_of, exports_of}
 use Rattle.cjc_convert.specs.Rules.{Breach, world_files, files_spelt}
-use Rattle.cjc_convert.specs.Trees.{AllSpelt, AreRead, read_of, FirstForeign, AllRead, ReadsFiles}
+use Rattle.cjc_convert.specs.Trees.{FileIs, AllSpelt, AreRead, read_of, FirstForeign, AllRead, ReadsFiles}
 use Rattle.cjc_convert.specs.declared.reading.Trees.{Trees}
 use Rattle.cjc_convert.proofs.Firsts.{file_stops, world_stops, foreign_stops, none_broken}
 use Rattle.cjc_convert.specs.Conversion
@@ -41,91 +44,174 @@ use Rattle.cjc_classfile.specs.declared.tree.MethodTree.{MethodTree}
 
 -- ---- the components
 
-pub cap_found : (line : PackageLine) (tree : ClassTree) (params : ℕ) (insns : List JInsn) (code : CodeTree) (result : Result CapTree NoMemory) (f : IsFormWith line tree params insns)
-    → f.form.code ≡ code → IfOk result (λ t. t ≡ tree_for line params code (ops_of insns)) → IfOk result (Conversion.IsCapOf line tree params insns)
-cap_found line tree params insns code (Ok t) f is e = record { form = f.form; params_are = f.params_are; insns_are = f.insns_are; is = e ∙ rw (f.params_are, f.insns_are, is) refl }
-cap_found line tree params insns code (Err x) f is e = tt
+pub cap_found : (line : PackageLine) (parts : Conversion.Parts) (code : CodeTree) (result : Result CapTree NoMemory) (f : IsFormWith line parts.tree parts.params parts.insns)
+    → f.form.code ≡ code → IfOk result (λ t. t ≡ tree_for line parts.lang parts.root parts.params code (ops_of parts.insns)) → IfOk result (Conversion.IsCapOf line parts)
+cap_found line parts code (Ok t) f is e = record { form = f.form; params_are = f.params_are; insns_are = f.insns_are; is = e ∙ rw (f.params_are, f.insns_are, is) refl }
+cap_found line parts code (Err x) f is e = tt
 
 -- ---- the pair of files
 
--- the one class file of a pair
-pub pair_tree : (lines : List FileLine) (files : List (List ℕ)) (bytes export : List ℕ) (read : Trees) → Conversion.IsPair lines files bytes export → AreRead lines files read
-    → (t : ClassTree) × (read.classes ≡ t ∷ []) × FileSpells class_file t bytes
-pair_tree lines files bytes export read (a, b, l, choice) all =
+-- what a class file and an export file spell
+pub pair_trees : (lines : List FileLine) (files : List (List ℕ)) (class export : List ℕ) (read : Trees) → Conversion.IsPair lines files class export → AreRead lines files read
+    → (t : ClassTree) × (u : ExportTree) × (read.classes ≡ t ∷ []) × (read.exports ≡ u ∷ []) × FileSpells class_file t class × FileSpells export_file u export
+pair_trees lines files class export read (a, b, l, choice) all =
     let here : AllSpelt (a ∷ b ∷ []) files all.trees = subst (λ (ls : List FileLine). AllSpelt ls files all.trees) l all.spelt in
-    let found : (t : ClassTree) × (classes_of all.trees ≡ t ∷ []) × FileSpells class_file t bytes = elim choice [
-      | inl (ca, cb, f) ↦ first_class a b bytes export all.trees ca cb (subst (λ (fs : List (List ℕ)). AllSpelt (a ∷ b ∷ []) fs all.trees) f here)
-      | inr (ca, cb, f) ↦ second_class a b bytes export all.trees ca cb (subst (λ (fs : List (List ℕ)). AllSpelt (a ∷ b ∷ []) fs all.trees) f here)
+    let found : (t : ClassTree) × (u : ExportTree) × (classes_of all.trees ≡ t ∷ []) × (exports_of all.trees ≡ u ∷ []) × FileSpells class_file t class × FileSpells export_file u export = elim choice [
+      | inl (ca, cb, f) ↦ class_first a b all.trees ca cb (subst (λ (fs : List (List ℕ)). AllSpelt (a ∷ b ∷ []) fs all.trees) f here)
+      | inr (ca, cb, f) ↦ class_second a b all.trees ca cb (subst (λ (fs : List (List ℕ)). AllSpelt (a ∷ b ∷ []) fs all.trees) f here)
     ] in
-    (found.0, all.classes ∙ found.1, found.2)
+    (found.0, found.1, all.classes ∙ found.2, all.exports ∙ found.3, found.4, found.5)
   where
     no : {P : Type 0} (l : FileLine) → l.class_file ≡ true → l.class_file ≡ false → P
     no l e f = absurd (let g : true ≡ false = sym e ∙ f in cc)
 
-    first_class : (a b : FileLine) (bytes export : List ℕ) (trees : List FileTree) → a.class_file ≡ true → b.class_file ≡ false → AllSpelt (a ∷ b ∷ []) (bytes ∷ export ∷ []) trees
-        → (t : ClassTree) × (classes_of trees ≡ t ∷ []) × FileSpells class_file t bytes
-    first_class a b bytes export [] ca cb all = absurd all
-    first_class a b bytes export (x ∷ []) ca cb all = absurd all.1
-    first_class a b bytes export (of_class t ∷ of_export u ∷ []) ca cb all = (t, refl, all.0.1)
-    first_class a b bytes export (of_class t ∷ of_class u ∷ []) ca cb all = no b all.1.0.0 cb
-    first_class a b bytes export (of_export t ∷ u ∷ []) ca cb all = no a ca all.0.0
-    first_class a b bytes export (x ∷ y ∷ z ∷ more) ca cb all = absurd (let e = all.1.1.1 in cc)
+    class_first : (a b : FileLine) (trees : List FileTree) → a.class_file ≡ true → b.class_file ≡ false → AllSpelt (a ∷ b ∷ []) (class ∷ export ∷ []) trees
+        → (t : ClassTree) × (u : ExportTree) × (classes_of trees ≡ t ∷ []) × (exports_of trees ≡ u ∷ []) × FileSpells class_file t class × FileSpells export_file u export
+    class_first a b [] ca cb all = absurd all
+    class_first a b (x ∷ []) ca cb all = absurd all.1
+    class_first a b (of_class t ∷ of_export u ∷ []) ca cb all = (t, u, refl, refl, all.0.1, all.1.0.1)
+    class_first a b (of_class t ∷ of_class u ∷ []) ca cb all = no b all.1.0.0 cb
+    class_first a b (of_export t ∷ u ∷ []) ca cb all = no a ca all.0.0
+    class_first a b (x ∷ y ∷ z ∷ more) ca cb all = absurd (let e = all.1.1.1 in cc)
 
-    second_class : (a b : FileLine) (bytes export : List ℕ) (trees : List FileTree) → a.class_file ≡ false → b.class_file ≡ true → AllSpelt (a ∷ b ∷ []) (export ∷ bytes ∷ []) trees
-        → (t : ClassTree) × (classes_of trees ≡ t ∷ []) × FileSpells class_file t bytes
-    second_class a b bytes export [] ca cb all = absurd all
-    second_class a b bytes export (x ∷ []) ca cb all = absurd all.1
-    second_class a b bytes export (of_export t ∷ of_class u ∷ []) ca cb all = (u, refl, all.1.0.1)
-    second_class a b bytes export (of_export t ∷ of_export u ∷ []) ca cb all = no b cb all.1.0.0
-    second_class a b bytes export (of_class t ∷ u ∷ []) ca cb all = no a all.0.0 ca
-    second_class a b bytes export (x ∷ y ∷ z ∷ more) ca cb all = absurd (let e = all.1.1.1 in cc)
+    class_second : (a b : FileLine) (trees : List FileTree) → a.class_file ≡ false → b.class_file ≡ true → AllSpelt (a ∷ b ∷ []) (export ∷ class ∷ []) trees
+        → (t : ClassTree) × (u : ExportTree) × (classes_of trees ≡ t ∷ []) × (exports_of trees ≡ u ∷ []) × FileSpells class_file t class × FileSpells export_file u export
+    class_second a b [] ca cb all = absurd all
+    class_second a b (x ∷ []) ca cb all = absurd all.1
+    class_second a b (of_export t ∷ of_class u ∷ []) ca cb all = (u, t, refl, refl, all.1.0.1, all.0.1)
+    class_second a b (of_export t ∷ of_export u ∷ []) ca cb all = no b cb all.1.0.0
+    class_second a b (of_class t ∷ u ∷ []) ca cb all = no a all.0.0 ca
+    class_second a b (x ∷ y ∷ z ∷ more) ca cb all = absurd (let e = all.1.1.1 in cc)
 
-pub pair_once : (lines : List FileLine) (files : List (List ℕ)) (c d export : List ℕ) → Conversion.IsPair lines files c export → Conversion.IsPair lines files d export → c ≡ d
-pair_once lines files c d export (a, b, l, one) (a', b', l', other) =
-    let same : a ∷ b ∷ [] ≡ a' ∷ b' ∷ [] = sym l ∙ l' in
-    let first : a ≡ a' = cc in
-    let flag : a.class_file ≡ a'.class_file = ap (λ (x : FileLine). x.class_file) first in
-    elim one [
-      | inl (ca, cb, f) ↦ elim other [ inl (ca', cb', f') ↦ (let e = sym f ∙ f' in cc) | inr (ca', cb', f') ↦ (let e : true ≡ false = sym ca ∙ flag ∙ ca' in absurd cc) ]
-      | inr (ca, cb, f) ↦ elim other [ inl (ca', cb', f') ↦ (let e : false ≡ true = sym ca ∙ flag ∙ ca' in absurd cc) | inr (ca', cb', f') ↦ (let e = sym f ∙ f' in cc) ]
-    ]
+no_more : (lines : List FileLine) (files : List (List ℕ)) → AllSpelt lines files [] → (lines ≡ []) × (files ≡ [])
+no_more [] files all = (refl, all.0)
+no_more (l ∷ ls) [] all = absurd all
+no_more (l ∷ ls) (b ∷ bs) all = absurd all
 
-same_tree : (t : ClassTree) (ts us : List ClassTree) (u : ClassTree) → ts ≡ t ∷ [] → ts ≡ u ∷ [] → t ≡ u
-same_tree t ts us u e f = let g = sym e ∙ f in cc
+one_more : (lines : List FileLine) (files : List (List ℕ)) (t : FileTree) (ts : List FileTree) → AllSpelt lines files (t ∷ ts)
+    → (l : FileLine) × (ls : List FileLine) × (b : List ℕ) × (bs : List (List ℕ)) × (lines ≡ l ∷ ls) × (files ≡ b ∷ bs) × FileIs l b t × AllSpelt ls bs ts
+one_more [] files t ts all = absurd (let e = all.1 in cc)
+one_more (l ∷ ls) [] t ts all = absurd all
+one_more (l ∷ ls) (b ∷ bs) t ts all = (l, ls, b, bs, refl, refl, all.0, all.1)
 
-pub form_found : (list : ListTree) (files : List (List ℕ)) (read : Trees) (tree : ClassTree) (result : Option ℕ)
-    → Conversion.HasPair list files → AreRead list.lines files read → read.classes ≡ tree ∷ [] → IfSome result (λ params. IsFormWith (Conversion.line_of list) tree params (first_insns read.codes))
-    → IfSome result (λ params. Conversion.FormOf list files read.classes params (first_insns read.codes))
-form_found list files read tree None (applets, (bytes, pair)) all is h = tt
-form_found list files read tree (Some params) (applets, (bytes, pair)) all is h =
-    let p = pair_tree list.lines files bytes LANG read pair all in
-    let same : p.0 ≡ tree = same_tree p.0 read.classes [] tree p.1 is in
+-- the two trees of two files
+two_more : (lines : List FileLine) (files : List (List ℕ)) (t u : FileTree) → AllSpelt lines files (t ∷ u ∷ [])
+    → (l m : FileLine) × (b c : List ℕ) × (lines ≡ l ∷ m ∷ []) × (files ≡ b ∷ c ∷ []) × FileIs l b t × FileIs m c u
+two_more lines files t u all =
+    let x = one_more lines files t (u ∷ []) all in
+    let y = one_more x.1 x.3 u [] x.7 in
+    let z = no_more y.1 y.3 y.7 in
+    (x.0, y.0, x.2, y.2, x.4 ∙ ap (λ ls. x.0 ∷ ls) (y.4 ∙ ap (λ ls. y.0 ∷ ls) z.0), x.5 ∙ ap (λ bs. x.2 ∷ bs) (y.5 ∙ ap (λ bs. y.2 ∷ bs) z.1), x.6, y.6)
+
+-- the files are a pair that spells these
+pub record ArePair (lines : List FileLine) (files : List (List ℕ)) (tree : ClassTree) (lang : ExportTree) : Type 0 where
+  pub class : List ℕ
+  pub export : List ℕ
+  pub pair : Conversion.IsPair lines files class export
+  pub spelt : FileSpells class_file tree class
+  pub lang_spelt : FileSpells export_file lang export
+  pub fits : IsWritable lang
+
+pub are_pair : (lines : List FileLine) (files : List (List ℕ)) (trees : List FileTree) (tree : ClassTree) (lang : ExportTree) → AllSpelt lines files trees → classes_of trees ≡ tree ∷ [] → exports_of trees ≡ lang ∷ []
+    → ArePair lines files tree lang
+are_pair lines files [] tree lang all c e = absurd (let f = c in cc)
+are_pair lines files (of_class t ∷ []) tree lang all c e = absurd (let f = e in cc)
+are_pair lines files (of_export t ∷ []) tree lang all c e = absurd (let f = c in cc)
+are_pair lines files (of_class t ∷ of_class u ∷ []) tree lang all c e = absurd (let f = e in cc)
+are_pair lines files (of_export t ∷ of_export u ∷ []) tree lang all c e = absurd (let f = c in cc)
+are_pair lines files (of_class t ∷ of_export u ∷ []) tree lang all c e =
+    let x = two_more lines files (of_class t) (of_export u) all in
+    let t_is : t ≡ tree = (let f = c in cc) in
+    let u_is : u ≡ lang = (let f = e in cc) in
     record {
-      tree = tree;
-      trees_are = is;
-      form = record { applets = applets; bytes = bytes; pair = pair; spelt = subst (λ (t : ClassTree). FileSpells class_file t bytes) same p.2; form = h.form };
-      params_are = h.params_are;
-      insns_are = h.insns_are;
+      class = x.2;
+      export = x.3;
+      pair = (x.0, x.1, x.4, inl (x.6.0, x.7.0, x.5));
+      spelt = subst (λ (v : ClassTree). FileSpells class_file v x.2) t_is x.6.1;
+      lang_spelt = subst (λ (v : ExportTree). FileSpells export_file v x.3) u_is x.7.1;
+      fits = subst (λ (v : ExportTree). IsWritable v) u_is x.7.2;
+    }
+are_pair lines files (of_export u ∷ of_class t ∷ []) tree lang all c e =
+    let x = two_more lines files (of_export u) (of_class t) all in
+    let t_is : t ≡ tree = (let f = c in cc) in
+    let u_is : u ≡ lang = (let f = e in cc) in
+    record {
+      class = x.3;
+      export = x.2;
+      pair = (x.0, x.1, x.4, inr (x.6.0, x.7.0, x.5));
+      spelt = subst (λ (v : ClassTree). FileSpells class_file v x.3) t_is x.7.1;
+      lang_spelt = subst (λ (v : ExportTree). FileSpells export_file v x.2) u_is x.6.1;
+      fits = subst (λ (v : ExportTree). IsWritable v) u_is x.6.2;
+    }
+are_pair lines files (x ∷ y ∷ z ∷ more) tree lang all c e =
+    let count = tree_count (x ∷ y ∷ z ∷ more) in
+    absurd (omega (arith, count, ap length c, ap length e))
+  where
+    tree_count : (trees : List FileTree) → length (classes_of trees) + length (exports_of trees) ≡ length trees
+    tree_count [] = refl
+    tree_count (of_class t ∷ ts) = let rest = tree_count ts in omega (arith, rest)
+    tree_count (of_export t ∷ ts) = let rest = tree_count ts in omega (arith, rest)
+
+-- ---- the form
+
+pub one_code_insns : (list : ListTree) (tree : ClassTree) (codes : List MethodCode) (x y : MethodCode) (params : ℕ) (insns : List JInsn) → codes ≡ x ∷ [] → insns ≡ (get_or codes 0 y).insns
+    → IsFormWith (Conversion.line_of list) tree params (first_insns codes) → IsFormWith (Conversion.line_of list) tree params insns
+one_code_insns list tree codes x y params insns one is f =
+    let same : first_insns codes ≡ insns = ap first_insns one ∙ sym (is ∙ ap (λ (cs : List MethodCode). (get_or cs 0 y).insns) one) in
+    subst (λ (i : List JInsn). IsFormWith (Conversion.line_of list) tree params i) same f
+
+pub form_found : (list : ListTree) (files : List (List ℕ)) (world : Files) (codes : List MethodCode) (parts : Conversion.Parts) → list.applets ≡ [] → AreRead list.lines files (read_of world codes)
+    → world.classes ≡ parts.tree ∷ [] → world.exports ≡ parts.lang ∷ [] → Conversion.IsRoot parts.lang parts.root → IsFormWith (Conversion.line_of list) parts.tree parts.params parts.insns → Conversion.FormOf list files parts
+form_found list files world codes parts applets all c e root f =
+    let pair = are_pair list.lines files all.trees parts.tree parts.lang all.spelt (sym all.classes ∙ c) (sym all.exports ∙ e) in
+    record {
+      form = record { applets = applets; class = pair.class; export = pair.export; pair = pair.pair; lang_spelt = pair.lang_spelt; is_root = root; spelt = pair.spelt; form = f.form };
+      params_are = f.params_are;
+      insns_are = f.insns_are;
+      small = small_import parts.lang parts.root pair.fits root;
     }
 
-not_form : (list : ListTree) (files : List (List ℕ)) (read : Trees) (tree other : ClassTree) → Conversion.HasPair list files → AreRead list.lines files read → read.classes ≡ tree ∷ []
-    → (IsFirstForm (Conversion.line_of list) tree → ⊥) → Conversion.IsForm list files other → ⊥
-not_form list files read tree other (applets, (bytes, pair)) all is none_of form =
-    let p = pair_tree list.lines files bytes LANG read pair all in
-    let same : p.0 ≡ tree = same_tree p.0 read.classes [] tree p.1 is in
-    let once : form.bytes ≡ bytes = pair_once list.lines files form.bytes bytes LANG form.pair pair in
-    let spelt = subst (λ (b : List ℕ). FileSpells class_file other b) once form.spelt in
-    let is_tree : other ≡ tree = one_value class_file bytes other p.0 spelt p.2 ∙ same in
-    none_of (subst (λ (t : ClassTree). IsFirstForm (Conversion.line_of list) t) is_tree form.form)
+-- the trees of a package of the form are those that were read
+pub form_trees : (list : ListTree) (files : List (List ℕ)) (world : Files) (codes : List MethodCode) (parts : Conversion.Parts) → AreRead list.lines files (read_of world codes) → Conversion.IsForm list files parts.lang parts.root parts.tree
+    → (world.classes ≡ parts.tree ∷ []) × (world.exports ≡ parts.lang ∷ [])
+form_trees list files world codes parts all form =
+    let p = pair_trees list.lines files form.class form.export (read_of world codes) form.pair all in
+    let tree : p.0 ≡ parts.tree = one_value class_file form.class p.0 parts.tree p.4 form.spelt in
+    let lang : p.1 ≡ parts.lang = one_value export_file form.export p.1 parts.lang p.5 form.lang_spelt in
+    (p.2 ∙ ap (λ t. t ∷ []) tree, p.3 ∙ ap (λ t. t ∷ []) lang)
 
-pub form_none : (list : ListTree) (files : List (List ℕ)) (read : Trees) (tree : ClassTree) (result : Option ℕ)
-    → Conversion.HasPair list files → AreRead list.lines files read → read.classes ≡ tree ∷ [] → IfNone result (IsFirstForm (Conversion.line_of list) tree → ⊥)
-    → IfNone result ((other : ClassTree) → Conversion.IsForm list files other → ⊥)
-form_none list files read tree None pair all is h = λ other form. not_form list files read tree other pair all is h form
-form_none list files read tree (Some params) pair all is h = tt
+is_zero : (n : ℕ) → (n == 0) ≡ true → n ≡ 0
+is_zero n e = grind (arith, nat_tests)
 
-pub pair_length : (list : ListTree) (files : List (List ℕ)) (read : Trees) → Conversion.HasPair list files → AreRead list.lines files read → length read.classes ≡ 1
-pair_length list files read (applets, (bytes, pair)) all = ap length (pair_tree list.lines files bytes LANG read pair all).1
+no_items : {X : Type 0} (xs : List X) → length xs ≡ 0 → xs ≡ []
+no_items [] e = refl
+no_items (x ∷ xs) e = absurd (omega arith)
+
+pub none_are : {X : Type 0} (xs : List X) → (length xs == 0) ≡ true → xs ≡ []
+none_are xs e = no_items xs (is_zero (length xs) e)
+
+pub if_none : {X : Type 0} (o : Option X) (P : Type 0) → P → IfNone o P
+if_none None P p = p
+if_none (Some x) P p = tt
+
+-- no package is of the form whose list has an applet
+pub applets_none : (list : ListTree) (files : List (List ℕ)) (parts : Conversion.Parts) → (list.applets ≡ [] → ⊥) → Conversion.IsForm list files parts.lang parts.root parts.tree → ⊥
+applets_none list files parts some form = some form.applets
+
+one_head : {A : Type 0} (xs : List A) (x y : A) → xs ≡ x ∷ [] → xs ≡ y ∷ [] → x ≡ y
+one_head xs x y e f = let g = sym e ∙ f in cc
+
+pub root_none : (list : ListTree) (files : List (List ℕ)) (world : Files) (codes : List MethodCode) (lang : ExportTree) (parts : Conversion.Parts) → AreRead list.lines files (read_of world codes) → world.exports ≡ lang ∷ []
+    → ((root : ExportClass) → Conversion.IsRoot lang root → ⊥) → Conversion.IsForm list files parts.lang parts.root parts.tree → ⊥
+root_none list files world codes lang parts all e none form =
+    let same = one_head world.exports parts.lang lang (form_trees list files world codes parts all form).1 e in
+    none parts.root (subst (λ (t : ExportTree). Conversion.IsRoot t parts.root) same form.is_root)
+
+pub class_none : (list : ListTree) (files : List (List ℕ)) (world : Files) (codes : List MethodCode) (tree : ClassTree) (parts : Conversion.Parts) → AreRead list.lines files (read_of world codes) → world.classes ≡ tree ∷ []
+    → (IsFirstForm (Conversion.line_of list) tree → ⊥) → Conversion.IsForm list files parts.lang parts.root parts.tree → ⊥
+class_none list files world codes tree parts all c none form =
+    let same = one_head world.classes parts.tree tree (form_trees list files world codes parts all form).0 c in
+    none (subst (λ (t : ClassTree). IsFirstForm (Conversion.line_of list) t) same form.form)
 
 -- ---- refusals
 
@@ -205,43 +291,41 @@ unbroken list files read all fine none =
     none_broken list files all.are_read.trees all.are_read.spelt (spelt_unbroken list files read all.are_read fine)
     (subst (FirstForeign list.lines files (length list.lines)) none all.unsupported)
 
-pub not_built_is : (list : ListTree) (files : List (List ℕ)) (e : Fault) → ((b : Break) → Breach list files b → ⊥) → ((tree : ClassTree) → Conversion.IsForm list files tree → ⊥)
+pub not_built_is : (list : ListTree) (files : List (List ℕ)) (e : Fault) → ((b : Break) → Breach list files b → ⊥) → ((parts : Conversion.Parts) → Conversion.IsForm list files parts.lang parts.root parts.tree → ⊥)
     → (e ≡ faults.Refused (Conversion.not_built list)) ⊎ (e ≡ faults.NoMemory)
     → (e ≡ faults.NoMemory) ⊎ ((r : Refusal) × Conversion.IsRefused list files r × (e ≡ faults.Refused r))
-not_built_is list files e fine none_of (inl is) = inr (Conversion.not_built list, inr (record { unbroken = fine; not_form = none_of }, refl), is)
+not_built_is list files e fine none_of (inl is) = inr (Conversion.not_built list, inr (record { unbroken = fine; not_form = λ lang root tree. none_of (record { lang = lang; root = root; tree = tree; params = 0; insns = [] }) }, refl), is)
 not_built_is list files e fine none_of (inr is) = inl is
 
 -- ---- the whole
 
--- a package of the form has its one code
-pub form_code : (list : ListTree) (files : List (List ℕ)) (lines : List FileLine) (fs : List (List ℕ)) (read : Trees) (params : ℕ) (insns : List JInsn) → AreRead lines fs read → Conversion.FormOf list files read.classes params insns
-    → (x : MethodCode) × (read.codes ≡ x ∷ [])
-form_code list files lines fs read params insns all f = (_, all.codes ∙ ap all_codes f.trees_are ∙ one_code f.tree f.form.form.method f.form.form.code f.form.form.methods f.form.form.is_sum.has_code ∙ ap (code_with 0 0) f.form.form.are_decoded)
+pub form_with : (list : ListTree) (files : List (List ℕ)) (parts : Conversion.Parts) → Conversion.FormOf list files parts → IsFormWith (Conversion.line_of list) parts.tree parts.params parts.insns
+form_with list files parts f = record { form = f.form.form; params_are = f.params_are; insns_are = f.insns_are }
 
-pub first_is : (codes : List MethodCode) (x y : MethodCode) → codes ≡ x ∷ [] → (get_or codes 0 y).insns ≡ first_insns codes
-first_is codes x y is = rw is refl
+pub converted_from : (list : ListTree) (files : List (List ℕ)) (parts : Conversion.Parts) (result : Result Converted Fault) → ((b : Break) → Breach list files b → ⊥)
+    → Conversion.FormOf list files parts → IfOk result (Conversion.IsMadeFor (Conversion.line_of list) parts) → IfOk result (Conversion.IsConverted list files)
+converted_from list files parts (Ok made) fine f m = record {
+  unbroken = fine;
+  lang = parts.lang;
+  root = parts.root;
+  tree = parts.tree;
+  form = record {
+    applets = f.form.applets;
+    class = f.form.class;
+    export = f.form.export;
+    pair = f.form.pair;
+    lang_spelt = f.form.lang_spelt;
+    is_root = f.form.is_root;
+    spelt = f.form.spelt;
+    form = m.0;
+  };
+  is_made = m.3;
+}
+converted_from list files parts (Err e) fine f m = tt
 
-pub form_with_tree : (list : ListTree) (files : List (List ℕ)) (trees : List ClassTree) (params : ℕ) (insns : List JInsn) (tree : ClassTree) → Conversion.FormOf list files trees params insns → tree ≡ get_or trees 0 tree
-    → IsFormWith (Conversion.line_of list) tree params insns
-form_with_tree list files trees params insns tree f is =
-    let same : f.tree ≡ tree = sym (is ∙ ap (λ ts. get_or ts 0 tree) f.trees_are) in
-    subst (λ (t : ClassTree). IsFormWith (Conversion.line_of list) t params insns) same (record { form = f.form.form; params_are = f.params_are; insns_are = f.insns_are })
-
-pub converted_from : (list : ListTree) (files : List (List ℕ)) (read : Trees) (params : ℕ) (insns : List JInsn) (tree : ClassTree) (result : Result Converted Fault) → ((b : Break) → Breach list files b → ⊥)
-    → Conversion.FormOf list files read.classes params insns → tree ≡ get_or read.classes 0 tree → IfOk result (Conversion.IsMadeFor (Conversion.line_of list) tree params insns) → IfOk result (Conversion.IsConverted list files)
-converted_from list files read params insns tree (Ok made) fine f is m =
-    let same : f.tree ≡ tree = sym (is ∙ ap (λ ts. get_or ts 0 tree) f.trees_are) in
-    record {
-      unbroken = fine;
-      tree = tree;
-      form = record { applets = f.form.applets; bytes = f.form.bytes; pair = f.form.pair; spelt = subst (λ (t : ClassTree). FileSpells class_file t f.form.bytes) same f.form.spelt; form = m.0 };
-      is_made = m.3;
-    }
-converted_from list files read params insns tree (Err e) fine f is m = tt
-
-pub made_from : (line : PackageLine) (tree : ClassTree) (params : ℕ) (insns : List JInsn) (cap : CapTree) (caps : CapFiles) (export : List ℕ) → Conversion.IsCapOf line tree params insns cap
-    → (caps ≡ files_of cap) × IsSpelt cap caps → Conversion.IsExportOf line tree export → Conversion.IsMadeFor line tree params insns (record { caps = caps; export = export })
-made_from line tree params insns cap caps export k m e =
+pub made_from : (line : PackageLine) (parts : Conversion.Parts) (cap : CapTree) (caps : CapFiles) (export : List ℕ) → Conversion.IsCapOf line parts cap
+    → (caps ≡ files_of cap) × IsSpelt cap caps → Conversion.IsExportOf line parts.root parts.tree export → Conversion.IsMadeFor line parts (record { caps = caps; export = export })
+made_from line parts cap caps export k m e =
     let both = sym e.methods ∙ k.form.methods in
     let method : e.method ≡ k.form.method = cc in (
       k.form,
@@ -250,7 +334,7 @@ made_from line tree params insns cap caps export k m e =
       record {
         caps = m.0 ∙ ap files_of k.is;
         spelt = subst (λ (c : CapTree). IsSpelt c caps) k.is m.1;
-        export = e.is ∙ ap (λ (x : MethodTree). written (exported line tree x)) method;
-        export_spelt = subst (λ (x : MethodTree). FileSpells export_file (exported line tree x) export) method e.spelt;
+        export = e.is ∙ ap (λ (x : MethodTree). written (exported line parts.root parts.tree x)) method;
+        export_spelt = subst (λ (x : MethodTree). FileSpells export_file (exported line parts.root parts.tree x) export) method e.spelt;
       },
     )

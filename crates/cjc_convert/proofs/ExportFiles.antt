@@ -1,16 +1,21 @@
 -- The export file of a package of the form can be written.
-use Rattle.std.proofs.Common.{◌≡◌, ℕ, zero, suc, ◌+◌, ◌≤◌, ◌<◌, true, [], Some, length, refl, sym, ap, ◌∙◌, arith}
+use Rattle.std.proofs.Common.{◌≡◌, ℕ, zero, suc, ◌+◌, ◌≤◌, ◌<◌, true, [], ◌∷◌, Some, length, refl, sym, ap, ◌∙◌, arith, append-nil, length-append}
+use Rattle.std.specs.List.{flat_map, AllByRecursion}
 use Rattle.std.proofs.lemmas.Bool.{le-leb}
 use Rattle.cjc_bytes.specs.Spots.{desc_of, bad_at, parts_of, types_from, after}
 use Rattle.cjc_classfile.specs.declared.tree.ClassTree.{ClassTree}
 use Rattle.cjc_classfile.specs.declared.tree.MethodTree.{MethodTree}
 use Rattle.cjc_export.specs.Members.{as_desc}
 use Rattle.cjc_export.specs.Pool.{aid_length}
-use Rattle.cjc_export.specs.Written.{needs, class_tree_needs}
-use Rattle.cjc_export.specs.Writable.{IsWritable}
+use Rattle.cjc_export.specs.Written.{needs, class_tree_needs, method_needs}
+use Rattle.cjc_export.specs.Writable.{MethodFits, IsWritable}
+use Rattle.cjc_export.specs.declared.tree.ExportMethod.{ExportMethod}
+use Rattle.cjc_export.specs.declared.tree.ExportClass.{ExportClass}
 use Rattle.cjc_export.proofs.Numbering.{length-insert_all}
 use Rattle.cjc_convert.specs.FirstForm.{PackageLine, shorts}
 use Rattle.cjc_convert.specs.Conversion.{exported}
+use Rattle.cjc_convert.specs.Above.{inherited}
+use Rattle.cjc_convert.proofs.Inheriting.{stand_by_token, length-by_token, length-method_needs, static_below}
 use Rattle.cjc_convert.proofs.Forms.{length-shorts}
 
 -- the descriptor of a method of shorts is a method's
@@ -45,10 +50,13 @@ pub record CanBeExported (line : PackageLine) : Type 0 where
   pub major : line.major < 256
   pub minor : line.minor < 256
 
-pub exported_writable : (line : PackageLine) (tree : ClassTree) (method : MethodTree) (params : ℕ) → CanBeExported line → length tree.name ≤ 65535 → length method.name ≤ 65535 → method.desc ≡ shorts params → params ≤ 15
-    → IsWritable (exported line tree method)
-unfolding needs class_tree_needs desc_of bad_at parts_of types_from after
-exported_writable line tree method params can class_name method_name desc few =
+pub exported_writable : (line : PackageLine) (root : ExportClass) (tree : ClassTree) (method : MethodTree) (params : ℕ) → CanBeExported line → AllByRecursion MethodFits root.methods
+    → length tree.name ≤ 65535 → length method.name ≤ 65535 → method.desc ≡ shorts params → params ≤ 15 → IsWritable (exported line root tree method)
+unfolding needs class_tree_needs
+exported_writable line root tree method params can fits class_name method_name desc few =
+    let own : ExportMethod = record { token = 0; flags = 0x0009; name = method.name; desc = method.desc } in
+    let count : length (inherited root) ≤ 128 = length-by_token 128 0 root.methods in
+    let stand = stand_by_token (suc (length (inherited root))) 128 0 (own ∷ []) root.methods (omega arith) fits (static_below own refl) in
     let name : length line.name ≤ 255 = can.name in
     let major : line.major < 256 = can.major in
     let minor : line.minor < 256 = can.minor in
@@ -73,10 +81,14 @@ exported_writable line tree method params can class_name method_name desc few =
           count = refl;
           methods = (
             (record { token = omega arith; flags = omega arith; name = omega arith; desc = omega arith; is_desc = ap (as_desc true) desc ∙ desc_is params few ∙ ap Some (sym desc) }, refl),
-            ((record { token = omega arith; flags = omega arith; name = omega arith; desc = omega arith; is_desc = refl }, refl), tt),
+            stand,
           );
         },
         tt,
       );
-      constants = let bound = length-insert_all [] (needs (exported line tree method)) in omega (arith, bound);
+      constants =
+          let bound = length-insert_all [] (needs (exported line root tree method)) in
+          let names = length-method_needs (inherited root) in
+          let whole : length (needs (exported line root tree method)) ≡ 8 + length (flat_map method_needs (inherited root)) = simp (length-append, append-nil) (omega arith) in
+          omega (arith, bound, names, whole, count);
     }

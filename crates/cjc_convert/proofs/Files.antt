@@ -21,6 +21,7 @@ use Rattle.cjc_code.specs.declared.decoding.Broken.{Broken}
 use Rattle.cjc_code.specs.Decoded.{of_method}
 use Rattle.cjc_code.specs.declared.method_code.MethodCode.{MethodCode}
 use Rattle.cjc_export.specs.ExportFile.{export_file}
+use Rattle.cjc_export.specs.Writable.{IsWritable}
 use Rattle.cjc_export.specs.declared.tree.ExportTree.{ExportTree}
 use Rattle.cjc_convert.specs.Codes.{codes_of_methods, codes_from, all_codes}
 use Rattle.cjc_bytes.specs.Order.{NotAfter}
@@ -43,9 +44,9 @@ fine line bytes (of_class tree) (is, spelt, whole) (no_instructions other method
     let same : other ≡ tree = one_value class_file bytes other tree again spelt in
     whole method offset (subst (λ (t : ClassTree). CodeBreaks t method 103 offset) same breaks)
 fine line bytes (of_class tree) (is, spelt, whole) (no_export_file place c breaks) = no_true line is c
-fine line bytes (of_export tree) (is, spelt) (no_class_file place c breaks) = no_true line c is
-fine line bytes (of_export tree) (is, spelt) (no_instructions other method offset c again breaks) = no_true line c is
-fine line bytes (of_export tree) (is, spelt) (no_export_file place c breaks) = spelt_or_broken export_file bytes tree place spelt breaks
+fine line bytes (of_export tree) (is, spelt, fits) (no_class_file place c breaks) = no_true line c is
+fine line bytes (of_export tree) (is, spelt, fits) (no_instructions other method offset c again breaks) = no_true line c is
+fine line bytes (of_export tree) (is, spelt, fits) (no_export_file place c breaks) = spelt_or_broken export_file bytes tree place spelt breaks
 
 -- an answer that memory ran out, or that the first rule of the file is broken
 stops : (line : FileLine) (bytes : List ℕ) (old new : Trees) (e : Fault) → (e ≡ faults.NoMemory) ⊎ ((r : Refusal) × (e ≡ faults.Refused r) × IsFirstInFile line bytes r) → ReadsFile line bytes old new (Err e)
@@ -406,6 +407,6 @@ class_read name bytes old tree items classes codes u before after spelt same dec
       (u, decoded.1, ap (λ cs. with cs codes after) pushed ∙ ap (λ ms. with put ms after) numbered ∙ ap (λ o. with put own o) first),
     )
 
-pub export_read : (line : FileLine) (bytes : List ℕ) (old : Trees) (tree : ExportTree) (exports : List ExportTree) → line.class_file ≡ false → FileSpells export_file tree bytes → exports ≡ old.exports ++ tree ∷ []
+pub export_read : (line : FileLine) (bytes : List ℕ) (old : Trees) (tree : ExportTree) (exports : List ExportTree) → line.class_file ≡ false → FileSpells export_file tree bytes → IsWritable tree → exports ≡ old.exports ++ tree ∷ []
     → ReadsFile line bytes old (record { classes = old.classes; exports = exports; codes = old.codes; unsupported = old.unsupported }) (Ok tt)
-export_read line bytes old tree exports is spelt pushed = (of_export tree, (is, spelt), ap (λ (es : List ExportTree). let t : Trees = record { classes = old.classes; exports = es; codes = old.codes; unsupported = old.unsupported } in t) pushed)
+export_read line bytes old tree exports is spelt fits pushed = (of_export tree, (is, spelt, fits), ap (λ (es : List ExportTree). let t : Trees = record { classes = old.classes; exports = es; codes = old.codes; unsupported = old.unsupported } in t) pushed)

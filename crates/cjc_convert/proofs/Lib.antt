@@ -12,7 +12,7 @@ mod Steps
 mod Known
 pub mod BehavesAlike
 mod Whole
-pub mod LangTree
+pub mod Inheriting
 pub mod Consistency
 pub mod Small
 pub mod Limits

@@ -20,12 +20,16 @@ use Rattle.cjc_capwrite.specs.Writable.{IsWritable}
 use Rattle.cjc_convert.specs.FirstForm.{PackageLine, IsFirstForm, ops_of}
 use Rattle.cjc_convert.specs.Selected.{header, selected_code}
 use Rattle.cjc_convert.specs.Converted.{tree_for, header_part, directory_part, import_part, pool_part, class_part, static_part, location_part, export_part, descriptor_part, method_bytes as method_of}
+use Rattle.cjc_export.specs.declared.tree.ExportClass.{ExportClass}
+use Rattle.cjc_export.specs.declared.tree.ExportTree.{ExportTree}
+use Rattle.cjc_convert.specs.Tests.{IsSmallImport}
 use Rattle.cjc_convert.proofs.Small.{code_length, header_length, packed_length}
 
 -- the names are short, the parameters few and the code not long
-pub record IsSmall (line : PackageLine) (params : ℕ) (ops : List JOp) : Type 0 where
+pub record IsSmall (line : PackageLine) (lang : ExportTree) (root : ExportClass) (params : ℕ) (ops : List JOp) : Type 0 where
   pub aid : length line.aid ≤ 255
   pub name : length line.name ≤ 255
+  pub import : IsSmallImport lang root
   pub few : params ≤ 15
   pub code : length (selected_code ops) ≤ 32767
 
@@ -54,21 +58,21 @@ header_long line a n =
     let whole : length (header_bytes (header_part line)) ≡ 10 + (length line.aid + suc (length line.name)) = simp (length-append, one_cell) (omega arith) in
     omega arith
 
-directory_length : (line : PackageLine) (params methods : ℕ) → length (directory_bytes (directory_part line params methods)) ≡ 33
+directory_length : (line : PackageLine) (aid : List ℕ) (params methods : ℕ) → length (directory_bytes (directory_part line aid params methods)) ≡ 33
 unfolding directory_bytes
-directory_length line params methods = refl
+directory_length line aid params methods = refl
 
-import_length : length (import_bytes import_part) ≡ 11
+import_length : (lang : ExportTree) → length (import_bytes (import_part lang)) ≡ 4 + length lang.aid
 unfolding import_bytes imported_package_bytes
-import_length = refl
+import_length lang = simp (length-append, one_cell) (omega arith)
 
 pool_length : length (pool_bytes pool_part) ≡ 2
 unfolding pool_bytes
 pool_length = refl
 
-class_length : length (class_info_bytes class_part) ≡ 12
+class_length : (root : ExportClass) → length (class_info_bytes (class_part root)) ≡ 12
 unfolding class_info_bytes class_entry_bytes
-class_length = refl
+class_length root = refl
 
 statics_length : length (static_field_bytes static_part) ≡ 10
 unfolding static_field_bytes
@@ -98,19 +102,19 @@ is_none false false x y e f = refl
 not_long : (bytes : List ℕ) → length bytes ≤ 65535 → is_long bytes ≡ false
 not_long bytes le = le-ltb 65535 (length bytes) le
 
-pub keeps_limits : (line : PackageLine) (params : ℕ) (code : CodeTree) (ops : List JOp) → IsSmall line params ops → limit_of (tree_for line params code ops) ≡ None
+pub keeps_limits : (line : PackageLine) (lang : ExportTree) (root : ExportClass) (params : ℕ) (code : CodeTree) (ops : List JOp) → IsSmall line lang root params ops → limit_of (tree_for line lang root params code ops) ≡ None
 unfolding tree_for
-keeps_limits line params code ops s =
-    let i = infos_of (tree_for line params code ops) in
+keeps_limits line lang root params code ops s =
+    let i = infos_of (tree_for line lang root params code ops) in
     let n = length (selected_code ops) in
     let methods = length (method_of params code ops) in
     let types : nat_lt 32767 (length i.types) ≡ false = le-ltb 32767 (length i.types) (types_length params n s.few) in
     let large : is_too_large i ≡ false =
-    neither _ _ (le-ltb 32767 (length i.class) (omega (arith, class_length)))
+    neither _ _ (le-ltb 32767 (length i.class) (omega (arith, class_length root)))
     (neither _ _ (not_long i.header (header_long line s.aid s.name))
-    (neither _ _ (not_long i.directory (omega (arith, directory_length line params methods)))
+    (neither _ _ (not_long i.directory (omega (arith, directory_length line lang.aid params methods)))
     (neither _ _ (not_long i.applet (omega arith))
-    (neither _ _ (not_long i.import (omega (arith, import_length)))
+    (neither _ _ (not_long i.import (let a = s.import.aid in omega (arith, a, import_length lang)))
     (neither _ _ (not_long i.pool (omega (arith, pool_length)))
     (neither _ _ (not_long i.statics (omega (arith, statics_length)))
     (neither _ _ (not_long i.locations (omega (arith, locations_length)))
@@ -118,25 +122,27 @@ keeps_limits line params code ops s =
     in
     is_none (nat_lt 32767 (length i.types)) (is_too_large i) 411 416 types large
 
-pub methods_short : (line : PackageLine) (params : ℕ) (code : CodeTree) (ops : List JOp) → IsSmall line params ops → length (part method_bytes (tree_for line params code ops).method) ≤ 65535
+pub methods_short : (line : PackageLine) (lang : ExportTree) (root : ExportClass) (params : ℕ) (code : CodeTree) (ops : List JOp) → IsSmall line lang root params ops → length (part method_bytes (tree_for line lang root params code ops).method) ≤ 65535
 unfolding tree_for method_bytes
-methods_short line params code ops s =
-    let whole : length (part method_bytes (tree_for line params code ops).method) ≡ 1 + length (method_of params code ops) = omega arith in
+methods_short line lang root params code ops s =
+    let whole : length (part method_bytes (tree_for line lang root params code ops).method) ≡ 1 + length (method_of params code ops) = omega arith in
     omega (arith, method_length params code ops s.code)
 
 all_fours : (n : ℕ) → AllByRecursion (λ k. k < 16) (replicate n 4)
 all_fours zero = tt
 all_fours (suc n) = (omega arith, all_fours n)
 
-pub is_writable : (line : PackageLine) (params : ℕ) (code : CodeTree) (ops : List JOp) → IsSmall line params ops → IsWritable (tree_for line params code ops)
+pub is_writable : (line : PackageLine) (lang : ExportTree) (root : ExportClass) (params : ℕ) (code : CodeTree) (ops : List JOp) → IsSmall line lang root params ops → IsWritable (tree_for line lang root params code ops)
 unfolding tree_for
-is_writable line params code ops s =
+is_writable line lang root params code ops s =
     let n = length (selected_code ops) in
     let m = length (method_of params code ops) in
     let short : n ≤ 32767 = s.code in
     let few : params ≤ 15 = s.few in
     let aid : length line.aid ≤ 255 = s.aid in
     let name : length line.name ≤ 255 = s.name in
+    let import_aid : length lang.aid ≤ 255 = s.import.aid in
+    let token : root.token ≤ 255 = s.import.token in
     let methods : m ≤ 32771 = method_length params code ops s.code in
     let count : length (replicate {A = ℕ} (params + 1) 4) ≡ params + 1 = length-replicate {A = ℕ} (params + 1) 4 in
     record {
@@ -192,10 +198,11 @@ is_writable line params code ops s =
     }
 
 -- a package of the form is small
-pub small_form : (line : PackageLine) (tree : ClassTree) (form : IsFirstForm line tree) → length line.aid ≤ 255 → IsSmall line form.params (ops_of form.insns)
-small_form line tree form aid = record {
+pub small_form : (line : PackageLine) (lang : ExportTree) (root : ExportClass) (tree : ClassTree) (form : IsFirstForm line tree) → length line.aid ≤ 255 → IsSmallImport lang root → IsSmall line lang root form.params (ops_of form.insns)
+small_form line lang root tree form aid import = record {
   aid = aid;
   name = form.short_name;
+  import = import;
   few = form.is_sum.few;
   code = let size = form.is_sum.is_sum.size in omega (arith, size, code_length (ops_of form.insns));
 }

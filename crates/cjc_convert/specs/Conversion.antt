@@ -1,5 +1,5 @@
 -- What a conversion makes of a list and the files that it names, or which rule they break first.
-use Rattle.std.specs.Prelude.{◌≡◌, ◌⊎◌, ℕ, ◌<◌, ◌≤◌, List, [], ◌∷◌, length, All, codes, true, false, None}
+use Rattle.std.specs.Prelude.{◌≡◌, ◌⊎◌, ℕ, ◌<◌, ◌≤◌, List, [], ◌∷◌, length, All, true, false, Some, None}
 use Rattle.cjc_bytes.specs.Format.{FileSpells}
 use Rattle.cjc_bytes.specs.Refused.{refusal}
 use Rattle.cjc_bytes.specs.declared.fault.Refusal.{Refusal}
@@ -9,7 +9,10 @@ use Rattle.cjc_classfile.specs.declared.tree.ClassTree.{ClassTree}
 use Rattle.cjc_list.specs.Listed.{ListTree}
 use Rattle.cjc_list.specs.Spelling.{IsSpelt as IsListSpelt}
 use Rattle.cjc_classfile.specs.declared.tree.MethodTree.{MethodTree}
+use Rattle.cjc_export.specs.declared.tree.ExportClass.{ExportClass}
 use Rattle.cjc_export.specs.declared.tree.ExportTree.{ExportTree}
+use Rattle.cjc_export.specs.Words.{is_interface}
+use Rattle.cjc_convert.specs.Above.{root_of, inherited}
 use Rattle.cjc_export.specs.ExportFile.{export_file}
 use Rattle.cjc_export.specs.Written.{written}
 use Rattle.cjc_capread.specs.declared.tree.CapTree.{CapTree}
@@ -21,8 +24,9 @@ use Rattle.cjc_convert.specs.Converted.{converted}
 use Rattle.cjc_convert.specs.FirstForm.{PackageLine, IsFirstForm, object}
 use Rattle.cjc_world.specs.Rules.{Break}
 use Rattle.cjc_convert.specs.Rules.{Breach, IsFirstBroken}
+use Rattle.cjc_convert.specs.Tests.{IsSmallImport}
+use Rattle.cjc_convert.specs.declared.form.Form.{Form}
 use Rattle.cjc_convert.specs.declared.conversion.Converted.{Converted}
-use Rattle.cjc_convert.specs.declared.lang.TheConstants.{LANG}
 
 -- Some text of fewer than 2 ^ 32 bytes spells this list.
 abbrev pub IsRead : ListTree → Type 0
@@ -38,19 +42,29 @@ IsPair lines files class export = (a b : FileLine) × (lines ≡ a ∷ b ∷ [])
     ((a.class_file ≡ true) × (b.class_file ≡ false) × (files ≡ class ∷ export ∷ []))
     ⊎ ((a.class_file ≡ false) × (b.class_file ≡ true) × (files ≡ export ∷ class ∷ [])))
 
--- The package is of the form that is converted: no applet, java/lang as it is known here as the only import,
--- and one class file, which spells a class of the form.
-pub record IsForm (list : ListTree) (files : List (List ℕ)) (tree : ClassTree) : Type 0 where
+-- The class is java/lang/Object of the export file, no interface, and nothing stands above it.
+pub record IsRoot (lang : ExportTree) (root : ExportClass) : Type 0 where
+  pub named : root_of lang ≡ Some root
+  pub is_class : is_interface root.flags ≡ false
+  pub supers : root.supers ≡ []
+  pub interfaces : root.interfaces ≡ []
+
+-- The package is of the form that is converted: no applet, one export file, which has such a java/lang/Object, and
+-- one class file, which spells a class of the form.
+pub record IsForm (list : ListTree) (files : List (List ℕ)) (lang : ExportTree) (root : ExportClass) (tree : ClassTree) : Type 0 where
   pub applets : list.applets ≡ []
-  pub bytes : List ℕ
-  pub pair : IsPair list.lines files bytes LANG
-  pub spelt : FileSpells class_file tree bytes
+  pub class : List ℕ
+  pub export : List ℕ
+  pub pair : IsPair list.lines files class export
+  pub lang_spelt : FileSpells export_file lang export
+  pub is_root : IsRoot lang root
+  pub spelt : FileSpells class_file tree class
   pub form : IsFirstForm (line_of list) tree
 
 -- No rule is broken, and the package is not of the form: that is not built yet.
 pub record IsNotBuilt (list : ListTree) (files : List (List ℕ)) : Type 0 where
   pub unbroken : (b : Break) → Breach list files b → ⊥
-  pub not_form : (tree : ClassTree) → IsForm list files tree → ⊥
+  pub not_form : (lang : ExportTree) (root : ExportClass) (tree : ClassTree) → IsForm list files lang root tree → ⊥
 
 -- the refusal of what is not built yet
 abbrev pub not_built : ListTree → Refusal
@@ -66,9 +80,9 @@ AreFiles files = All (λ bytes. length bytes < 4294967296) files
 
 -- ---- what is written
 
--- what the export file says: the class, its method, and the method that it has from java/lang/Object
-abbrev pub exported : PackageLine → ClassTree → MethodTree → ExportTree
-exported line tree method = record {
+-- what the export file says: the class, its method, and the methods that it inherits from java/lang/Object
+abbrev pub exported : PackageLine → (root : ExportClass) → ClassTree → MethodTree → ExportTree
+exported line root tree method = record {
   name = line.name;
   aid = line.aid;
   major = line.major;
@@ -81,55 +95,56 @@ exported line tree method = record {
     supers = object ∷ [];
     interfaces = [];
     fields = [];
-    methods = record { token = 0; flags = 0x0009; name = method.name; desc = method.desc }
-        ∷ record { token = 0; flags = 0x0001; name = codes "equals"; desc = codes "(Ljava/lang/Object;)Z" } ∷ [];
+    methods = record { token = 0; flags = 0x0009; name = method.name; desc = method.desc } ∷ inherited root;
   } ∷ [];
 }
 
 -- This is written for a package of the form.
-pub record IsMade (line : PackageLine) (tree : ClassTree) (form : IsFirstForm line tree) (made : Converted) : Type 0 where
-  pub caps : made.caps ≡ files_of (converted line tree form)
-  pub spelt : IsSpelt (converted line tree form) made.caps
-  pub export : made.export ≡ written (exported line tree form.method)
-  pub export_spelt : FileSpells export_file (exported line tree form.method) made.export
+pub record IsMade (line : PackageLine) (lang : ExportTree) (root : ExportClass) (tree : ClassTree) (form : IsFirstForm line tree) (made : Converted) : Type 0 where
+  pub caps : made.caps ≡ files_of (converted line lang root tree form)
+  pub spelt : IsSpelt (converted line lang root tree form) made.caps
+  pub export : made.export ≡ written (exported line root tree form.method)
+  pub export_spelt : FileSpells export_file (exported line root tree form.method) made.export
 
 -- The package breaks no rule and is of the form, and this is written for it.
 pub record IsConverted (list : ListTree) (files : List (List ℕ)) (made : Converted) : Type 0 where
   pub unbroken : (b : Break) → Breach list files b → ⊥
+  pub lang : ExportTree
+  pub root : ExportClass
   pub tree : ClassTree
-  pub form : IsForm list files tree
-  pub is_made : IsMade (line_of list) tree form.form made
+  pub form : IsForm list files lang root tree
+  pub is_made : IsMade (line_of list) lang root tree form.form made
 
 -- ---- whether the package is of the form
 
--- There is no applet, and one line is a class file's and the other the known export file's.
-abbrev pub HasPair : ListTree → List (List ℕ) → Type 0
-HasPair list files = (list.applets ≡ []) × ((bytes : List ℕ) × IsPair list.lines files bytes LANG)
-
--- The package is of the form, with this one class tree, so many parameters and these instructions.
-pub record FormOf (list : ListTree) (files : List (List ℕ)) (trees : List ClassTree) (params : ℕ) (insns : List JInsn) : Type 0 where
+-- what the code has of a package of the form
+pub record Parts : Type 0 where
+  pub lang : ExportTree
+  pub root : ExportClass
   pub tree : ClassTree
-  pub trees_are : trees ≡ tree ∷ []
-  pub form : IsForm list files tree
-  pub params_are : form.form.params ≡ params
-  pub insns_are : form.form.insns ≡ insns
+  pub params : ℕ
+  pub insns : List JInsn
 
-abbrev pub IsMadeFor : PackageLine → ClassTree → ℕ → List JInsn → Converted → Type 0
-IsMadeFor line tree params insns made = (form : IsFirstForm line tree) × (form.params ≡ params) × (form.insns ≡ insns) × IsMade line tree form made
+abbrev pub parts_of : Form → Parts
+parts_of f = record { lang = f.lang.now; root = f.root.now; tree = f.tree.now; params = f.params; insns = f.insns.now }
 
--- The line is an export file's, and the file is the known one.
-abbrev pub IsLang : FileLine → List ℕ → Type 0
-IsLang line bytes = (line.class_file ≡ false) × (bytes ≡ LANG)
+-- The package is of the form, with these parts.
+pub record FormOf (list : ListTree) (files : List (List ℕ)) (parts : Parts) : Type 0 where
+  pub form : IsForm list files parts.lang parts.root parts.tree
+  pub params_are : form.form.params ≡ parts.params
+  pub insns_are : form.form.insns ≡ parts.insns
+  pub small : IsSmallImport parts.lang parts.root
 
-abbrev pub IsSomePair : List FileLine → List (List ℕ) → Type 0
-IsSomePair lines files = (bytes : List ℕ) × IsPair lines files bytes LANG
+abbrev pub IsMadeFor : PackageLine → Parts → Converted → Type 0
+IsMadeFor line parts made =
+    (form : IsFirstForm line parts.tree) × (form.params ≡ parts.params) × (form.insns ≡ parts.insns) × IsMade line parts.lang parts.root parts.tree form made
 
--- The components are those of a package of the form with so many parameters and these instructions.
-pub record IsCapOf (line : PackageLine) (tree : ClassTree) (params : ℕ) (insns : List JInsn) (cap : CapTree) : Type 0 where
-  pub form : IsFirstForm line tree
-  pub params_are : form.params ≡ params
-  pub insns_are : form.insns ≡ insns
-  pub is : cap ≡ converted line tree form
+-- The components are those of a package of the form with these parts.
+pub record IsCapOf (line : PackageLine) (parts : Parts) (cap : CapTree) : Type 0 where
+  pub form : IsFirstForm line parts.tree
+  pub params_are : form.params ≡ parts.params
+  pub insns_are : form.insns ≡ parts.insns
+  pub is : cap ≡ converted line parts.lang parts.root parts.tree form
 
 -- The components can be written and keep the limits.
 pub record IsWithinLimits (cap : CapTree) : Type 0 where
@@ -138,8 +153,8 @@ pub record IsWithinLimits (cap : CapTree) : Type 0 where
   pub methods : length (part method_bytes cap.method) ≤ 65535
 
 -- The bytes are those of the export file of a package of the form.
-pub record IsExportOf (line : PackageLine) (tree : ClassTree) (bytes : List ℕ) : Type 0 where
+pub record IsExportOf (line : PackageLine) (root : ExportClass) (tree : ClassTree) (bytes : List ℕ) : Type 0 where
   pub method : MethodTree
   pub methods : tree.methods ≡ method ∷ []
-  pub is : bytes ≡ written (exported line tree method)
-  pub spelt : FileSpells export_file (exported line tree method) bytes
+  pub is : bytes ≡ written (exported line root tree method)
+  pub spelt : FileSpells export_file (exported line root tree method) bytes

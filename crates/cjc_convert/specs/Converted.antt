@@ -15,12 +15,11 @@ use Rattle.cjc_capread.specs.declared.tree.CapTree.{CapTree}
 use Rattle.cjc_classfile.specs.declared.tree.ClassTree.{ClassTree}
 use Rattle.cjc_classfile.specs.Code.{CodeTree}
 use Rattle.cjc_code.specs.declared.insn.JOp.{JOp}
+use Rattle.cjc_export.specs.declared.tree.ExportClass.{ExportClass}
+use Rattle.cjc_export.specs.declared.tree.ExportTree.{ExportTree}
+use Rattle.cjc_convert.specs.Above.{free_token}
 use Rattle.cjc_convert.specs.FirstForm.{PackageLine, IsFirstForm, ops_of}
 use Rattle.cjc_convert.specs.Selected.{header, selected_code}
-
--- the AID of java/lang
-abbrev pub lang_aid : List ℕ
-lang_aid = 0xA0 ∷ 0 ∷ 0 ∷ 0 ∷ 0x62 ∷ 0 ∷ 1 ∷ []
 
 -- the bytes of the method: its header and its code
 abbrev pub method_bytes : (params : ℕ) → CodeTree → List JOp → List ℕ
@@ -30,18 +29,20 @@ abbrev pub header_part : PackageLine → Header
 header_part line = record { flags = 2; minor = line.minor; major = line.major; aid = line.aid; name = line.name }
 
 -- the sizes of the components, tags 1 to 12
-abbrev pub sizes : PackageLine → (params methods : ℕ) → List ℕ
-sizes line params methods =
+abbrev pub sizes : PackageLine → (lang_aid : List ℕ) → (params methods : ℕ) → List ℕ
+sizes line lang_aid params methods =
     (11 + length line.aid + length line.name)
-    ∷ 33 ∷ 0 ∷ 11 ∷ 2 ∷ 12
+    ∷ 33 ∷ 0
+    ∷ (4 + length lang_aid)
+    ∷ 2 ∷ 12
     ∷ (1 + methods)
     ∷ 10 ∷ 4 ∷ 7
     ∷ (25 + (params + 2) / 2)
     ∷ 0 ∷ []
 
-abbrev pub directory_part : PackageLine → (params methods : ℕ) → Directory
-directory_part line params methods = record {
-  component_sizes = sizes line params methods;
+abbrev pub directory_part : PackageLine → (lang_aid : List ℕ) → (params methods : ℕ) → Directory
+directory_part line lang_aid params methods = record {
+  component_sizes = sizes line lang_aid params methods;
   image_size = 0;
   array_init_count = 0;
   array_init_size = 0;
@@ -49,23 +50,23 @@ directory_part line params methods = record {
   applet_count = 0;
 }
 
-abbrev pub import_part : Import
-import_part = record { packages = record { minor = 0; major = 1; aid = lang_aid } ∷ [] }
+abbrev pub import_part : ExportTree → Import
+import_part lang = record { packages = record { minor = lang.minor; major = lang.major; aid = lang.aid } ∷ [] }
 
 abbrev pub pool_part : ConstantPool
 pool_part = record { entries = [] }
 
--- one class, a subclass of the first class of the first import, whose virtual methods have token 0
-abbrev pub class_part : ClassInfo
-class_part = record {
+-- one class without virtual methods, a subclass of this class of the first import
+abbrev pub class_part : (root : ExportClass) → ClassInfo
+class_part root = record {
   interfaces = [];
   classes = record {
     flags = 0;
-    superclass = Outside 0 0;
+    superclass = Outside 0 root.token;
     declared_instance_size = 0;
     first_reference_token = 0xFF;
     reference_count = 0;
-    public_base = 1;
+    public_base = free_token root.methods;
     package_base = 0;
     public_methods = [];
     package_methods = [];
@@ -109,15 +110,15 @@ descriptor_part params code_bytes = record {
   types = record { nibbles = replicate (params + 1) 4 } ∷ [];
 }
 
--- the components for a code of these instructions
-unfoldable pub tree_for : PackageLine → (params : ℕ) → CodeTree → List JOp → CapTree
-tree_for line params code ops = record {
+-- the components for a code of these instructions, of a class below a class of this export file
+unfoldable pub tree_for : PackageLine → ExportTree → (root : ExportClass) → (params : ℕ) → CodeTree → List JOp → CapTree
+tree_for line lang root params code ops = record {
   header = header_part line;
-  directory = directory_part line params (length (method_bytes params code ops));
+  directory = directory_part line lang.aid params (length (method_bytes params code ops));
   applet = None;
-  import = Some import_part;
+  import = Some (import_part lang);
   pool = Some pool_part;
-  class = Some class_part;
+  class = Some (class_part root);
   method = Some (method_part (method_bytes params code ops));
   statics = Some static_part;
   locations = Some location_part;
@@ -126,5 +127,5 @@ tree_for line params code ops = record {
 }
 
 -- The components that are written for a package of the form.
-abbrev pub converted : (line : PackageLine) (tree : ClassTree) → IsFirstForm line tree → CapTree
-converted line tree form = tree_for line form.params form.code (ops_of form.insns)
+abbrev pub converted : (line : PackageLine) (lang : ExportTree) (root : ExportClass) (tree : ClassTree) → IsFirstForm line tree → CapTree
+converted line lang root tree form = tree_for line lang root form.params form.code (ops_of form.insns)

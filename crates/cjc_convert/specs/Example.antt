@@ -7,6 +7,7 @@ use Rattle.cjc_classfile.specs.Code.{CodeTree}
 use Rattle.cjc_code.specs.declared.insn.JInsn.{JInsn}
 use Rattle.cjc_code.specs.declared.insn.JOp.TheVariants.{Number, Load, Arith, Narrow, Return}
 use Rattle.cjc_bytes.specs.declared.fault.MemberId.{MemberId}
+use Rattle.cjc_export.specs.declared.tree.ExportClass.{ExportClass}
 use Rattle.cjc_export.specs.declared.tree.ExportTree.{ExportTree}
 use Rattle.cjc_script.specs.declared.script.Script.{Script}
 use Rattle.cjc_script.specs.declared.script.Act.TheVariants.{Array, Object, Put}
@@ -42,6 +43,30 @@ example_class = record {
   fields = [];
   methods = example_method ∷ [];
   attributes = 0;
+}
+
+-- java/lang/Object of token 0, with its constructor and `equals`
+abbrev pub example_root : ExportClass
+example_root = record {
+  token = 0;
+  flags = 0x0001;
+  name = object;
+  supers = [];
+  interfaces = [];
+  fields = [];
+  methods = record { token = 0; flags = 0x0001; name = codes "<init>"; desc = codes "()V" }
+      ∷ record { token = 0; flags = 0x0001; name = codes "equals"; desc = codes "(Ljava/lang/Object;)Z" } ∷ [];
+}
+
+-- java/lang with that class
+abbrev pub example_lang : ExportTree
+example_lang = record {
+  name = codes "java/lang";
+  aid = 0xA0 ∷ 0 ∷ 0 ∷ 0 ∷ 0x62 ∷ 0 ∷ 1 ∷ [];
+  major = 1;
+  minor = 0;
+  library = true;
+  classes = example_root ∷ [];
 }
 
 -- f(S)S of p/T

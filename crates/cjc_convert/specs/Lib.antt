@@ -1,4 +1,5 @@
 pub mod FirstForm
+pub mod Above
 pub mod Selected
 pub mod Converted
 pub mod Example

@@ -1,6 +1,10 @@
 -- Parts of the form that are tested together.
 use Rattle.std.specs.Prelude.{◌≡◌, ℕ, ◌≤◌, ◌⊎◌, ◌∷◌, ◌++◌, List, [], drop, length, sum_by, Bool, true, nat_lt}
-use Rattle.std.specs.List.{list_all, list_any}
+use Rattle.std.specs.List.{list_all, list_any, AllByRecursion}
+use Rattle.cjc_export.specs.Writable.{MethodFits}
+use Rattle.cjc_export.specs.declared.tree.ExportClass.{ExportClass}
+use Rattle.cjc_export.specs.declared.tree.ExportTree.{ExportTree}
+use Rattle.cjc_convert.specs.Above.{free_token}
 use Rattle.cjc_classfile.specs.Code.{CodeTree}
 use Rattle.cjc_classfile.specs.declared.tree.ClassTree.{ClassTree}
 use Rattle.cjc_code.specs.declared.insn.JInsn.{JInsn}
@@ -65,6 +69,13 @@ pub record IsFormWith (line : PackageLine) (tree : ClassTree) (params : ℕ) (in
 abbrev pub has_byte_local : JOp → Bool
 has_byte_local (Load refs l) = nat_lt l 256
 has_byte_local op = true
+
+-- The AID of an export file and the tokens of its class fit their fields, and so do its methods.
+pub record IsSmallImport (lang : ExportTree) (root : ExportClass) : Type 0 where
+  pub aid : length lang.aid ≤ 255
+  pub token : root.token ≤ 255
+  pub free : free_token root.methods ≤ 255
+  pub methods : AllByRecursion MethodFits root.methods
 
 -- The numbers of the header are small.
 pub record HasSmallFrame (params : ℕ) (code : CodeTree) : Type 0 where

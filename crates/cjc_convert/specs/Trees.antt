@@ -11,6 +11,7 @@ use Rattle.cjc_code.specs.Decoded.{decoding_at, refusal_of as code_refusal_of}
 use Rattle.cjc_code.specs.declared.insn.JInsn.{JInsn}
 use Rattle.cjc_code.specs.declared.method_code.MethodCode.{MethodCode}
 use Rattle.cjc_export.specs.ExportFile.{export_file}
+use Rattle.cjc_export.specs.Writable.{IsWritable}
 use Rattle.cjc_convert.specs.Codes.{all_codes, codes_of_methods}
 use Rattle.cjc_convert.specs.Rules.{CodeBreaks, FileBreach, file_refusal, file_rank, Foreign, BreaksFile, BreaksForeign, IsFirstRefused}
 use Rattle.cjc_convert.specs.Spelt.{FileTree, of_class, of_export, classes_of, exports_of}
@@ -22,10 +23,10 @@ use Rattle.cjc_convert.specs.declared.reading.Trees.{Trees}
 abbrev pub AreInstructions : ClassTree → Type 0
 AreInstructions tree = (method offset : ℕ) → CodeBreaks tree method 103 offset → ⊥
 
--- The file of the line spells this, and breaks no rule of the first hundred.
+-- The file of the line spells this, and breaks no rule of the first hundred. An export tree that was read can be written.
 abbrev pub FileIs : FileLine → List ℕ → FileTree → Type 0
 FileIs line bytes (of_class tree) = (line.class_file ≡ true) × FileSpells class_file tree bytes × AreInstructions tree
-FileIs line bytes (of_export tree) = (line.class_file ≡ false) × FileSpells export_file tree bytes
+FileIs line bytes (of_export tree) = (line.class_file ≡ false) × FileSpells export_file tree bytes × IsWritable tree
 
 -- The files of the lines are these, in list order.
 abbrev pub AllSpelt : List FileLine → List (List ℕ) → List FileTree → Type 0

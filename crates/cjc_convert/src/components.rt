@@ -4,10 +4,13 @@ ghost use Rattle.std.specs.Prelude.{◌≡◌, ◌+◌, ◌-◌, ◌≤◌, ◌�
 ghost use Rattle.std.specs.List.{list_all};
 ghost use Rattle.cjc_convert.specs.FirstForm.{ops_of};
 ghost use Rattle.cjc_convert.specs.Conversion.{line_of};
-ghost use Rattle.cjc_convert.specs.Tests.{has_byte_local, HasSmallFrame};
+ghost use Rattle.cjc_convert.specs.Tests.{has_byte_local, HasSmallFrame, IsSmallImport};
 ghost use Rattle.cjc_convert.specs.Selected.{selected_code, header as header_lem};
-ghost use Rattle.cjc_convert.specs.Converted.{tree_for as tree_for_lem, header_part, sizes as sizes_lem, directory_part, import_part, pool_part, class_part, static_part, location_part, export_part, descriptor_part, lang_aid};
+ghost use Rattle.cjc_convert.specs.Converted.{tree_for as tree_for_lem, header_part, sizes as sizes_lem, directory_part, import_part, pool_part, class_part, static_part, location_part, export_part, descriptor_part};
+ghost use Rattle.cjc_convert.specs.Above.{free_token};
 
+use crate::above::free_token;
+use crate::form::Form;
 use crate::selected::{put_code, put_header};
 use cjc_bytes::{Bytes, NoMemory, Out, Row};
 use cjc_capread::{
@@ -17,6 +20,7 @@ use cjc_capread::{
 };
 use cjc_classfile::Code;
 use cjc_code::JInsn;
+use cjc_export::{ExportClass, ExportTree};
 use cjc_list::List;
 use std::alloc::Global;
 
@@ -59,48 +63,64 @@ fn sizes(
     alloc: Global,
     name: &[u8],
     aid: &[u8],
+    lang_aid: &[u8],
     params: u8,
     methods: &[u8],
 ) -> Result<Row<u64>, NoMemory>
     requires name { length name.now ≤ 255 }
     requires aid { length aid.now ≤ 255 }
-    ensures { IfOk result (λ row. row ≡ sizes_lem (record { name = name.now; aid = aid.now; major = 0; minor = 0 }) params (length methods.now)) }
+    requires lang_aid { length lang_aid.now ≤ 255 }
+    ensures { IfOk result (λ row. row ≡ sizes_lem (record { name = name.now; aid = aid.now; major = 0; minor = 0 }) lang_aid.now params (length methods.now)) }
 {
     let header = 11 + aid.len() as u64 + name.len() as u64;
+    let import = 4 + lang_aid.len() as u64;
     let method = 1 + methods.len() as u64;
     let types = (u64::from(params) + 2) / 2;
-    let all = vec![in alloc; header, 33, 0, 11, 2, 12, method, 10, 4, 7, 25 + types, 0]?;
+    let all = vec![in alloc;
+        header,
+        33,
+        0,
+        import,
+        2,
+        12,
+        method,
+        10,
+        4,
+        7,
+        25 + types,
+        0,
+    ]?;
     Ok(Row::of(all))
 }
 
-fn import(alloc: Global) -> Result<Import, NoMemory>
-    ensures { IfOk result (λ part. part ≡ import_part) }
+fn import(alloc: Global, lang: &ExportTree) -> Result<Import, NoMemory>
+    ensures { IfOk result (λ part. part ≡ import_part lang.now) }
 {
-    let aid = Bytes::copy_of(alloc, &[0xA0, 0, 0, 0, 0x62, 0, 1])?;
-    let lang = ImportedPackage {
-        minor: 0,
-        major: 1,
-        aid,
+    let package = ImportedPackage {
+        minor: lang.minor,
+        major: lang.major,
+        aid: Bytes::copy_of(alloc, lang.aid.items())?,
     };
     Ok(Import {
-        packages: one(alloc, lang)?,
+        packages: one(alloc, package)?,
     })
 }
 
-// One class, a subclass of the first class of the first import.
-fn class(alloc: Global) -> Result<ClassInfo, NoMemory>
-    ensures { IfOk result (λ part. part ≡ class_part) }
+// One class, a subclass of this class of the first import.
+fn class(alloc: Global, root: &ExportClass) -> Result<ClassInfo, NoMemory>
+    requires { free_token root.now.methods ≤ 255 }
+    ensures { IfOk result (λ part. part ≡ class_part root.now) }
 {
     let class = ClassEntry {
         flags: 0,
         superclass: ClassRef::Outside {
             package: 0,
-            class: 0,
+            class: root.token,
         },
         declared_instance_size: 0,
         first_reference_token: 0xFF,
         reference_count: 0,
-        public_base: 1,
+        public_base: free_token(root.methods.items()) as u8,
         package_base: 0,
         public_methods: Row::new(alloc),
         package_methods: Row::new(alloc),
@@ -185,36 +205,37 @@ fn descriptor(alloc: Global, params: u8, code_bytes: u64) -> Result<Descriptor, 
     })
 }
 
-/// The components of a package of this name, AID and version with one class, whose one method has so many
-/// parameters, this code and these instructions.
+/// The components of a package of this name, AID and version with one class, whose one method has this code, and
+/// the parameters and instructions of the form.
 #[tactic(auto, unfolding(crate::specs::Converted::tree_for))]
 pub(crate) fn tree_for(
     alloc: Global,
     list: &List,
-    params: u8,
+    form: &Form<'_, '_>,
     code: &Code<'_>,
-    insns: &[JInsn],
 ) -> Result<CapTree, NoMemory>
     requires name { length list.now.«package» ≤ 255 }
     requires aid { length list.now.aid ≤ 255 }
-    requires params { params ≤ 15 }
-    requires frame { HasSmallFrame params code.now }
-    requires locals { list_all has_byte_local (ops_of insns.now) ≡ true }
-    ensures { IfOk result (λ tree. tree ≡ tree_for_lem (line_of list.now) params code.now (ops_of insns.now)) }
+    requires import { IsSmallImport form.now.lang.now form.now.root.now }
+    requires params { form.now.params ≤ 15 }
+    requires frame { HasSmallFrame form.now.params code.now }
+    requires locals { list_all has_byte_local (ops_of form.now.insns.now) ≡ true }
+    ensures { IfOk result (λ tree. tree ≡ tree_for_lem (line_of list.now) form.now.lang.now form.now.root.now form.now.params code.now (ops_of form.now.insns.now)) }
 {
-    let written = code_bytes(alloc, insns)?;
+    let params = form.params;
+    let written = code_bytes(alloc, form.insns)?;
     let bytes = method_bytes(alloc, params, code, written.items())?;
-    let directory = directory(alloc, list, params, bytes.items())?;
+    let directory = directory(alloc, list, form.lang, params, bytes.items())?;
     let descriptor = descriptor(alloc, params, written.items().len() as u64)?;
     Ok(CapTree {
         header: header(alloc, list)?,
         directory,
         applet: None,
-        import: Some(import(alloc)?),
+        import: Some(import(alloc, form.lang)?),
         pool: Some(ConstantPool {
             entries: Row::new(alloc),
         }),
-        class: Some(class(alloc)?),
+        class: Some(class(alloc, form.root)?),
         method: Some(Method {
             handlers: Row::new(alloc),
             methods: bytes,
@@ -238,16 +259,24 @@ fn header(alloc: Global, list: &List) -> Result<Header, NoMemory>
     })
 }
 
-fn directory(alloc: Global, list: &List, params: u8, methods: &[u8]) -> Result<Directory, NoMemory>
+fn directory(
+    alloc: Global,
+    list: &List,
+    lang: &ExportTree,
+    params: u8,
+    methods: &[u8],
+) -> Result<Directory, NoMemory>
     requires name { length list.now.«package» ≤ 255 }
     requires aid { length list.now.aid ≤ 255 }
-    ensures { IfOk result (λ part. part ≡ directory_part (line_of list.now) params (length methods.now)) }
+    requires lang_aid { length lang.now.aid ≤ 255 }
+    ensures { IfOk result (λ part. part ≡ directory_part (line_of list.now) lang.now.aid params (length methods.now)) }
 {
     Ok(Directory {
         component_sizes: sizes(
             alloc,
             list.package.items(),
             list.aid.items(),
+            lang.aid.items(),
             params,
             methods,
         )?,

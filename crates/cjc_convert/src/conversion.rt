@@ -1,30 +1,31 @@
 //! The conversion: what is written for a package, or the first broken rule.
 
-ghost use Rattle.std.specs.Prelude.{◌≡◌, ◌⊎◌, ◌≤◌, ◌↔◌, [], IsTrue, length, IfOk, IfErr, IfSome, IfNone, OnOk};
+ghost use Rattle.std.specs.Prelude.{◌≡◌, ◌⊎◌, ◌≤◌, ℕ, List as Items, [], length, IfOk, IfErr, IfSome, IfNone, OnOk};
+ghost use Rattle.std.specs.List.{AllByRecursion};
 ghost use Rattle.cjc_bytes.specs.declared.fault.Fault.TheVariants as faults;
 ghost use Rattle.cjc_bytes.specs.declared.fault.Refusal.{Refusal as Broken};
-ghost use Rattle.cjc_classfile.specs.declared.tree.ClassTree.{ClassTree as Tree};
 ghost use Rattle.cjc_capwrite.specs.Files.{files_of};
 ghost use Rattle.cjc_capwrite.specs.Writable.{IsSpelt};
 ghost use Rattle.cjc_convert.specs.FirstForm.{IsFirstForm};
-ghost use Rattle.cjc_convert.specs.Codes.{first_insns};
-ghost use Rattle.cjc_convert.specs.Tests.{IsFormWith};
+ghost use Rattle.cjc_convert.specs.Codes.{all_codes};
+ghost use Rattle.cjc_convert.specs.Tests.{IsFormWith, IsSmallImport};
+ghost use Rattle.cjc_export.specs.Writable.{MethodFits};
 ghost use Rattle.cjc_world.specs.Rules.{Break, breaks, IsFirstRefusal};
 ghost use Rattle.cjc_convert.specs.Rules.{Breach, world_files};
 ghost use Rattle.cjc_convert.specs.Trees.{AreRead, read_of};
-ghost use Rattle.cjc_convert.specs.Conversion.{IsRead, AreFiles, IsLang, IsSomePair, HasPair, IsForm, FormOf, IsCapOf, IsWithinLimits, IsExportOf, IsMadeFor, IsConverted, IsRefused, line_of};
+ghost use Rattle.cjc_convert.specs.Conversion.{IsRead, AreFiles, IsForm, Parts, parts_of, FormOf, IsCapOf, IsWithinLimits, IsExportOf, IsMadeFor, IsConverted, IsRefused, line_of};
 
+use crate::above::root_of;
 use crate::components::tree_for;
 use crate::exported::exported;
-use crate::form::first_form;
-use crate::lang::LANG;
+use crate::form::{Form, first_form};
 use crate::reading::{Trees, read_files};
 use cjc_bytes::{Bytes, Fault, FileLine, NoMemory, Row, refused};
 use cjc_capread::CapTree;
 use cjc_capwrite::CapFiles;
 use cjc_classfile::ClassTree;
-use cjc_code::{JInsn, MethodCode};
-use cjc_export::ExportTree;
+use cjc_code::MethodCode;
+use cjc_export::{ExportClass, ExportTree};
 use cjc_list::List;
 use cjc_world::World;
 use std::alloc::Global;
@@ -38,64 +39,46 @@ pub struct Converted {
     pub export: Bytes,
 }
 
-// Whether the line is an export file's and the file is the known one.
-fn is_lang(line: &FileLine, bytes: &[u8]) -> bool
-    ensures { IsTrue result ↔ IsLang line.now bytes.now }
+// The package by its parts, where it is of the form.
+fn form_of<'w, 'a>(
+    list: &List,
+    world: &'w World<'a>,
+    codes: &'w [MethodCode],
+) -> Option<Form<'w, 'a>>
+    requires { codes.now ≡ all_codes world.now.classes }
+    ensures found { (files : Items (Items ℕ)) → AreRead list.now.lines files (read_of world.now codes.now) → IfSome result (λ form. FormOf list.now files (parts_of form)) }
+    ensures none { (files : Items (Items ℕ)) → AreRead list.now.lines files (read_of world.now codes.now) → IfNone result ((parts : Parts) → IsForm list.now files parts.lang parts.root parts.tree → ⊥) }
 {
-    !line.class_file && bytes == LANG.as_slice()
-}
-
-// Whether one of two lines is a class file's and the other the known export file's.
-fn is_pair(lines: &[FileLine], files: &[Bytes]) -> bool
-    ensures { IsTrue result ↔ IsSomePair lines.now files.now }
-{
-    match lines {
-        [a, b] => match files {
-            [x, y] => {
-                (a.class_file && is_lang(b, y.items())) || (b.class_file && is_lang(a, x.items()))
-            }
-            _ => false,
-        },
-        _ => false,
-    }
-}
-
-fn has_pair(list: &List, files: &[Bytes]) -> bool
-    ensures { IsTrue result ↔ HasPair list.now files.now }
-{
-    list.applets.items().is_empty() && is_pair(list.lines.items(), files)
-}
-
-// The number of parameters, where the package is of the form.
-fn form_of(list: &List, files: &[Bytes], world: &World<'_>, codes: &[MethodCode]) -> Option<u8>
-    requires { AreRead list.now.lines files.now (read_of world.now codes.now) }
-    ensures found { IfSome result (λ params. FormOf list.now files.now world.now.classes params (first_insns codes.now)) }
-    ensures none { IfNone result ((tree : Tree) → IsForm list.now files.now tree → ⊥) }
-{
-    if !has_pair(list, files) {
+    if !list.applets.items().is_empty() {
         return None;
     }
-    let [class] = world.classes().items() else {
+    let [tree] = world.classes().items() else {
         return None;
     };
-    first_form(list.package.items(), class, codes)
+    let [lang] = world.exports().items() else {
+        return None;
+    };
+    let root = root_of(lang)?;
+    let params = first_form(list.package.items(), tree, codes)?;
+    Some(Form {
+        lang,
+        root,
+        tree,
+        params,
+        insns: codes[0].insns.items(),
+    })
 }
 
 // The components of a package of the form, as trees.
-fn cap_of(
-    alloc: Global,
-    list: &List,
-    tree: &ClassTree<'_>,
-    params: u8,
-    insns: &[JInsn],
-) -> Result<CapTree, NoMemory>
-    requires form { IsFormWith (line_of list.now) tree.now params insns.now }
+fn cap_of(alloc: Global, list: &List, form: &Form<'_, '_>) -> Result<CapTree, NoMemory>
+    requires form { IsFormWith (line_of list.now) form.now.tree.now form.now.params form.now.insns.now }
+    requires import { IsSmallImport form.now.lang.now form.now.root.now }
     requires aid { length list.now.aid ≤ 255 }
-    ensures { IfOk result (IsCapOf (line_of list.now) tree.now params insns.now) }
+    ensures { IfOk result (IsCapOf (line_of list.now) (parts_of form.now)) }
 {
-    let method = &tree.methods.items()[0];
+    let method = &form.tree.methods.items()[0];
     let code = method.code.as_ref().unwrap();
-    tree_for(alloc, list, params, code, insns)
+    tree_for(alloc, list, form, code)
 }
 
 // Writes components that keep all limits.
@@ -108,32 +91,33 @@ fn caps_of(alloc: Global, list: &List, cap: &CapTree) -> Result<CapFiles, Fault>
 }
 
 // Writes the export file of a package of the form.
-fn export_of(alloc: Global, list: &List, tree: &ClassTree<'_>) -> Result<Bytes, NoMemory>
+fn export_of(
+    alloc: Global,
+    list: &List,
+    root: &ExportClass,
+    tree: &ClassTree<'_>,
+) -> Result<Bytes, NoMemory>
     requires form { IsFirstForm (line_of list.now) tree.now }
+    requires methods { AllByRecursion MethodFits root.now.methods }
     requires aid { (5 ≤ length list.now.aid) × (length list.now.aid ≤ 16) }
-    ensures { IfOk result (IsExportOf (line_of list.now) tree.now) }
+    ensures { IfOk result (IsExportOf (line_of list.now) root.now tree.now) }
 {
-    let (_major, _minor) = (list.major, list.minor);
-    let export = exported(alloc, list, tree, &tree.methods.items()[0])?;
+    let method = &tree.methods.items()[0];
+    let export = exported(alloc, list, root, tree, method)?;
     cjc_export::write(alloc, &export)
 }
 
-// Writes the components and the export file of a package of the form.
-fn made_for(
-    alloc: Global,
-    list: &List,
-    tree: &ClassTree<'_>,
-    params: u8,
-    insns: &[JInsn],
-) -> Result<Converted, Fault>
-    requires form { IsFormWith (line_of list.now) tree.now params insns.now }
+// What is written for a package of the form.
+fn made_for(alloc: Global, list: &List, form: &Form<'_, '_>) -> Result<Converted, Fault>
+    requires form { IsFormWith (line_of list.now) form.now.tree.now form.now.params form.now.insns.now }
+    requires import { IsSmallImport form.now.lang.now form.now.root.now }
     requires aid { (5 ≤ length list.now.aid) × (length list.now.aid ≤ 16) }
-    ensures made { IfOk result (IsMadeFor (line_of list.now) tree.now params insns.now) }
+    ensures made { IfOk result (IsMadeFor (line_of list.now) (parts_of form.now)) }
     ensures memory { IfErr result (λ e. e ≡ faults.NoMemory) }
 {
-    let cap = cap_of(alloc, list, tree, params, insns)?;
+    let cap = cap_of(alloc, list, form)?;
     let caps = caps_of(alloc, list, &cap)?;
-    let export = export_of(alloc, list, tree)?;
+    let export = export_of(alloc, list, form.root, form.tree)?;
     Ok(Converted { caps, export })
 }
 
@@ -187,12 +171,8 @@ fn convert_unbroken(
     ensures converted { IfOk result (IsConverted list.now files.now) }
     ensures refused { IfErr result (λ e. (e ≡ faults.NoMemory) ⊎ ((r : Broken) × IsRefused list.now files.now r × (e ≡ faults.Refused r))) }
 {
-    match form_of(list, files, world, codes) {
-        Some(params) => {
-            let class = &world.classes().items()[0];
-            let insns = codes[0].insns.items();
-            made_for(alloc, list, class, params, insns)
-        }
+    match form_of(list, world, codes) {
+        Some(form) => made_for(alloc, list, &form),
         None => Err(refused(alloc, list.name.items(), 801, 0)),
     }
 }

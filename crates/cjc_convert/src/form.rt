@@ -10,6 +10,21 @@ ghost use Rattle.cjc_convert.specs.FirstForm.{PackageLine, IsFirstForm, IsPart, 
 
 use cjc_classfile::{ClassTree, Code, MethodTree, PoolItem};
 use cjc_code::{JInsn, JOp, MethodCode};
+use cjc_export::{ExportClass, ExportTree};
+
+/// A package of the form, by its parts.
+#[derive(Clone, Copy)]
+pub(crate) struct Form<'w, 'a> {
+    /// The export file.
+    pub(crate) lang: &'w ExportTree,
+    /// Its class java/lang/Object.
+    pub(crate) root: &'w ExportClass,
+    pub(crate) tree: &'w ClassTree<'a>,
+    /// The number of parameters of the method.
+    pub(crate) params: u8,
+    /// The instructions of the method.
+    pub(crate) insns: &'w [JInsn],
+}
 
 // A digit, a letter, `_` or `$`.
 fn is_name_byte(c: u8) -> bool

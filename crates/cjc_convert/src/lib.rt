@@ -2,6 +2,7 @@
 //! file, or the first broken rule.
 #![tactic(auto)]
 
+mod above;
 mod alike;
 mod components;
 mod consistent;
@@ -9,7 +10,6 @@ mod conversion;
 mod example;
 mod exported;
 mod form;
-mod lang;
 mod reading;
 mod selected;
 
@@ -19,4 +19,3 @@ pub use cjc_list::{List, read_list};
 pub use consistent::first_form_is_consistent;
 pub use conversion::{Converted, convert};
 pub use example::{example_acts_run, example_is_converted, example_runs};
-pub use lang::LANG;

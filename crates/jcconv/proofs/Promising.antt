@@ -11,15 +11,16 @@ use Rattle.cjc_shelf.specs.declared.shelf.TheConstants.{LONGEST}
 use Rattle.cjc_list.specs.Listed.{ListTree, listed}
 use Rattle.cjc_classfile.specs.ClassFile.{class_file}
 use Rattle.cjc_classfile.specs.declared.tree.ClassTree.{ClassTree}
-use Rattle.cjc_convert.specs.declared.lang.TheConstants.{LANG}
-use Rattle.cjc_convert.specs.Conversion.{IsPair, line_of}
+use Rattle.cjc_bytes.proofs.Laws.{one_value}
+use Rattle.cjc_convert.specs.Conversion.{IsPair, IsRoot, line_of}
 use Rattle.cjc_convert.specs.Converted.{converted}
 use Rattle.cjc_convert.specs.FirstForm.{PackageLine, IsFirstForm}
 use Rattle.cjc_convert.proofs.BehavesAlike.{form_behaves_alike}
 use Rattle.cjc_convert.proofs.Consistency.{form_is_consistent}
-use Rattle.cjc_convert.proofs.LangTree.{lang_tree, lang_spelt}
 use Rattle.cjc_check.specs.Consistent.{Consistent}
 use Rattle.cjc_export.specs.ExportFile.{export_file}
+use Rattle.cjc_export.specs.Tokens.{HaveOwnTokens}
+use Rattle.cjc_export.specs.declared.tree.ExportClass.{ExportClass}
 use Rattle.cjc_export.specs.declared.tree.ExportTree.{ExportTree}
 use Rattle.cjc_command.specs.Plan.{◌>>=◌, has, Verdict, at_file, verdict, read_onto, read_each, unless_refused, absent, too_long, refused, complete}
 use Rattle.cjc_command.proofs.Gathering.{verdict-then, on_complete}
@@ -110,9 +111,9 @@ spell_other : (c : Bool) (o : Option (List ℕ)) (rest : List ClassTree → Type
 spell_other true o rest trees c r = absurd cc
 spell_other false o rest trees c r = r
 
-classes_spelt : (files : Files) (lines : List FileLine) (all : List (List ℕ)) (bytes : List ℕ) (tree : ClassTree) → IsPair lines all bytes LANG
+classes_spelt : (files : Files) (lines : List FileLine) (all : List (List ℕ)) (bytes export : List ℕ) (tree : ClassTree) → IsPair lines all bytes export
     → AllGot files (map (λ line. line.name) lines) all → FileSpells class_file tree bytes → SpellClasses files lines (tree ∷ [])
-classes_spelt files lines all bytes tree (a, b, l, choice) got f = subst (λ (ls : List FileLine). SpellClasses files ls (tree ∷ [])) (sym l) (elim choice [
+classes_spelt files lines all bytes export tree (a, b, l, choice) got f = subst (λ (ls : List FileLine). SpellClasses files ls (tree ∷ [])) (sym l) (elim choice [
   | inl (ca, cb, is) ↦ (
       let here = subst (λ (ls : List FileLine). AllGot files (map (λ line. line.name) ls) all) l got in
       let both = subst (λ (fs : List (List ℕ)). AllGot files (a.name ∷ b.name ∷ []) fs) is here in
@@ -137,18 +138,18 @@ export_other : (c : Bool) (o : Option (List ℕ)) (rest : List ExportTree → Ty
 export_other true o rest trees c r = r
 export_other false o rest trees c r = absurd cc
 
-exports_spelt : (files : Files) (lines : List FileLine) (all : List (List ℕ)) (bytes : List ℕ) (tree : ExportTree) → IsPair lines all bytes LANG
-    → AllGot files (map (λ line. line.name) lines) all → FileSpells export_file tree LANG → SpellExports files lines (tree ∷ [])
-exports_spelt files lines all bytes tree (a, b, l, choice) got f = subst (λ (ls : List FileLine). SpellExports files ls (tree ∷ [])) (sym l) (elim choice [
+exports_spelt : (files : Files) (lines : List FileLine) (all : List (List ℕ)) (bytes export : List ℕ) (tree : ExportTree) → IsPair lines all bytes export
+    → AllGot files (map (λ line. line.name) lines) all → FileSpells export_file tree export → SpellExports files lines (tree ∷ [])
+exports_spelt files lines all bytes export tree (a, b, l, choice) got f = subst (λ (ls : List FileLine). SpellExports files ls (tree ∷ [])) (sym l) (elim choice [
   | inl (ca, cb, is) ↦ (
       let here = subst (λ (ls : List FileLine). AllGot files (map (λ line. line.name) ls) all) l got in
       let both = subst (λ (fs : List (List ℕ)). AllGot files (a.name ∷ b.name ∷ []) fs) is here in
       export_other a.class_file (get files a.name) (SpellExports files (b ∷ [])) (tree ∷ []) ca
-      (export_spelt b.class_file (get files b.name) LANG (SpellExports files []) tree [] cb both.1.0 f refl))
+      (export_spelt b.class_file (get files b.name) export (SpellExports files []) tree [] cb both.1.0 f refl))
   | inr (ca, cb, is) ↦ (
       let here = subst (λ (ls : List FileLine). AllGot files (map (λ line. line.name) ls) all) l got in
       let both = subst (λ (fs : List (List ℕ)). AllGot files (a.name ∷ b.name ∷ []) fs) is here in
-      export_spelt a.class_file (get files a.name) LANG (SpellExports files (b ∷ [])) tree [] ca both.0 f
+      export_spelt a.class_file (get files a.name) export (SpellExports files (b ∷ [])) tree [] ca both.0 f
       (export_other b.class_file (get files b.name) (SpellExports files []) [] cb refl))
 ])
 
@@ -168,25 +169,27 @@ other_spelt : (c : Bool) (o : Option (List ℕ)) (rest : List ExportTree → Typ
 other_spelt true o rest trees c s = s
 other_spelt false o rest trees c s = absurd cc
 
-lang_alone : (files : Files) (lines : List FileLine) (all : List (List ℕ)) (bytes : List ℕ) (trees : List ExportTree) → IsPair lines all bytes LANG
-    → AllGot files (map (λ line. line.name) lines) all → SpellExports files lines trees → IsOne LANG trees
-lang_alone files lines all bytes trees (a, b, l, choice) got s =
+export_alone : (files : Files) (lines : List FileLine) (all : List (List ℕ)) (bytes export : List ℕ) (trees : List ExportTree) → IsPair lines all bytes export
+    → AllGot files (map (λ line. line.name) lines) all → SpellExports files lines trees → IsOne export trees
+export_alone files lines all bytes export trees (a, b, l, choice) got s =
     let here = subst (λ (ls : List FileLine). AllGot files (map (λ line. line.name) ls) all) l got in
     let spelt = subst (λ (ls : List FileLine). SpellExports files ls trees) l s in
     elim choice [
       | inl (ca, cb, is) ↦ (
           let both = subst (λ (fs : List (List ℕ)). AllGot files (a.name ∷ b.name ∷ []) fs) is here in
-          one_spelt b.class_file (get files b.name) LANG (SpellExports files []) trees cb both.1.0 (λ ts e. e)
+          one_spelt b.class_file (get files b.name) export (SpellExports files []) trees cb both.1.0 (λ ts e. e)
           (other_spelt a.class_file (get files a.name) (SpellExports files (b ∷ [])) trees ca spelt))
       | inr (ca, cb, is) ↦ (
           let both = subst (λ (fs : List (List ℕ)). AllGot files (a.name ∷ b.name ∷ []) fs) is here in
-          one_spelt a.class_file (get files a.name) LANG (SpellExports files (b ∷ [])) trees ca both.0
+          one_spelt a.class_file (get files a.name) export (SpellExports files (b ∷ [])) trees ca both.0
           (λ ts r. other_spelt b.class_file (get files b.name) (SpellExports files []) ts cb r) spelt)
     ]
 
-consistent_with : (line : PackageLine) (tree : ClassTree) (form : IsFirstForm line tree) (exports : List ExportTree) → IsOne LANG exports → Consistent (converted line tree form) exports
-consistent_with line tree form exports (lang, is, spelt) =
-    subst (Consistent (converted line tree form)) (sym is) (form_is_consistent line tree form lang spelt)
+consistent_with : (line : PackageLine) (tree : ClassTree) (form : IsFirstForm line tree) (lang : ExportTree) (root : ExportClass) (bytes : List ℕ) → IsRoot lang root → FileSpells export_file lang bytes
+    → (exports : List ExportTree) → HaveOwnTokens exports → IsOne bytes exports → Consistent (converted line lang root tree form) exports
+consistent_with line tree form lang root bytes is_root spelt exports own (other, is, other_spelt) =
+    let same : exports ≡ lang ∷ [] = is ∙ ap (λ (t : ExportTree). t ∷ []) (one_value export_file bytes other lang other_spelt spelt) in
+    subst (Consistent (converted line lang root tree form)) (sym same) (form_is_consistent line tree form lang root is_root (subst (λ (ts : List ExportTree). HaveOwnTokens ts) same own))
 
 -- ---- the whole
 
@@ -203,17 +206,19 @@ keeps name dir files new todo ready written =
       list = x.0;
       classes = is.tree ∷ [];
       caps = made.caps;
-      cap = converted (line_of x.0) is.tree is.form.form;
+      cap = converted (line_of x.0) is.lang is.root is.tree is.form.form;
       text_is = got.text_is;
       list_is = listed_spelt name got.text x.0 got.listed_is;
-      class_files = classes_spelt files x.0.lines x.1 is.form.bytes is.tree is.form.pair got.all is.form.spelt;
-      exports = lang_tree ∷ [];
-      export_files = exports_spelt files x.0.lines x.1 is.form.bytes lang_tree is.form.pair got.all lang_spelt;
+      class_files = classes_spelt files x.0.lines x.1 is.form.class is.form.export is.tree is.form.pair got.all is.form.spelt;
+      exports = is.lang ∷ [];
+      export_files = exports_spelt files x.0.lines x.1 is.form.class is.form.export is.lang is.form.pair got.all is.form.lang_spelt;
       components = subst (Stand dir made.caps) (sym after) (stand_made dir x.0.package files made);
       spelt = is.is_made.spelt;
-      alike = λ exports spelt. form_behaves_alike (line_of x.0) is.tree is.form.form exports (exports_own files x.0.lines exports spelt);
-      consistent = λ exports spelt. consistent_with (line_of x.0) is.tree is.form.form exports (lang_alone files x.0.lines x.1 is.form.bytes exports is.form.pair got.all spelt);
-      alike_beyond = λ exports own. form_behaves_alike (line_of x.0) is.tree is.form.form exports own;
+      alike = λ exports spelt. form_behaves_alike (line_of x.0) is.tree is.form.form is.lang is.root exports (exports_own files x.0.lines exports spelt);
+      consistent = λ exports spelt.
+          consistent_with (line_of x.0) is.tree is.form.form is.lang is.root is.form.export is.form.is_root is.form.lang_spelt exports (exports_own files x.0.lines exports spelt)
+          (export_alone files x.0.lines x.1 is.form.class is.form.export exports is.form.pair got.all spelt);
+      alike_beyond = λ exports own. form_behaves_alike (line_of x.0) is.tree is.form.form is.lang is.root exports own;
     })
 
 over : (o : Option Files) {P Q : Files → Type 0} → ((files : Files) → P files → Q files) → IfSome o P → IfSome o Q

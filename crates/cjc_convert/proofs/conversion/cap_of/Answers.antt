@@ -2,6 +2,7 @@ use Rattle.std.proofs.Common.{◌≡◌, Some, get_or, sym, ap, ◌∙◌}
 use Rattle.std.specs.Option.{option_copied}
 use Rattle.cjc_classfile.specs.declared.tree.MethodTree.{MethodTree}
 use Rattle.cjc_convert.specs.FirstForm.{ops_of}
+use Rattle.cjc_convert.specs.Conversion.{parts_of}
 use Rattle.cjc_convert.proofs.Small.{sum_local}
 use Rattle.cjc_convert.proofs.Converting.{cap_found}
 use Rattle.cjc_convert.proofs.conversion.cap_of.Goals as goal
@@ -16,4 +17,4 @@ returns c =
     let copied : option_copied c.as_ref.result ≡ Some c.unwrap-code.result.now = ap option_copied c.unwrap-code.ensures in
     let both = sym copied ∙ c.as_ref.ensures.value ∙ ap (λ (m : MethodTree). m.code) method ∙ f.form.is_sum.has_code in
     let code : f.form.code ≡ c.unwrap-code.result.now = cc in
-    cap_found _ _ _ _ _ _ f code c.tree_for.ensures
+    cap_found _ (parts_of c.args.form.now) _ _ f code c.tree_for.ensures
