@@ -25,7 +25,7 @@ use Rattle.cjc_world.proofs.Joined.{same-true, joined-append, any-joined}
 use Rattle.cjc_world.proofs.ByPlace.{AreNamed, named-append, class-place, places-append}
 use Rattle.cjc_world.proofs.Trees.{Alike, grove}
 use Rattle.cjc_world.proofs.Filling.{all-listed, same_or}
-use Rattle.cjc_world.proofs.Tests.{any_of_map}
+use Rattle.cjc_world.proofs.Mapped.{any_of_map}
 
 -- ---- the classes of a tree are those of their names
 
@@ -348,12 +348,12 @@ pub added-here : (files : Files) (n : ℕ) (c : ClassTree) → slice_get files.c
 unfolding added_at
 added-here files n c e = ap (λ o. added_to (all_classes files) n o) (sym e)
 
-push-old : {A : Type 0} (xs : List A) (y : A) (i : ℕ) → i < length xs → slice_get (xs ++ y ∷ []) i ≡ slice_get xs i
+pub push-old : {A : Type 0} (xs : List A) (y : A) (i : ℕ) → i < length xs → slice_get (xs ++ y ∷ []) i ≡ slice_get xs i
 push-old [] y i l = absurd (omega arith)
 push-old (x ∷ xs) y zero l = refl
 push-old (x ∷ xs) y (suc i) l = push-old xs y i (omega arith)
 
-push-new : {A : Type 0} (xs : List A) (y : A) (i : ℕ) → i ≡ length xs → slice_get (xs ++ y ∷ []) i ≡ Some y
+pub push-new : {A : Type 0} (xs : List A) (y : A) (i : ℕ) → i ≡ length xs → slice_get (xs ++ y ∷ []) i ≡ Some y
 push-new [] y zero l = refl
 push-new [] y (suc i) l = absurd (omega arith)
 push-new (x ∷ xs) y zero l = absurd (omega arith)

@@ -17,7 +17,7 @@ use Rattle.cjc_world.specs.Rules.{is_own_super, has_cycle, is_desc_missing, gets
 use Rattle.cjc_world.proofs.Cycles.{class_named-name, above-class, stands_where_above}
 use Rattle.cjc_world.proofs.Indexing.{got_some}
 use Rattle.cjc_world.proofs.Adding.{added-here}
-use Rattle.cjc_world.proofs.Tests.{any_of_map}
+use Rattle.cjc_world.proofs.Mapped.{any_of_map}
 
 module _ (w : List Class) where
   pub cycle-free : IsAcyclic w → has_cycle w ≡ false

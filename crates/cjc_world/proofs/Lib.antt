@@ -18,9 +18,10 @@ pub mod Trees
 pub mod Filling
 pub mod Piecing
 pub mod Noted
-pub mod Tests
+pub mod Mapped
 pub mod Positions
 pub mod Asking
 pub mod Adding
 pub mod Gets
 pub mod Walked
+pub mod Stepping

@@ -10,10 +10,11 @@ pub mod Subtype
 pub mod Access
 pub mod Added
 pub mod Asked
-pub mod Drafts
 pub mod Known
 pub mod Spots
 pub mod Rules
+pub mod Steps
+pub mod Drafts
 pub mod Broken
 pub mod Laws
 pub mod Order

@@ -4,6 +4,7 @@ ghost use Rattle.std.specs.Prelude.{◌≡◌, [], IfSome, IfNone, IfOk};
 ghost use Rattle.cjc_world.specs.Rules.{breaks, IsFirstRefusal};
 
 use crate::broken::refused;
+use crate::circular::Cycles;
 use crate::roster::Roster;
 use crate::tables::Above;
 use cjc_bytes::{Fault, FileLine, MemberId, NoMemory, Row};
@@ -21,42 +22,45 @@ pub(crate) struct Tables {
     pub added: Row<Row<MemberId>>,
 }
 
-/// The classes, and tables where no class is its own super.
+/// What is kept beside the classes.
+#[derive(Drop)]
+pub(crate) enum Kept {
+    /// Where no class is its own super.
+    Tables(Tables),
+    /// Where a class is.
+    Cycles(Cycles),
+}
+
+/// The classes, with what is kept of them.
 #[derive(Drop)]
 pub(crate) struct Draft<'a> {
     pub roster: Roster<'a>,
-    pub tables: Option<Tables>,
+    pub kept: Kept,
 }
 
 impl<'a> Model for Draft<'a> {
     ghost use Rattle.cjc_world.specs.Files.{Files};
-    ghost use Rattle.cjc_world.specs.Drafts.{AreTablesOrCyclic};
+    ghost use Rattle.cjc_world.specs.Drafts.{IsKept};
 
     ghost Value = { Files };
 
     ghost view = { λ d. d.roster };
 
-    ghost invariant = { λ d. AreTablesOrCyclic d.roster d.tables };
+    ghost invariant = { λ d. IsKept d.roster d.kept };
 }
 
 impl<'a> Draft<'a> {
     pub(crate) fn new(alloc: Global, roster: Roster<'a>) -> Result<Draft<'a>, NoMemory>
         ensures { IfOk result (λ d. d ≡ roster.entry) }
     {
-        let above = match roster.above_all(alloc)? {
-            Some(above) => above,
-            None => {
-                return Ok(Draft {
-                    roster,
-                    tables: None,
-                });
+        let kept = match roster.above_all(alloc)? {
+            Some(above) => {
+                let added = roster.added_rows(alloc, above.items())?;
+                Kept::Tables(Tables { above, added })
             }
+            None => Kept::Cycles(roster.cycles(alloc)?),
         };
-        let added = roster.added_rows(alloc, above.items())?;
-        Ok(Draft {
-            roster,
-            tables: Some(Tables { above, added }),
-        })
+        Ok(Draft { roster, kept })
     }
 
     pub(crate) fn classes(&self) -> &Row<ClassTree<'a>>

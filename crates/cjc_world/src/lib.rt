@@ -4,9 +4,11 @@
 
 mod added;
 mod broken;
+mod circular;
 mod class;
 mod draft;
 mod found;
+mod image;
 mod laws;
 mod lookup;
 mod names;
@@ -18,6 +20,7 @@ mod world;
 
 pub use class::Known;
 pub use found::Found;
+pub use image::{ArrayCell, StaticImage, ValueCell};
 pub use laws::{lookup_laws, subtype_laws};
 pub use world::World;
 

@@ -50,7 +50,7 @@ impl<'a> Roster<'a> {
         }
     }
 
-    fn has_name(&self, place: u32, name: &[u8]) -> bool
+    pub(crate) fn has_name(&self, place: u32, name: &[u8]) -> bool
         ensures { result ≡ has_name name.now (slice_get (all_classes self.now) place) }
     {
         match self.class_in(place) {

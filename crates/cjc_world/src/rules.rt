@@ -10,11 +10,11 @@ ghost use Rattle.cjc_world.specs.Drafts.{IsHeld};
 ghost use Rattle.cjc_world.specs.Kin.{is_below, stands_above};
 ghost use Rattle.cjc_world.specs.Known.{class_of};
 ghost use Rattle.cjc_world.specs.Lookup.{object};
-ghost use Rattle.cjc_world.specs.Rules.{breaks, breaks_from, class_breaks, class_file_breaks, classes_breaks, export_file_breaks, is_second_package, class_rules, is_earlier, member_rules, members, members_before, members_from, told, gets_missing, has_array_exceptions, has_class, has_exception, has_language, has_needed, has_other_exceptions, has_roots, head, is_class_of, is_desc_missing, is_element_missing, is_interface_of, is_missing, is_of_class_file, is_of_package, is_part, is_part_byte, is_second, is_slash_part, is_type_missing, lists_missing, lists_wrong, same_place};
+ghost use Rattle.cjc_world.specs.Rules.{breaks, breaks_from, class_breaks, class_file_breaks, classes_breaks, export_file_breaks, is_second_package, class_rules, is_earlier, member_rules, members, members_before, members_from, told, gets_missing, has_array_exceptions, has_class, has_exception, has_language, has_needed, has_other_exceptions, has_roots, head, is_class_of, is_desc_missing, is_element_missing, is_interface_of, is_missing, is_of_class_file, is_of_package, is_part, is_part_byte, is_second, is_slash_part, is_type_missing, lists_missing, lists_wrong, same_place, throwable};
 
 use crate::broken::{Break, Part};
 use crate::class::Known;
-use crate::draft::Draft;
+use crate::draft::{Draft, Kept};
 use crate::roster::Roster;
 use crate::spot::{size, sum};
 use crate::world::OBJECT;
@@ -23,7 +23,7 @@ use cjc_export::{ExportClass, ExportTree};
 
 const LANGUAGE: &[u8] = b"java/lang";
 
-const THROWABLE: &[u8] = b"java/lang/Throwable";
+pub(crate) const THROWABLE: &[u8] = b"java/lang/Throwable";
 
 fn is_part_byte(byte: u8) -> bool
     ensures { result ≡ is_part_byte byte }
@@ -312,9 +312,9 @@ impl<'a> Draft<'a> {
         requires { IsHeld self.now class }
         ensures { result ≡ gets_missing (all_classes self.now) (class_of class.entry) }
     {
-        let tables = match &self.tables {
-            Some(tables) => tables,
-            None => return false,
+        let tables = match &self.kept {
+            Kept::Tables(tables) => tables,
+            Kept::Cycles(_) => return false,
         };
         match class {
             Known::Declared(number, _) => {
@@ -352,26 +352,26 @@ impl<'a> Draft<'a> {
     fn is_own_super(&self, class: &[u8]) -> bool
         ensures { result ≡ stands_above (all_classes self.now) class.now class.now }
     {
-        match &self.tables {
-            Some(_) => false,
-            None => self.roster.is_own_super(class),
+        match &self.kept {
+            Kept::Tables(_) => false,
+            Kept::Cycles(cycles) => self.roster.is_own_super(cycles, class),
         }
     }
 
-    /// Whether a class is a superclass of another, or the class itself.
-    fn is_below(&self, sub: &[u8], sup: &[u8]) -> bool
-        ensures { result ≡ is_below (all_classes self.now) sub.now sup.now }
+    /// Whether a class is java/lang/Throwable or has it as a superclass.
+    fn is_throwable(&self, class: &[u8]) -> bool
+        ensures { result ≡ is_below (all_classes self.now) class.now throwable }
     {
-        match &self.tables {
-            Some(tables) => self.roster.is_below(tables.above.items(), sub, sup),
-            None => self.roster.reaches_up(sub, sup),
+        match &self.kept {
+            Kept::Tables(tables) => self.roster.is_below(tables.above.items(), class, THROWABLE),
+            Kept::Cycles(cycles) => self.roster.is_throwable(cycles, class),
         }
     }
 
     fn has_exception(&self, tree: &ExportTree, name: &[u8]) -> bool
         ensures { result ≡ has_exception (all_classes self.now) tree.now name.now }
     {
-        has_class(tree, name) && self.is_below(name, THROWABLE)
+        has_class(tree, name) && self.is_throwable(name)
     }
 
     #[tactic(auto, unfolding(crate::specs::Rules::has_array_exceptions))]

@@ -42,7 +42,7 @@ fn copies(alloc: Global, names: &[&[u8]]) -> Result<Row<Bytes>, NoMemory> {
     Ok(row)
 }
 
-/// An imported class or interface.
+/// An imported class or interface. Of its methods one named `first` has token 0, and each other has 1.
 fn imported(
     alloc: Global,
     flags: u16,
@@ -65,7 +65,7 @@ fn imported(
     let mut row = Row::new(alloc);
     for (flags, name, desc) in methods {
         row.push(ExportMethod {
-            token: 0,
+            token: if name[..] == b"first"[..] { 0 } else { 1 },
             flags: *flags,
             name: Bytes::copy_of(alloc, name)?,
             desc: Bytes::copy_of(alloc, desc)?,
@@ -388,6 +388,78 @@ fn subtypes(rt: HostRuntime) -> Result<(), Fail> {
     Ok(())
 }
 
+/// The interfaces p/I, p/J and p/L.
+fn asking<'a>(alloc: Global, draft: &mut Draft<'a>) -> Result<(), NoMemory> {
+    let first: [Member<'_>; 4] = [
+        (8, b"<clinit>", b"()V"),
+        (0x0401, b"a", b"()V"),
+        (0x0401, b"equals", EQUALS),
+        (0x0401, b"b", b"()V"),
+    ];
+    let second: [Member<'_>; 2] = [(0x0401, b"c", b"()V"), (0x0401, b"b", b"()V")];
+    let third: [Member<'_>; 2] = [(0x0401, b"d", b"()V"), (0x0401, b"b", b"()V")];
+    draft.class(alloc, 0x0601, b"p/I", OBJECT, &[], &[], &first)?;
+    draft.class(alloc, 0x0601, b"p/J", OBJECT, &[b"p/I"], &[], &second)?;
+    draft.class(alloc, 0x0601, b"p/L", OBJECT, &[], &[], &third)
+}
+
+/// The interface q/K, with a method of this descriptor.
+fn importing<'a>(alloc: Global, draft: &mut Draft<'a>, desc: &[u8]) -> Result<(), NoMemory> {
+    let methods: [Member<'_>; 2] = [(0x0401, b"second", desc), (0x0401, b"first", b"()V")];
+    let mut row = Row::new(alloc);
+    row.push(imported(alloc, 0x0601, b"q/K", &[OBJECT], &[], &[], &methods)?)?;
+    draft.export(alloc, b"q", row)
+}
+
+/// The classes p/A, p/B, p/C and p/D.
+fn getting<'a>(alloc: Global, draft: &mut Draft<'a>) -> Result<(), NoMemory> {
+    let own: [Member<'_>; 2] = [(1, b"a", b"()V"), (9, b"c", b"()V")];
+    let hidden: [Member<'_>; 1] = [(2, b"b", b"()V")];
+    draft.class(alloc, 0x0421, b"p/A", OBJECT, &[b"p/J", b"q/K"], &[], &own)?;
+    draft.class(alloc, 0x0421, b"p/B", b"p/A", &[b"q/K", b"p/L"], &[], &[])?;
+    draft.class(alloc, 0x21, b"p/C", b"p/A", &[b"p/L"], &[], &[])?;
+    draft.class(alloc, 0x0421, b"p/D", OBJECT, &[b"p/I"], &[], &hidden)
+}
+
+/// Classes of the package: p/I, p/J, p/L, p/A, p/B, p/C and p/D, at 0 to 6, and q/K with this descriptor.
+fn adding<'a>(alloc: Global, desc: &[u8]) -> Result<World<'a>, Fault> {
+    let mut draft = Draft::new(alloc);
+    asking(alloc, &mut draft)?;
+    draft.language(alloc, THROWABLE, 0)?;
+    importing(alloc, &mut draft, desc)?;
+    getting(alloc, &mut draft)?;
+    draft.world(alloc)
+}
+
+/// Whether a class of the package gets methods of these names, in this order.
+fn gets(world: &World<'_>, class: u32, name: &[u8], added: &[&[u8]]) -> bool {
+    if class as usize >= world.classes().items().len() {
+        return false;
+    }
+    let row = world.added(class).items();
+    row.len() == added.len()
+        && row.iter().zip(added).all(|(id, added)| id.class.items() == name
+            && id.name.items() == *added)
+}
+
+#[test]
+fn added_methods(rt: HostRuntime) -> Result<(), Fail> {
+    let world = adding(rt.alloc(), b"()V").ok().ok_or("a world")?;
+    let cases: [(u32, &[u8], &[&[u8]]); 5] = [
+        (1, b"p/J", &[]),
+        (3, b"p/A", &[b"b", b"c", b"first", b"second"]), // past a static method, by token
+        (4, b"p/B", &[b"d"]), // what the superclass got is inherited
+        (5, b"p/C", &[]),
+        (6, b"p/D", &[b"a", b"b"]), // past a private method
+    ];
+    for (class, name, added) in cases {
+        assert!(rt; gets(&world, class, name, added));
+    }
+    let missing = adding(rt.alloc(), b"(Lq/No;)V");
+    assert!(rt; is_refused(missing, 203, b"p/A", b"p/A", b""));
+    Ok(())
+}
+
 fn is_refused(
     world: Result<World<'_>, Fault>,
     rule: u16,
@@ -467,6 +539,28 @@ fn broken_classes(rt: HostRuntime) {
     }
 }
 
+/// The class p/T in two files of these names.
+fn twice<'a>(alloc: Global, first: &[u8], second: &[u8]) -> Result<World<'a>, Fault> {
+    let mut draft = Draft::new(alloc);
+    draft.class(alloc, 0x21, b"p/T", OBJECT, &[], &[], &[])?;
+    draft.class(alloc, 0x21, b"p/T", OBJECT, &[], &[], &[])?;
+    draft.lines = Row::new(alloc);
+    for name in [first, second] {
+        draft.lines.push(FileLine {
+            class_file: true,
+            name: Bytes::copy_of(alloc, name)?,
+        })?;
+    }
+    draft.language(alloc, THROWABLE, 0)?;
+    draft.world(alloc)
+}
+
+#[test]
+fn classes_in_two_files(rt: HostRuntime) {
+    let world = twice(rt.alloc(), b"T.class", b"U.class");
+    assert!(rt; is_refused(world, 202, b"U.class", b"p/T", b""));
+}
+
 #[test]
 fn broken_members(rt: HostRuntime) {
     let alloc = rt.alloc();
@@ -532,6 +626,13 @@ fn with_language<'a>(alloc: Global, above: &[u8], missing: usize) -> Result<Worl
     draft.world(alloc)
 }
 
+/// The export file of q alone.
+fn without_language<'a>(alloc: Global) -> Result<World<'a>, Fault> {
+    let mut draft = Draft::new(alloc);
+    draft.export(alloc, b"q", Row::new(alloc))?;
+    draft.world(alloc)
+}
+
 /// A class p/A and java/lang, and an export file of this package that has one class with this super.
 fn with_import<'a>(
     alloc: Global,
@@ -553,6 +654,7 @@ fn broken_imports(rt: HostRuntime) {
     let alloc = rt.alloc();
     let none: Draft<'_> = Draft::new(alloc);
     assert!(rt; is_refused(none.world(alloc), 207, b"list", b"", b""));
+    assert!(rt; is_refused(without_language(alloc), 207, b"list", b"", b""));
     assert!(rt; with_language(alloc, THROWABLE, 0).is_ok());
     assert!(rt; is_refused(with_language(alloc, THROWABLE, 1), 207, b"list", b"", b""));
     assert!(rt; is_refused(with_language(alloc, OBJECT, 0), 207, b"list", b"", b""));

@@ -13,7 +13,7 @@ ghost use Rattle.cjc_world.specs.Tables.{IsTable};
 ghost use Rattle.cjc_world.specs.Lookup.{find_field, find_method, receiver, selected};
 
 use crate::class::Known;
-use crate::draft::{Draft, Tables};
+use crate::draft::{Draft, Kept, Tables};
 use crate::found::Found;
 use crate::roster::Roster;
 use crate::tables::Above;
@@ -64,10 +64,10 @@ impl<'a> World<'a> {
         if let Some(fault) = draft.first_fault(alloc, list) {
             return Err(fault);
         }
-        let Draft { roster, tables } = draft;
-        match tables {
-            Some(tables) => Ok(World { roster, tables }),
-            None => unreachable!(),
+        let Draft { roster, kept } = draft;
+        match kept {
+            Kept::Tables(tables) => Ok(World { roster, tables }),
+            Kept::Cycles(_) => unreachable!(),
         }
     }
 

@@ -10,16 +10,16 @@ use Rattle.cjc_world.specs.Rules.{is_desc_missing, gets_missing}
 use Rattle.cjc_world.proofs.Gets.{gets-declared, gets-imported, gets-cyclic}
 use Rattle.cjc_world.proofs.draft.Draft.gets_missing.Goals as goal
 
-pub returns-in-None : goal.returns-in-None
-returns-in-None c = gets-cyclic (all_classes c.args.self.now) (class_of c.args.class) (λ acyclic. c.self.invariant.none c.in-None.is (subst (λ f. IsAcyclic (all_classes f)) (sym c.self.view_is) acyclic))
+pub returns-in-Cycles : goal.returns-in-Cycles
+returns-in-Cycles c = gets-cyclic (all_classes c.args.self.now) (class_of c.args.class) (λ acyclic. c.self.invariant.cyclic c.in-Cycles.field-0 c.in-Cycles.is (subst (λ f. IsAcyclic (all_classes f)) (sym c.self.view_is) acyclic))
 
 pub returns-in-Declared : goal.returns-in-Declared
 returns-in-Declared c =
     let files = c.args.self.now in
-    let t = c.in-Some.tables in
+    let t = c.in-Tables.tables in
     let n = c.in-Declared.number in
     let row = c.index-added-number.result in
-    let tables : AreTables files t = subst (λ f. AreTables f t) c.self.view_is (c.self.invariant.some t c.in-Some.is) in
+    let tables : AreTables files t = subst (λ f. AreTables f t) c.self.view_is (c.self.invariant.tables t c.in-Tables.is) in
     let held : IsHeld files (kinds.Declared n c.in-Declared.field-1) = subst (λ k. IsHeld files k) c.in-Declared.is c.requires in
     let within : n < length t.added = subst (λ m. n < m) (sym tables.count) (slice_get_within files.classes n c.in-Declared.field-1.now held) in
     c.any_desc_missing.ensures
