@@ -17,3 +17,7 @@ mod types;
 pub use broken::{Break, Part, Spot, answer, first};
 pub use checking::{check, first_broken};
 pub use naming::names;
+pub use places::{class_spot, file_of, method_spot};
+
+#[cfg(test)]
+mod tests;

@@ -10,7 +10,7 @@ use cjc_bytes::FileLine;
 use cjc_classfile::{ClassTree, FieldTree, MethodTree};
 
 /// The file of the class of this number: its place among the files of the list, from 1, and its name.
-pub(crate) fn file_of(lines: &[FileLine], class: usize) -> (usize, &[u8])
+pub fn file_of(lines: &[FileLine], class: usize) -> (usize, &[u8])
     ensures place { result.0 ≡ (file_of lines.now class).place }
     ensures name { result.1.now ≡ (file_of lines.now class).name }
 {
@@ -42,7 +42,7 @@ pub(crate) fn list_spot(list: &[u8]) -> Spot<'_>
 }
 
 /// A class of the package, of the file at this place.
-pub(crate) fn class_spot<'w>(file: usize, file_name: &'w [u8], class: &'w ClassTree<'_>) -> Spot<'w>
+pub fn class_spot<'w>(file: usize, file_name: &'w [u8], class: &'w ClassTree<'_>) -> Spot<'w>
     ensures { spot_of result ≡ at_class (record { place = file; name = file_name.now }) class.now }
 {
     Spot {
@@ -68,7 +68,7 @@ pub(crate) fn field_spot<'w>(class: Spot<'w>, place: usize, field: &'w FieldTree
 }
 
 /// An offset of the method at this place of a class.
-pub(crate) fn method_spot<'w>(
+pub fn method_spot<'w>(
     class: Spot<'w>,
     tree: &'w ClassTree<'_>,
     place: usize,
