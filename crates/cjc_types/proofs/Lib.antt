@@ -1,5 +1,9 @@
+pub mod Among
 pub mod Answering
-pub mod Filtered
 pub mod Few
+pub mod Filtered
+pub mod Greater
+pub mod Heights
 pub mod Indexing
 pub mod Least
+pub mod Typed

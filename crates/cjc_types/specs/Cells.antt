@@ -5,7 +5,7 @@ use Rattle.cjc_types.specs.declared.cell.Cell.{Cell}
 use Rattle.cjc_types.specs.declared.cell.Cell.TheVariants.{Number, Refs, Unusable}
 use Rattle.cjc_types.specs.Names.{IsSet, IsWithin, union}
 
--- No file has more names than 32 bits count.
+-- A class file has fewer names than 32 bits count, the elements of arrays among them.
 unfoldable pub most_names : ℕ
 most_names = 4294967295
 

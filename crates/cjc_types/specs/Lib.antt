@@ -14,3 +14,5 @@ pub mod Index
 pub mod Rules
 pub mod Tables
 pub mod Search
+pub mod Typed
+pub mod Among

@@ -8,13 +8,12 @@ use Rattle.cjc_types.specs.declared.state.Stack.TheVariants.{Cells, Clash}
 use Rattle.cjc_types.specs.declared.state.State.{State}
 use Rattle.cjc_types.specs.Cells.{most_names, IsCell, IsCellBelow, joined_cell, cell_rank, cells}
 
--- An instruction adds at most two cells to a stack, and a handler begins with one. So a way that passes each of 65,535
--- instructions once builds no higher stack than this; one that passes an instruction twice with different heights has
--- a clash there.
+-- Six cells for each of 65,536 instructions. An instruction adds six at most, so no stack of a least table is as high
+-- unless a code has more instructions than its bytes allow.
 unfoldable pub most_cells : ℕ
-most_cells = 131071
+most_cells = 393216
 
--- a stack of these cells; one that no way builds counts as a clash
+-- a stack of these cells; one that no least table has counts as a clash
 abbrev pub stack_of : List Cell → Stack
 stack_of xs = if nat_le (length xs) most_cells then Cells xs else Clash
 

@@ -141,7 +141,7 @@ gives_up (jop.InstanceOf class) locals more s t h k = (tt, tt)
 own_behind : (op : JOp) (locals s : List Cell) → All IsCell locals → All IsCell s → All IsCell (stack_behind op locals s)
 own_behind op locals s own_l own_s = All-append IsCell (gives op locals s) (drop (takes op) s) (own_gives op locals s own_l own_s) (All-drop IsCell (takes op) s own_s)
 
-behind_up : (op : JOp) (locals more s t : List Cell) → AreBelow locals more → AreBelow s t → AreBelow (stack_behind op locals s) (stack_behind op more t)
+pub behind_up : (op : JOp) (locals more s t : List Cell) → AreBelow locals more → AreBelow s t → AreBelow (stack_behind op locals s) (stack_behind op more t)
 behind_up op locals more s t h k = below_append (gives op locals s) (gives op more t) (drop (takes op) s) (drop (takes op) t) (gives_up op locals more s t h k) (below_drop (takes op) s t k)
 
 own_stack : (op : JOp) (locals : List Cell) (s : Stack) → All IsCell locals → IsStack s → IsStack (stack_after op locals s)

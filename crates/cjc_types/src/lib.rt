@@ -7,6 +7,7 @@
 mod cell;
 mod index;
 mod inference;
+mod laws;
 mod method;
 mod names;
 mod rules;
@@ -19,5 +20,6 @@ mod types;
 
 pub use cell::Cell;
 pub use inference::infer;
+pub use laws::{cell_laws, flow_laws, name_laws, table_laws};
 pub use state::{Stack, State};
 pub use table::{Frame, TypeTable};

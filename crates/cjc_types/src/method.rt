@@ -275,6 +275,6 @@ impl Flow for Method<'_> {
 
     #[tactic(auto, unfolding(crate::specs::States::most_cells, crate::specs::Cells::most_names))]
     fn height(&self) -> u64 {
-        131_071 * (1 << 32) + 1 + u64::from(self.max_locals) * (1 << 32)
+        393_216 * (1 << 32) + 1 + u64::from(self.max_locals) * (1 << 32)
     }
 }

@@ -50,7 +50,7 @@ fn joined_cells(alloc: Global, left: &[Cell], right: &[Cell]) -> Result<Row<Cell
 
 /// How high cells stand together.
 fn cells_rank(cells: &[Cell]) -> u64
-    requires few { length cells.now ≤ 131071 }
+    requires few { length cells.now ≤ 393216 }
     requires own { All IsCell cells.now }
     ensures rank { result ≡ sum_by cell_rank cells.now }
     ensures small { result ≤ length cells.now * 2 ^ 32 }
@@ -67,7 +67,7 @@ fn cells_rank(cells: &[Cell]) -> u64
 pub(crate) fn stack_of(cells: Row<Cell>) -> Stack
     ensures { result ≡ stack_of_cells cells }
 {
-    if cells.items().len() <= 131_071 {
+    if cells.items().len() <= 393_216 {
         Stack::Cells(cells)
     } else {
         Stack::Clash
@@ -100,11 +100,11 @@ fn joined_stacks(alloc: Global, left: &Stack, right: &Stack) -> Result<Stack, No
 fn rank_of_stack(stack: &Stack) -> u64
     requires { IsStack stack.now }
     ensures rank { result ≡ stack_rank stack.now }
-    ensures small { result ≤ 131071 * 2 ^ 32 + 1 }
+    ensures small { result ≤ 393216 * 2 ^ 32 + 1 }
 {
     match stack {
         Stack::Cells(cells) => cells_rank(cells.items()),
-        Stack::Clash => 131_071 * (1 << 32) + 1,
+        Stack::Clash => 393_216 * (1 << 32) + 1,
     }
 }
 

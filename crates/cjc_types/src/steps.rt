@@ -45,6 +45,12 @@ fn call_takes(opcode: u8, method: &MemberId) -> usize
     types::parameters(method.desc.items()) + receivers(opcode)
 }
 
+fn either(test: bool, yes: usize, no: usize) -> usize
+    ensures { result ≡ (if test then yes else no) }
+{
+    if test { yes } else { no }
+}
+
 /// How many operands an instruction takes from the stack.
 pub(crate) fn takes(op: &JOp) -> usize
     ensures { result ≡ takes_of op.now }
@@ -58,11 +64,11 @@ pub(crate) fn takes(op: &JOp) -> usize
         JOp::ArrayLoad(_) => 2,
         JOp::ArrayStore(_) => 3,
         JOp::Stack(opcode) => stack_takes(*opcode),
-        JOp::Arith(opcode) => { if *opcode == 0x74 { 1 } else { 2 } }
-        JOp::If { op: opcode, .. } => { if compares(*opcode) { 2 } else { 1 } }
-        JOp::Return(opcode) => { if *opcode == 0xB1 { 0 } else { 1 } }
-        JOp::Static { put, .. } => { if *put { 1 } else { 0 } }
-        JOp::Field { put, .. } => { if *put { 2 } else { 1 } }
+        JOp::Arith(opcode) => either(*opcode == 0x74, 1, 2),
+        JOp::If { op: opcode, .. } => either(compares(*opcode), 2, 1),
+        JOp::Return(opcode) => either(*opcode == 0xB1, 0, 1),
+        JOp::Static { put, .. } => either(*put, 1, 0),
+        JOp::Field { put, .. } => either(*put, 2, 1),
         JOp::Call { op: opcode, method } => call_takes(*opcode, method),
         _ => 0,
     }

@@ -1,0 +1,52 @@
+//! What holds of type tables, for the layers above. Nothing here runs.
+
+ghost use Rattle.std.specs.Prelude.{◌≡◌, ◌<◌, ◌≤◌, ℕ, true, List, length, Option};
+ghost use Rattle.std.specs.List.{list_all};
+ghost use Rattle.cjc_fixpoint.specs.Dataflow.{IsLawful, StaysWithin};
+ghost use Rattle.cjc_fixpoint.specs.Tables.{HasRow, IsClosed};
+ghost use Rattle.cjc_world.specs.Classes.{Class};
+ghost use Rattle.cjc_world.specs.Subtype.{is_subtype};
+ghost use Rattle.cjc_types.specs.declared.cell.Cell.{Cell as Known};
+ghost use Rattle.cjc_types.specs.declared.cell.Cell.TheVariants as known;
+ghost use Rattle.cjc_types.specs.declared.state.State.{State as Before};
+ghost use Rattle.cjc_types.specs.declared.state.Stack.TheVariants as stacks;
+ghost use Rattle.cjc_code.specs.declared.insn.JOp.{JOp};
+ghost use Rattle.cjc_types.specs.Steps.{stack_after, stack_behind};
+ghost use Rattle.cjc_types.specs.declared.table.TypeTable.{TypeTable as Types};
+ghost use Rattle.cjc_types.specs.Among.{HasNames, IsStateAmong};
+ghost use Rattle.cjc_types.specs.Cells.{IsNameSet, refs};
+ghost use Rattle.cjc_types.specs.Names.{IsSet, IsWithin};
+ghost use Rattle.cjc_types.specs.Flow.{Body, entry, type_flow};
+ghost use Rattle.cjc_types.specs.Rules.{is_number, is_reference, all_types, is_of};
+ghost use Rattle.cjc_types.specs.Tables.{Breach, IsLeastTable, IsTypeTable};
+ghost use Rattle.cjc_types.specs.Typed.{AreTyped, Leads};
+
+/// The flow of every method obeys the laws of flows and stays among the method's instructions.
+pub fn flow_laws()
+    ensures lawful { (b : Body) → IsLawful (type_flow b) }
+    ensures stays { (b : Body) → StaysWithin (type_flow b) (length b.insns) }
+{}
+
+/// A method has one least table. No stack of it is cut off for its height. A rule is broken at an instruction of it only
+/// where each closed table breaks a rule there. In a table without a broken rule the entry leads to the first instruction, and each
+/// instruction that is reached has the operands that it takes, each of its kind and class, and leads to what follows.
+pub fn table_laws()
+    ensures one { (b : Body) (xs ys : List (Option Before)) → IsLeastTable b xs → IsLeastTable b ys → xs ≡ ys }
+    ensures first { (w : List Class) (b : Body) (table : Types) → IsTypeTable w b table → 0 < length b.insns → Leads b table.frames 0 (entry b) }
+    ensures uncut { (b : Body) (xs : List (Option Before)) → IsLeastTable b xs → length b.insns ≤ 65535 → (place : ℕ) (x : Before) (s : List Known) (op : JOp) → HasRow xs place x → x.stack ≡ stacks.Cells s → stack_after op x.locals x.stack ≡ stacks.Cells (stack_behind op x.locals s) }
+    ensures broken { (w : List Class) (b : Body) (xs : List (Option Before)) (place rule : ℕ) → IsLeastTable b xs → Breach w b xs place rule → (ys : List (Option Before)) → IsClosed (type_flow b) (length b.insns) ys → (other : ℕ) × Breach w b ys place other }
+    ensures typed { (w : List Class) (b : Body) (table : Types) → IsTypeTable w b table → AreTyped w b table }
+{}
+
+/// The types in a least table are those of the method, and a set of them is not cut off for its size.
+pub fn name_laws()
+    ensures among { (names : List (List ℕ)) (b : Body) (xs : List (Option Before)) → HasNames names b → IsLeastTable b xs → (place : ℕ) (x : Before) → HasRow xs place x → IsStateAmong names x }
+    ensures whole { (names types : List (List ℕ)) → IsNameSet names → IsSet types → IsWithin types names → refs types ≡ known.Refs types }
+{}
+
+/// What the tests of cells say.
+pub fn cell_laws()
+    ensures number { (cell : Known) → is_number cell ≡ true → cell ≡ known.Number }
+    ensures reference { (cell : Known) → is_reference cell ≡ true → (names : List (List ℕ)) × (cell ≡ known.Refs names) }
+    ensures class { (w : List Class) (class : List ℕ) (cell : Known) → is_of w class cell ≡ true → (names : List (List ℕ)) × (cell ≡ known.Refs names) × (list_all (λ name. is_subtype w name class) names ≡ true) }
+{}
