@@ -1,5 +1,5 @@
 -- From the parts of a conversion to the whole.
-use Rattle.std.proofs.Common.{◌≡◌, ℕ, suc, ◌+◌, ◌<◌, ◌⊎◌, inl, inr, Bool, true, false, List, [], ◌∷◌, count_by, not, if◌then◌else◌, Option, Some, None, Result, Ok, Err, IfOk, IfNone, length, get_or, refl, sym, ap, subst, ◌∙◌, arith}
+use Rattle.std.proofs.Common.{◌≡◌, ℕ, suc, ◌+◌, ◌<◌, ◌⊎◌, inl, inr, Bool, true, false, List, [], ◌∷◌, count_by, not, if◌then◌else◌, Option, Some, None, Result, Ok, Err, All, IfOk, IfNone, length, get_or, refl, sym, ap, subst, ◌∙◌, arith}
 use Rattle.std.specs.Prelude.{◌==◌}
 use Rattle.std.proofs.lemmas.Bool.Decides.{nat_tests}
 use Rattle.std.proofs.lemmas.List.Sums.{sum_by-cons}
@@ -21,17 +21,21 @@ use Rattle.cjc_convert.specs.declared.conversion.Converted.{Converted}
 use Rattle.cjc_convert.specs.FirstForm.{PackageLine, IsFirstForm, ops_of}
 use Rattle.cjc_convert.specs.Converted.{tree_for}
 use Rattle.cjc_convert.specs.Tests.{IsFormWith}
-use Rattle.cjc_convert.specs.Codes.{all_codes, first_insns}
+use Rattle.cjc_convert.specs.Codes.{all_codes, all_foreigns, first_insns}
 use Rattle.cjc_world.specs.Files.{Files}
 use Rattle.cjc_world.specs.Rules.{Break, IsFirstRefusal, breaks}
 use Rattle.cjc_export.specs.Writable.{IsWritable}
 use Rattle.cjc_export.specs.declared.tree.ExportClass.{ExportClass}
 use Rattle.cjc_convert.proofs.Inheriting.{small_import}
 use Rattle.cjc_convert.specs.Spelt.{FileTree, of_class, of_export, classes_of, exports_of}
-use Rattle.cjc_convert.specs.Rules.{Breach, world_files, files_spelt}
-use Rattle.cjc_convert.specs.Trees.{FileIs, AllSpelt, AreRead, read_of, FirstForeign, AllRead, ReadsFiles}
+use Rattle.cjc_convert.specs.Rules.{Breach, world_files, files_spelt, language_breaks, BreaksAnyType, IsFirstFault}
+use Rattle.cjc_convert.specs.Trees.{FileIs, AllSpelt, AreRead, read_of, ReadsFiles}
 use Rattle.cjc_convert.specs.declared.reading.Trees.{Trees}
-use Rattle.cjc_convert.proofs.Firsts.{file_stops, world_stops, foreign_stops, none_broken}
+use Rattle.cjc_subset.specs.Names.{name_breaks}
+use Rattle.cjc_types.specs.Tables.{IsOfPackage}
+use Rattle.cjc_convert.specs.declared.reading.Foreign.{Foreign}
+use Rattle.cjc_convert.proofs.Firsts.{file_stops, world_stops, names_stop, language_stops, types_stop, none_broken}
+use Rattle.cjc_convert.proofs.Packages.{all_fit, all_of_package}
 use Rattle.cjc_convert.specs.Conversion
 use Rattle.cjc_convert.specs.Conversion.{exported}
 use Rattle.cjc_export.specs.declared.tree.ExportTree.{ExportTree}
@@ -276,20 +280,101 @@ read_with list files read world codes all w k = record {
   classes = ap (λ (x : Files). x.classes) w ∙ all.classes;
   exports = ap (λ (x : Files). x.exports) w ∙ all.exports;
   codes = k ∙ all.codes ∙ ap (λ (x : Files). all_codes x.classes) (sym w);
+  foreigns = refl;
 }
 
--- the first refusal by rule 303
-pub unsupported_is : (list : ListTree) (files : List (List ℕ)) (read : Trees) (r : Refusal) → AllRead list.lines files read → breaks list.name (WorldFiles list read) ≡ [] → read.unsupported ≡ Some r
-    → (faults.Refused r ≡ faults.NoMemory) ⊎ ((x : Refusal) × Conversion.IsRefused list files x × (faults.Refused r ≡ faults.Refused x))
-unsupported_is list files read r all fine is =
-    let f : FirstForeign list.lines files (length list.lines) (Some r) = subst (FirstForeign list.lines files (length list.lines)) is all.unsupported in
-    inr (r, inl (foreign_stops list files all.are_read.trees all.are_read.spelt (spelt_unbroken list files read all.are_read fine) r f), refl)
+-- ---- groups of rules, over what was read
+
+codes_are : (list : ListTree) (files : List (List ℕ)) (read : Trees) (all : AreRead list.lines files read) → read.codes ≡ all_codes (classes_of all.trees)
+codes_are list files read all = all.codes ∙ ap all_codes all.classes
+
+foreigns_are : (list : ListTree) (files : List (List ℕ)) (read : Trees) (all : AreRead list.lines files read) → read.foreigns ≡ all_foreigns (classes_of all.trees)
+foreigns_are list files read all = all.foreigns ∙ ap all_foreigns all.classes
+
+-- What is known once the world is made of the files.
+pub record InWorld (list : ListTree) (files : List (List ℕ)) (read : Trees) (world : Files) : Type 0 where
+  pub all : AreRead list.lines files read
+  pub made : world ≡ WorldFiles list read
+  pub fine : breaks list.name (WorldFiles list read) ≡ []
+
+-- the groups, as the code has them and as the definition has them
+names_are : (list : ListTree) (files : List (List ℕ)) (read : Trees) (world : Files) (k : InWorld list files read world) → name_breaks world read.codes ≡ name_breaks (files_spelt list k.all.trees) (all_codes (classes_of k.all.trees))
+names_are list files read world k =
+    ap (λ (w : Files). name_breaks w read.codes) (k.made ∙ world_is list files read k.all)
+    ∙ ap (λ (cs : List MethodCode). name_breaks (files_spelt list k.all.trees) cs) (codes_are list files read k.all)
+
+language_are : (list : ListTree) (files : List (List ℕ)) (read : Trees) (world : Files) (k : InWorld list files read world)
+    → language_breaks list world read.codes read.foreigns ≡ language_breaks list (files_spelt list k.all.trees) (all_codes (classes_of k.all.trees)) (all_foreigns (classes_of k.all.trees))
+language_are list files read world k =
+    ap (λ (w : Files). language_breaks list w read.codes read.foreigns) (k.made ∙ world_is list files read k.all)
+    ∙ ap (λ (cs : List MethodCode). language_breaks list (files_spelt list k.all.trees) cs read.foreigns) (codes_are list files read k.all)
+    ∙ ap (λ (xs : List Foreign). language_breaks list (files_spelt list k.all.trees) (all_codes (classes_of k.all.trees)) xs) (foreigns_are list files read k.all)
+
+types_are : (list : ListTree) (files : List (List ℕ)) (read : Trees) (world : Files) (k : InWorld list files read world)
+    → BreaksAnyType world read.codes ≡ BreaksAnyType (files_spelt list k.all.trees) (all_codes (classes_of k.all.trees))
+types_are list files read world k =
+    ap (λ (w : Files). BreaksAnyType w read.codes) (k.made ∙ world_is list files read k.all)
+    ∙ ap (λ (cs : List MethodCode). BreaksAnyType (files_spelt list k.all.trees) cs) (codes_are list files read k.all)
+
+-- ---- refusals by them
+
+-- a rule of names
+pub names_refused : (list : ListTree) (files : List (List ℕ)) (read : Trees) (world : Files) (e : Fault) → InWorld list files read world → IsFirstRefusal (name_breaks world read.codes) e
+    → (e ≡ faults.NoMemory) ⊎ ((r : Refusal) × Conversion.IsRefused list files r × (e ≡ faults.Refused r))
+names_refused list files read world e k f =
+    elim (subst (λ (bs : List Break). IsFirstRefusal bs e) (names_are list files read world k) f) [
+      | inl memory ↦ inl memory
+      | inr (b, first, is) ↦ inr (b.refusal, inl (names_stop list files k.all.trees k.all.spelt (spelt_unbroken list files read k.all k.fine) b first), is)
+    ]
+
+names_unbroken : (list : ListTree) (files : List (List ℕ)) (read : Trees) (world : Files) (k : InWorld list files read world) → name_breaks world read.codes ≡ []
+    → name_breaks (files_spelt list k.all.trees) (all_codes (classes_of k.all.trees)) ≡ []
+names_unbroken list files read world k named = sym (names_are list files read world k) ∙ named
+
+-- a rule of the language of the card, or a limit
+pub language_refused : (list : ListTree) (files : List (List ℕ)) (read : Trees) (world : Files) (e : Fault) → InWorld list files read world → name_breaks world read.codes ≡ []
+    → IsFirstRefusal (language_breaks list world read.codes read.foreigns) e
+    → (e ≡ faults.NoMemory) ⊎ ((r : Refusal) × Conversion.IsRefused list files r × (e ≡ faults.Refused r))
+language_refused list files read world e k named f =
+    elim (subst (λ (bs : List Break). IsFirstRefusal bs e) (language_are list files read world k) f) [
+      | inl memory ↦ inl memory
+      | inr (b, first, is) ↦ inr (
+        b.refusal,
+        inl (language_stops list files k.all.trees k.all.spelt (spelt_unbroken list files read k.all k.fine) (names_unbroken list files read world k named) b first),
+        is,
+      )
+    ]
+
+language_unbroken : (list : ListTree) (files : List (List ℕ)) (read : Trees) (world : Files) (k : InWorld list files read world) → language_breaks list world read.codes read.foreigns ≡ []
+    → language_breaks list (files_spelt list k.all.trees) (all_codes (classes_of k.all.trees)) (all_foreigns (classes_of k.all.trees)) ≡ []
+language_unbroken list files read world k fit = sym (language_are list files read world k) ∙ fit
+
+-- a rule of types
+pub types_refused : (list : ListTree) (files : List (List ℕ)) (read : Trees) (world : Files) (e : Fault) → InWorld list files read world → name_breaks world read.codes ≡ [] → language_breaks list world read.codes read.foreigns ≡ []
+    → IsFirstFault (BreaksAnyType world read.codes) e
+    → (e ≡ faults.NoMemory) ⊎ ((r : Refusal) × Conversion.IsRefused list files r × (e ≡ faults.Refused r))
+types_refused list files read world e k named fit f =
+    elim (subst (λ (G : Break → Type 0). IsFirstFault G e) (types_are list files read world k) f) [
+      | inl memory ↦ inl memory
+      | inr (r, first, is) ↦ inr (
+        r,
+        inl (types_stop list files k.all.trees k.all.spelt (spelt_unbroken list files read k.all k.fine) (names_unbroken list files read world k named) (language_unbroken list files read world k fit) r first),
+        is,
+      )
+    ]
 
 -- no rule is broken
-pub unbroken : (list : ListTree) (files : List (List ℕ)) (read : Trees) → AllRead list.lines files read → breaks list.name (WorldFiles list read) ≡ [] → read.unsupported ≡ None → (b : Break) → Breach list files b → ⊥
-unbroken list files read all fine none =
-    none_broken list files all.are_read.trees all.are_read.spelt (spelt_unbroken list files read all.are_read fine)
-    (subst (FirstForeign list.lines files (length list.lines)) none all.unsupported)
+pub unbroken : (list : ListTree) (files : List (List ℕ)) (read : Trees) (world : Files) → InWorld list files read world → name_breaks world read.codes ≡ [] → language_breaks list world read.codes read.foreigns ≡ []
+    → ((b : Break) → BreaksAnyType world read.codes b → ⊥) → (b : Break) → Breach list files b → ⊥
+unbroken list files read world k named fit none =
+    none_broken list files k.all.trees k.all.spelt (spelt_unbroken list files read k.all k.fine) (names_unbroken list files read world k named) (language_unbroken list files read world k fit)
+    (subst (λ (G : Break → Type 0). (b : Break) → G b → ⊥) (types_are list files read world k) none)
+
+-- the codes are of methods of the world
+pub codes_of_package : (list : ListTree) (files : List (List ℕ)) (read : Trees) (world : Files) → InWorld list files read world → All (IsOfPackage world) read.codes
+codes_of_package list files read world k =
+    let classes : world.classes ≡ read.classes = ap (λ (w : Files). w.classes) k.made in
+    subst (All (IsOfPackage world)) (ap all_codes classes ∙ sym k.all.codes) (all_of_package world (all_fit list.lines files k.all.trees (classes ∙ k.all.classes) k.all.spelt))
 
 pub not_built_is : (list : ListTree) (files : List (List ℕ)) (e : Fault) → ((b : Break) → Breach list files b → ⊥) → ((parts : Conversion.Parts) → Conversion.IsForm list files parts.lang parts.root parts.tree → ⊥)
     → (e ≡ faults.Refused (Conversion.not_built list)) ⊎ (e ≡ faults.NoMemory)

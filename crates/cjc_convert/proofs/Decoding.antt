@@ -20,10 +20,11 @@ use Rattle.cjc_code.specs.Named.{all_named}
 use Rattle.cjc_code.specs.Unfit.{unfit_code}
 use Rattle.cjc_code.specs.declared.insn.JInsn.{JInsn}
 use Rattle.cjc_code.specs.declared.method_code.MethodCode.{MethodCode}
-use Rattle.cjc_convert.specs.Codes.{code_with, code_where, codes_of_methods}
+use Rattle.cjc_convert.specs.Codes.{code_with, foreign_with, where_code, of_methods}
 use Rattle.cjc_convert.specs.Rules.{CodeBreaks}
 use Rattle.cjc_convert.proofs.Lists.{item_at, front_more}
-use Rattle.cjc_convert.specs.Trees.{BreaksBy, ForeignIn, earlier, DecodesMethod, DecodesClass}
+use Rattle.cjc_convert.specs.Trees.{BreaksBy, DecodesMethod, DecodesClass}
+use Rattle.cjc_convert.specs.declared.reading.Foreign.{Foreign}
 
 -- ---- one method
 
@@ -83,12 +84,13 @@ has_code tree k m code fits is has =
     let desc : length m.desc ≤ 65535 = method.desc in
     record { method = m; code = code; there = is; has = has; bytes = short.bytes; desc = omega arith }
 
-codes_more : (class n : ℕ) (tree : ClassTree) (ms : List MethodTree) (m : MethodTree) → codes_of_methods class n tree (ms ++ m ∷ []) ≡ codes_of_methods class n tree ms ++ code_where class (n + length ms) tree m m.code
-codes_more class n tree [] m = append-nil (code_where class n tree m m.code) ∙ ap (λ k. code_where class k tree m m.code) (sym (add-zero n))
-codes_more class n tree (x ∷ xs) m =
-    ap (λ cs. code_where class n tree x x.code ++ cs) (codes_more class (n + 1) tree xs m)
-    ∙ sym (append_assoc (code_where class n tree x x.code) (codes_of_methods class (n + 1) tree xs) (code_where class (n + 1 + length xs) tree m m.code))
-    ∙ ap (λ k. (code_where class n tree x x.code ++ codes_of_methods class (n + 1) tree xs) ++ code_where class k tree m m.code) (let e : n + 1 + length xs ≡ n + suc (length xs) = omega arith in e)
+methods_more : {A : Type 0} (f : ℕ → ℕ → Result (List JInsn) Broken → List A) (class n : ℕ) (tree : ClassTree) (ms : List MethodTree) (m : MethodTree)
+    → of_methods f class n tree (ms ++ m ∷ []) ≡ of_methods f class n tree ms ++ where_code (f class (n + length ms)) tree m m.code
+methods_more f class n tree [] m = append-nil (where_code (f class n) tree m m.code) ∙ ap (λ k. where_code (f class k) tree m m.code) (sym (add-zero n))
+methods_more f class n tree (x ∷ xs) m =
+    ap (λ cs. where_code (f class n) tree x x.code ++ cs) (methods_more f class (n + 1) tree xs m)
+    ∙ sym (append_assoc (where_code (f class n) tree x x.code) (of_methods f class (n + 1) tree xs) (where_code (f class (n + 1 + length xs)) tree m m.code))
+    ∙ ap (λ k. (where_code (f class n) tree x x.code ++ of_methods f class (n + 1) tree xs) ++ where_code (f class k) tree m m.code) (let e : n + 1 + length xs ≡ n + suc (length xs) = omega arith in e)
 
 pub some_code : {A : Type 0} (b : Bool) (o : Option A) → b ≡ is_some o → b ≡ true → (a : A) × (o ≡ Some a)
 some_code b None e f = absurd (let g : false ≡ true = sym e ∙ f in cc)
@@ -100,26 +102,26 @@ no_code b (Some a) e f = absurd (let g : true ≡ false = sym e ∙ f in cc)
 
 -- ---- the methods so far
 
--- The codes and the refusal are those of the first so many methods, none of which breaks rule 103.
-pub record MethodsRead (file : List ℕ) (class : ℕ) (tree : ClassTree) (old new : List MethodCode) (bound : ℕ) (unsupported : Option Refusal) : Type 0 where
-  pub codes : new ≡ old ++ codes_of_methods class 0 tree (take bound tree.methods)
-  pub foreign : ForeignIn file tree bound unsupported
+-- The codes and the places by rule 303 are those of the first so many methods, none of which breaks rule 103.
+pub record MethodsRead (class : ℕ) (tree : ClassTree) (old new : List MethodCode) (from to : List Foreign) (bound : ℕ) : Type 0 where
+  pub codes : new ≡ old ++ of_methods code_with class 0 tree (take bound tree.methods)
+  pub foreigns : to ≡ from ++ of_methods foreign_with class 0 tree (take bound tree.methods)
   pub fine : (k : ℕ) → k < bound → (offset : ℕ) → CodeBreaks tree k 103 offset → ⊥
 
-pub none_read : (file : List ℕ) (class : ℕ) (tree : ClassTree) (old : List MethodCode) → MethodsRead file class tree old old 0 None
-none_read file class tree old = record {
+pub none_read : (class : ℕ) (tree : ClassTree) (old : List MethodCode) (from : List Foreign) → MethodsRead class tree old old from from 0
+none_read class tree old from = record {
   codes = sym (append-nil old);
-  foreign = λ k offset lt breaks. absurd (omega arith);
+  foreigns = sym (append-nil from);
   fine = λ k lt offset breaks. absurd (omega arith);
 }
 
-pub all_read : (file : List ℕ) (class : ℕ) (tree : ClassTree) (items : List MethodTree) (old new : List MethodCode) (bound : ℕ) (u : Option Refusal) → items ≡ tree.methods → length items ≤ bound → bound ≤ length items
-    → MethodsRead file class tree old new bound u → DecodesClass file class tree old new (Ok u)
-all_read file class tree items old new bound u is below above r =
+pub all_read : (file : List ℕ) (class : ℕ) (tree : ClassTree) (items : List MethodTree) (old new : List MethodCode) (from to : List Foreign) (bound : ℕ) → items ≡ tree.methods → length items ≤ bound → bound ≤ length items
+    → MethodsRead class tree old new from to bound → DecodesClass file class tree old new from to (Ok tt)
+all_read file class tree items old new from to bound is below above r =
     let low : length tree.methods ≤ bound = omega (arith, ap length is) in
     let same : bound ≡ length tree.methods = omega (arith, ap length is) in (
-      r.codes ∙ ap (λ ms. old ++ codes_of_methods class 0 tree ms) (take_all bound tree.methods low),
-      subst (λ n. ForeignIn file tree n u) same r.foreign,
+      r.codes ∙ ap (λ ms. old ++ of_methods code_with class 0 tree ms) (take_all bound tree.methods low),
+      r.foreigns ∙ ap (λ ms. from ++ of_methods foreign_with class 0 tree ms) (take_all bound tree.methods low),
       λ k offset breaks. ⊎_elim (λ below. r.fine k (omega arith) offset breaks) (λ beyond. past tree k offset (omega arith) breaks) (cases_lt k (length tree.methods)),
     )
   where
@@ -142,70 +144,61 @@ stands tree items k m same lt is =
     let at : m ≡ get_or tree.methods k m = is ∙ ap (λ ms. get_or ms k m) same in
     record { is = item_at tree.methods k m low at; front = front_more tree.methods k m low at; size = length-take-le k tree.methods (omega arith) }
 
-module _ (file : List ℕ) (class : ℕ) (tree : ClassTree) (k : ℕ) (m : MethodTree) (here : Stands tree k m) where
-  -- the codes with those of one method more
-  put : (old mid new more : List MethodCode) → mid ≡ old ++ codes_of_methods class 0 tree (take k tree.methods) → new ≡ mid ++ more → code_where class k tree m m.code ≡ more
-      → new ≡ old ++ codes_of_methods class 0 tree (take (k + 1) tree.methods)
-  put old mid new more codes e own =
-      let cs = codes_of_methods class 0 tree (take k tree.methods) in
+module _ (class : ℕ) (tree : ClassTree) (k : ℕ) (m : MethodTree) (here : Stands tree k m) where
+  -- what was put of each method, with that of one more
+  put : {A : Type 0} (f : ℕ → ℕ → Result (List JInsn) Broken → List A) (old mid new more : List A) → mid ≡ old ++ of_methods f class 0 tree (take k tree.methods) → new ≡ mid ++ more → where_code (f class k) tree m m.code ≡ more
+      → new ≡ old ++ of_methods f class 0 tree (take (k + 1) tree.methods)
+  put f old mid new more codes e own =
+      let cs = of_methods f class 0 tree (take k tree.methods) in
       let at : 0 + length (take k tree.methods) ≡ k = omega (arith, here.size) in
-      let whole : codes_of_methods class 0 tree (take (k + 1) tree.methods) ≡ cs ++ more =
-      ap (codes_of_methods class 0 tree) here.front ∙ codes_more class 0 tree (take k tree.methods) m ∙ ap (λ n. cs ++ code_where class n tree m m.code) at ∙ ap (λ c. cs ++ c) own in
+      let whole : of_methods f class 0 tree (take (k + 1) tree.methods) ≡ cs ++ more =
+      ap (of_methods f class 0 tree) here.front ∙ methods_more f class 0 tree (take k tree.methods) m ∙ ap (λ n. cs ++ where_code (f class n) tree m m.code) at ∙ ap (λ c. cs ++ c) own in
       e ∙ ap (λ c. c ++ more) codes ∙ append_assoc old cs more ∙ ap (λ c. old ++ c) (sym whole)
 
-  -- what its code is, by what decoding it gives
-  decoded_is : (code : CodeTree) (r : Result (List JInsn) Broken) → m.code ≡ Some code → decoding_at tree k ≡ r → code_where class k tree m m.code ≡ code_with class k r
-  decoded_is code r has e =
-      let at : decoding tree m code ≡ r = sym (ap (of_method tree) here.is ∙ ap (of_code tree m) has) ∙ e in
-      ap (code_where class k tree m) has ∙ ap (code_with class k) at
-
-  fine_more : (old new : List MethodCode) (u : Option Refusal) → MethodsRead file class tree old new k u → ((offset : ℕ) → CodeBreaks tree k 103 offset → ⊥) → (j : ℕ) → j < k + 1 → (offset : ℕ) → CodeBreaks tree j 103 offset → ⊥
-  fine_more old new u r last = below_more (λ j. (offset : ℕ) → CodeBreaks tree j 103 offset → ⊥) k r.fine last
-
-  same_broken : (a b : Broken) → decoding_at tree k ≡ Err a → decoding_at tree k ≡ Err b → a ≡ b
-  same_broken a b e f = let g = sym e ∙ f in cc
-
-  -- a method that decodes breaks nothing
-  no_break : (r : List JInsn) (rule offset : ℕ) → decoding_at tree k ≡ Ok r → CodeBreaks tree k rule offset → ⊥
-  no_break r rule offset e f = let g = sym e ∙ f in absurd cc
+  -- by what decoding it gives
+  decoded_is : {A : Type 0} (f : ℕ → ℕ → Result (List JInsn) Broken → List A) (code : CodeTree) → m.code ≡ Some code → where_code (f class k) tree m m.code ≡ f class k (decoding_at tree k)
+  decoded_is f code has = ap (where_code (f class k) tree m) has ∙ ap (f class k) (sym (ap (of_method tree) here.is ∙ ap (of_code tree m) has))
 
   -- without code there are no instructions
-  pub step_abstract : (old new : List MethodCode) (u : Option Refusal) → m.code ≡ None → MethodsRead file class tree old new k u → MethodsRead file class tree old new (k + 1) u
-  step_abstract old new u none r =
+  pub step_abstract : (old new : List MethodCode) (from to : List Foreign) → m.code ≡ None → MethodsRead class tree old new from to k → MethodsRead class tree old new from to (k + 1)
+  step_abstract old new from to none r =
       let at : decoding_at tree k ≡ Ok [] = ap (of_method tree) here.is ∙ ap (of_code tree m) none in
       record {
-        codes = put old new new [] r.codes (sym (append-nil new)) (ap (code_where class k tree m) none);
-        foreign = kept u r.foreign at;
-        fine = fine_more old new u r (λ offset. no_break [] 103 offset at);
+        codes = put code_with old new new [] r.codes (sym (append-nil new)) (ap (where_code (code_with class k) tree m) none);
+        foreigns = put foreign_with from to to [] r.foreigns (sym (append-nil to)) (ap (where_code (foreign_with class k) tree m) none);
+        fine = below_more (λ j. (offset : ℕ) → CodeBreaks tree j 103 offset → ⊥) k r.fine (λ offset e. let g = sym at ∙ e in absurd cc);
       }
-    where
-      kept : (u : Option Refusal) → ForeignIn file tree k u → decoding_at tree k ≡ Ok [] → ForeignIn file tree (k + 1) u
-      kept (Some x) f at = f
-      kept None f at = λ j offset lt. below_more (λ j. (offset : ℕ) → CodeBreaks tree j 303 offset → ⊥) k (λ i le o. f i o le) (λ o. no_break [] 303 o at) j lt offset
 
-  pub step_code : (code : CodeTree) (old mid new : List MethodCode) (u v : Option Refusal) → m.code ≡ Some code → MethodsRead file class tree old mid k u → DecodesMethod file class tree k mid new (Ok v)
-      → MethodsRead file class tree old new (k + 1) (earlier u v)
-  step_code code old mid new u None has r (insns, e, now) = record {
-    codes = put old mid new (record { class = class; method = k; insns = insns } ∷ []) r.codes now (decoded_is code (Ok insns) has e);
-    foreign = kept u r.foreign;
-    fine = fine_more old mid u r (λ offset. no_break insns 103 offset e);
+  pub step_code : (file : List ℕ) (code : CodeTree) (old mid new : List MethodCode) (from way to : List Foreign) → m.code ≡ Some code → MethodsRead class tree old mid from way k → DecodesMethod file class tree k mid new way to (Ok tt)
+      → MethodsRead class tree old new from to (k + 1)
+  step_code file code old mid new from way to has r did = record {
+    codes = put code_with old mid new _ r.codes did.0 (decoded_is code_with code has);
+    foreigns = put foreign_with from way to _ r.foreigns did.1 (decoded_is foreign_with code has);
+    fine = below_more (λ j. (offset : ℕ) → CodeBreaks tree j 103 offset → ⊥) k r.fine did.2;
   }
-    where
-      kept : (u : Option Refusal) → ForeignIn file tree k u → ForeignIn file tree (k + 1) (earlier u None)
-      kept (Some x) f = f
-      kept None f = λ j offset lt. below_more (λ j. (offset : ℕ) → CodeBreaks tree j 303 offset → ⊥) k (λ i le o. f i o le) (λ o. no_break insns 303 o e) j lt offset
-  step_code code old mid new u (Some x) has r (now, by) = record {
-    codes = put old mid new [] r.codes (now ∙ sym (append-nil mid)) (decoded_is code (Err _) has by.1);
-    foreign = kept u r.foreign;
-    fine = fine_more old mid u r (λ offset breaks. let same = same_broken _ _ by.1 breaks in let rules : 303 ≡ 103 = ap (λ (b : Broken). b.rule) same in omega arith);
-  }
-    where
-      kept : (u : Option Refusal) → ForeignIn file tree k u → ForeignIn file tree (k + 1) (earlier u (Some x))
-      kept (Some y) f = f
-      kept None f = record { method = k; breaks = by; first = λ j other lt breaks. f j other lt breaks }
 
 -- the first method that breaks rule 103 stops the reading
-pub first_unfit : (file : List ℕ) (class : ℕ) (tree : ClassTree) (old new mid : List MethodCode) (k : ℕ) (u : Option Refusal) (e : Fault) → MethodsRead file class tree old mid k u
-    → DecodesMethod file class tree k mid new (Err e) → DecodesClass file class tree old new (Err e)
-first_unfit file class tree old new mid k u (faults.Refused r) read by = record { method = k; breaks = by; first = λ j other lt breaks. read.fine j lt other breaks }
-first_unfit file class tree old new mid k u faults.NoMemory read by = tt
+pub first_unfit : (file : List ℕ) (class : ℕ) (tree : ClassTree) (old new mid : List MethodCode) (from to way : List Foreign) (k : ℕ) (e : Fault) → MethodsRead class tree old mid from way k
+    → DecodesMethod file class tree k mid new way to (Err e) → DecodesClass file class tree old new from to (Err e)
+first_unfit file class tree old new mid from to way k (faults.Refused r) read by = record { method = k; breaks = by; first = λ j other lt breaks. read.fine j lt other breaks }
+first_unfit file class tree old new mid from to way k faults.NoMemory read by = tt
+
+-- ---- what decoding one method answers
+
+-- it has these instructions
+pub decodes : (file : List ℕ) (class : ℕ) (tree : ClassTree) (k : ℕ) (insns : List JInsn) (old new : List MethodCode) (from : List Foreign) → decoding_at tree k ≡ Ok insns
+    → new ≡ old ++ record { class = class; method = k; insns = insns } ∷ [] → DecodesMethod file class tree k old new from from (Ok tt)
+decodes file class tree k insns old new from is put = (
+  put ∙ ap (λ r. old ++ code_with class k r) (sym is),
+  sym (append-nil from) ∙ ap (λ r. from ++ foreign_with class k r) (sym is),
+  λ offset e. let g = sym is ∙ e in absurd cc,
+)
+
+-- it breaks rule 303
+pub refuses : (file : List ℕ) (class : ℕ) (tree : ClassTree) (k : ℕ) (r : Refusal) (old : List MethodCode) (from to : List Foreign) → BreaksBy file tree k 303 r
+    → to ≡ from ++ record { class = class; method = k; offset = r.place.offset } ∷ [] → DecodesMethod file class tree k old old from to (Ok tt)
+refuses file class tree k r old from to (offset, is, refused) put = (
+  sym (append-nil old) ∙ ap (λ x. old ++ code_with class k x) (sym is),
+  put ∙ ap (λ n. let x : Foreign = record { class = class; method = k; offset = n } in from ++ x ∷ []) (ap (λ (x : Refusal). x.place.offset) refused) ∙ ap (λ x. from ++ foreign_with class k x) (sym is),
+  λ other e. let same : record { rule = 303; offset = offset } ≡ record { rule = 103; offset = other } = (let g = sym is ∙ e in cc) in let rules : 303 ≡ 103 = ap (λ (b : Broken). b.rule) same in omega arith,
+)

@@ -23,13 +23,15 @@ use Rattle.cjc_code.specs.declared.method_code.MethodCode.{MethodCode}
 use Rattle.cjc_export.specs.ExportFile.{export_file}
 use Rattle.cjc_export.specs.Writable.{IsWritable}
 use Rattle.cjc_export.specs.declared.tree.ExportTree.{ExportTree}
-use Rattle.cjc_convert.specs.Codes.{codes_of_methods, codes_from, all_codes}
+use Rattle.cjc_code.specs.declared.insn.JInsn.{JInsn}
+use Rattle.cjc_convert.specs.Codes.{code_with, foreign_with, of_methods, of_classes}
+use Rattle.cjc_convert.specs.declared.reading.Foreign.{Foreign}
 use Rattle.cjc_bytes.specs.Order.{NotAfter}
 use Rattle.cjc_world.specs.Rules.{Break}
 use Rattle.cjc_convert.specs.Spelt.{FileTree, of_class, of_export, classes_of, exports_of}
-use Rattle.cjc_convert.specs.Rules.{CodeBreaks, method_rank, FileBreach, no_class_file, no_instructions, no_export_file, file_rank, file_break, FileAt, Foreign, foreign_rank, foreign_break, BreaksFile, BreaksForeign, IsFirstRefused}
+use Rattle.cjc_convert.specs.Rules.{CodeBreaks, method_rank, FileBreach, no_class_file, no_instructions, no_export_file, file_rank, file_break, FileAt, BreaksFile, IsFirstRefused}
 use Rattle.cjc_convert.specs.declared.reading.Trees.{Trees}
-use Rattle.cjc_convert.specs.Trees.{FileIs, AllSpelt, AreRead, FirstForeign, FirstIn, ForeignIn, DecodesClass, IsFirstInFile, earlier, ReadsFile, AllRead, ReadsFiles}
+use Rattle.cjc_convert.specs.Trees.{FileIs, AllSpelt, AreRead, FirstIn, DecodesClass, IsFirstInFile, ReadsFile, ReadsFiles}
 use Rattle.cjc_convert.proofs.Lists.{item_at, front_more}
 
 -- ---- one file
@@ -39,11 +41,11 @@ no_true b e f = absurd (let g : true ≡ false = sym e ∙ f in cc)
 
 -- a file that is read breaks no rule of the first hundred
 pub fine : (line : FileLine) (bytes : List ℕ) (tree : FileTree) → FileIs line bytes tree → FileBreach line bytes → ⊥
-fine line bytes (of_class tree) (is, spelt, whole) (no_class_file place c breaks) = spelt_or_broken class_file bytes tree place spelt breaks
-fine line bytes (of_class tree) (is, spelt, whole) (no_instructions other method offset c again breaks) =
+fine line bytes (of_class tree) (is, spelt, whole, fits) (no_class_file place c breaks) = spelt_or_broken class_file bytes tree place spelt breaks
+fine line bytes (of_class tree) (is, spelt, whole, fits) (no_instructions other method offset c again breaks) =
     let same : other ≡ tree = one_value class_file bytes other tree again spelt in
     whole method offset (subst (λ (t : ClassTree). CodeBreaks t method 103 offset) same breaks)
-fine line bytes (of_class tree) (is, spelt, whole) (no_export_file place c breaks) = no_true line is c
+fine line bytes (of_class tree) (is, spelt, whole, fits) (no_export_file place c breaks) = no_true line is c
 fine line bytes (of_export tree) (is, spelt, fits) (no_class_file place c breaks) = no_true line c is
 fine line bytes (of_export tree) (is, spelt, fits) (no_instructions other method offset c again breaks) = no_true line c is
 fine line bytes (of_export tree) (is, spelt, fits) (no_export_file place c breaks) = spelt_or_broken export_file bytes tree place spelt breaks
@@ -110,10 +112,10 @@ class_stops line bytes old new e is stop = stops line bytes old new e (elim stop
   | inr (k, breaks, refused) ↦ inr (refusal_at line.name bytes k, refused, record { breach = no_class_file k is breaks; is = refl; first = class_first line bytes k is breaks })
 ])
 
-pub code_stops : (line : FileLine) (bytes : List ℕ) (old new : Trees) (number : ℕ) (tree : ClassTree) (from to : List MethodCode) (e : Fault) → line.class_file ≡ true → FileSpells class_file tree bytes
-    → DecodesClass line.name number tree from to (Err e) → ReadsFile line bytes old new (Err e)
-code_stops line bytes old new number tree from to (faults.Refused r) is spelt f = record { breach = no_instructions tree f.method f.breaks.0 is spelt f.breaks.1; is = f.breaks.2; first = code_first line bytes tree r is spelt f }
-code_stops line bytes old new number tree from to faults.NoMemory is spelt f = tt
+pub code_stops : (line : FileLine) (bytes : List ℕ) (old new : Trees) (number : ℕ) (tree : ClassTree) (from to : List MethodCode) (before behind : List Foreign) (e : Fault) → line.class_file ≡ true → FileSpells class_file tree bytes
+    → DecodesClass line.name number tree from to before behind (Err e) → ReadsFile line bytes old new (Err e)
+code_stops line bytes old new number tree from to before behind (faults.Refused r) is spelt f = record { breach = no_instructions tree f.method f.breaks.0 is spelt f.breaks.1; is = f.breaks.2; first = code_first line bytes tree r is spelt f }
+code_stops line bytes old new number tree from to before behind faults.NoMemory is spelt f = tt
 
 pub export_stops : (line : FileLine) (bytes : List ℕ) (old new : Trees) (e : Fault) → line.class_file ≡ false → IsBreak export_file bytes (refusal line.name 104) e → ReadsFile line bytes old new (Err e)
 export_stops line bytes old new e is stop = stops line bytes old new e (elim stop [
@@ -232,100 +234,24 @@ first_of_all lines files trees i at r all here = record {
 pub record ReadSoFar (lines : List FileLine) (files : List (List ℕ)) (i : ℕ) (read : Trees) : Type 0 where
   pub are_read : AreRead (take i lines) (take i files) read
   pub count : length read.classes ≤ i
-  pub unsupported : FirstForeign lines files i read.unsupported
 
-foreign_of : (lines : List FileLine) (files : List (List ℕ)) (i : ℕ) (at : FileAt lines files i) (tree : ClassTree) → at.line.class_file ≡ true → FileSpells class_file tree at.bytes
-    → (method offset : ℕ) → CodeBreaks tree method 303 offset → Foreign lines files i
-foreign_of lines files i at tree c spelt method offset breaks = record { at = at; is_class = c; tree = tree; spelt = spelt; method = method; offset = offset; breaks = breaks }
-
--- a method beyond the last breaks nothing
-within : (tree : ClassTree) (k rule offset : ℕ) → CodeBreaks tree k rule offset → k < length tree.methods
-within tree k rule offset breaks = ⊎_elim (λ below. below) (λ beyond. absurd (past_is tree (slice_get tree.methods k) _ (slice_get_past tree.methods k (omega arith)) breaks)) (cases_lt k (length tree.methods))
-  where
-    past_is : (tree : ClassTree) (o : Option MethodTree) (b : Broken) → o ≡ None → of_method tree o ≡ Err b → ⊥
-    past_is tree None b e f = absurd cc
-    past_is tree (Some m) b e f = absurd cc
-
-module _ (lines : List FileLine) (files : List (List ℕ)) (i : ℕ) (at : FileAt lines files i) (tree : ClassTree) (is_class : at.line.class_file ≡ true) (spelt : FileSpells class_file tree at.bytes) where
-  -- what the file at this index breaks by rule 303 is of its tree
-  tree_of : (other : Foreign lines files i) → (other.tree ≡ tree) × (other.at.line.name ≡ at.line.name)
-  tree_of other =
-      let bytes : other.at.bytes ≡ at.bytes = some_is other.at.bytes at.bytes (sym other.at.is_file ∙ at.is_file) in
-      let line : other.at.line ≡ at.line = some_is other.at.line at.line (sym other.at.is_line ∙ at.is_line) in
-      (one_value class_file at.bytes other.tree tree (subst (λ (b : List ℕ). FileSpells class_file other.tree b) bytes other.spelt) spelt, ap (λ (l : FileLine). l.name) line)
-
-  breaks_here : (other : Foreign lines files i) → CodeBreaks tree other.method 303 other.offset
-  breaks_here other = subst (λ (t : ClassTree). CodeBreaks t other.method 303 other.offset) (tree_of other).0 other.breaks
-
-  foreign_more : (old new : Option Refusal) → FirstForeign lines files i old → ForeignIn at.line.name tree (length tree.methods) new → FirstForeign lines files (i + 1) (earlier old new)
-  unfolding foreign_of
-  foreign_more (Some r) new f here = f
-  foreign_more None None f here = λ j lt other. ⊎_elim (λ below. f j below other) (λ not. last j (omega arith) other) (cases_lt j i)
-    where
-      last : (j : ℕ) → j ≡ i → Foreign lines files j → ⊥
-      last j e other =
-          let moved = subst (λ n. Foreign lines files n) e other in
-          here moved.method moved.offset (within tree moved.method 303 moved.offset (breaks_here moved)) (breaks_here moved)
-  foreign_more None (Some r) f here =
-      let mine = foreign_of lines files i at tree is_class spelt here.method here.breaks.0 here.breaks.1 in
-      record {
-        broken = foreign_break lines files i mine;
-        first = record { breaks = (i, mine, refl); least = least };
-        is = here.breaks.2;
-      }
-    where
-      same_file : (other : Foreign lines files i) → NotAfter (foreign_rank lines files i (foreign_of lines files i at tree is_class spelt here.method here.breaks.0 here.breaks.1)) (foreign_rank lines files i other)
-      same_file other =
-          let fields = ap (λ (t : ClassTree). length t.fields) (tree_of other).0 in
-          elim (method_first at.line.name tree 303 r here other.method other.offset (breaks_here other)) [
-            | inl later ↦ (
-                let lower : method_rank tree here.method < method_rank other.tree other.method = omega (arith, fields) in
-                inr (refl, inr (refl, inr (refl, inl lower))))
-            | inr (k, offset) ↦ (
-                let member : method_rank tree here.method ≡ method_rank other.tree other.method = omega (arith, fields, k) in
-                inr (refl, inr (refl, inr (refl, inr (member, inr (offset, inr (refl, tt)))))))
-          ]
-
-      by : (j : ℕ) (other : Foreign lines files j) → (j < i) ⊎ ((i ≡ j) ⊎ (i < j))
-          → NotAfter (foreign_rank lines files i (foreign_of lines files i at tree is_class spelt here.method here.breaks.0 here.breaks.1)) (foreign_rank lines files j other)
-      by j other (inl before) = absurd (f j before other)
-      by j other (inr (inl same)) =
-          let P : ℕ → Type 0 = λ n. (x : Foreign lines files n) → NotAfter (foreign_rank lines files i (foreign_of lines files i at tree is_class spelt here.method here.breaks.0 here.breaks.1)) (foreign_rank lines files n x) in
-          subst P same same_file other
-      by j other (inr (inr later)) = inr (refl, inl (omega arith))
-
-      least : (a : Break) → BreaksForeign lines files a → NotAfter (foreign_rank lines files i (foreign_of lines files i at tree is_class spelt here.method here.breaks.0 here.breaks.1)) a.rank
-      least a (j, other, is) =
-          subst (λ (x : Break). NotAfter (foreign_rank lines files i (foreign_of lines files i at tree is_class spelt here.method here.breaks.0 here.breaks.1)) x.rank) (sym is) (by j other (compared i j))
-
-foreign_passed : (lines : List FileLine) (files : List (List ℕ)) (i : ℕ) (at : FileAt lines files i) → at.line.class_file ≡ false → (old : Option Refusal) → FirstForeign lines files i old → FirstForeign lines files (i + 1) old
-foreign_passed lines files i at is (Some r) f = f
-foreign_passed lines files i at is None f = λ j lt other. ⊎_elim (λ below. f j below other) (λ not. last j (omega arith) other) (cases_lt j i)
-  where
-    last : (j : ℕ) → j ≡ i → Foreign lines files j → ⊥
-    last j e other =
-        let moved = subst (λ n. Foreign lines files n) e other in
-        let line : moved.at.line ≡ at.line = some_is moved.at.line at.line (sym moved.at.is_line ∙ at.is_line) in
-        no_true at.line (sym (ap (λ (l : FileLine). l.class_file) line) ∙ moved.is_class) is
-
-codes_from_more : (n : ℕ) (trees : List ClassTree) (tree : ClassTree) → codes_from n (trees ++ tree ∷ []) ≡ codes_from n trees ++ codes_of_methods (n + length trees) 0 tree tree.methods
-codes_from_more n [] tree = append-nil (codes_of_methods n 0 tree tree.methods) ∙ ap (λ k. codes_of_methods k 0 tree tree.methods) (sym (add-zero n))
-codes_from_more n (t ∷ ts) tree =
+classes_put : {A : Type 0} (f : ℕ → ℕ → Result (List JInsn) Broken → List A) (n : ℕ) (trees : List ClassTree) (tree : ClassTree) → of_classes f n (trees ++ tree ∷ []) ≡ of_classes f n trees ++ of_methods f (n + length trees) 0 tree tree.methods
+classes_put f n [] tree = append-nil (of_methods f n 0 tree tree.methods) ∙ ap (λ k. of_methods f k 0 tree tree.methods) (sym (add-zero n))
+classes_put f n (t ∷ ts) tree =
     let at : n + 1 + length ts ≡ n + suc (length ts) = omega arith in
-    ap (λ cs. codes_of_methods n 0 t t.methods ++ cs) (codes_from_more (n + 1) ts tree)
-    ∙ sym (append_assoc (codes_of_methods n 0 t t.methods) (codes_from (n + 1) ts) (codes_of_methods (n + 1 + length ts) 0 tree tree.methods))
-    ∙ ap (λ k. (codes_of_methods n 0 t t.methods ++ codes_from (n + 1) ts) ++ codes_of_methods k 0 tree tree.methods) at
+    ap (λ cs. of_methods f n 0 t t.methods ++ cs) (classes_put f (n + 1) ts tree)
+    ∙ sym (append_assoc (of_methods f n 0 t t.methods) (of_classes f (n + 1) ts) (of_methods f (n + 1 + length ts) 0 tree tree.methods))
+    ∙ ap (λ k. (of_methods f n 0 t t.methods ++ of_classes f (n + 1) ts) ++ of_methods f k 0 tree tree.methods) at
 
-codes_more : (trees : List ClassTree) (tree : ClassTree) → all_codes (trees ++ tree ∷ []) ≡ all_codes trees ++ codes_of_methods (length trees) 0 tree tree.methods
-codes_more trees tree =
+class_put : {A : Type 0} (f : ℕ → ℕ → Result (List JInsn) Broken → List A) (trees : List ClassTree) (tree : ClassTree) → of_classes f 0 (trees ++ tree ∷ []) ≡ of_classes f 0 trees ++ of_methods f (length trees) 0 tree tree.methods
+class_put f trees tree =
     let at : 0 + length trees ≡ length trees = omega arith in
-    codes_from_more 0 trees tree ∙ ap (λ k. all_codes trees ++ codes_of_methods k 0 tree tree.methods) at
+    classes_put f 0 trees tree ∙ ap (λ k. of_classes f 0 trees ++ of_methods f k 0 tree tree.methods) at
 
-pub none_read : (lines : List FileLine) (files : List (List ℕ)) (read : Trees) → read ≡ record { classes = []; exports = []; codes = []; unsupported = None } → ReadSoFar lines files 0 read
+pub none_read : (lines : List FileLine) (files : List (List ℕ)) (read : Trees) → read ≡ record { classes = []; exports = []; codes = []; foreigns = [] } → ReadSoFar lines files 0 read
 none_read lines files read is = rw is (record {
-  are_read = record { trees = []; spelt = (refl, refl); classes = refl; exports = refl; codes = refl };
+  are_read = record { trees = []; spelt = (refl, refl); classes = refl; exports = refl; codes = refl; foreigns = refl };
   count = omega arith;
-  unsupported = λ j lt other. absurd (omega arith);
 })
 
 spelt_more : (lines : List FileLine) (files : List (List ℕ)) (trees : List FileTree) (i : ℕ) (line : FileLine) (bytes : List ℕ) (tree : FileTree)
@@ -348,11 +274,11 @@ read_more lines files old new i line bytes lent a b is_line is_file same read (o
         classes = read.are_read.classes ∙ sym (append-nil (classes_of read.are_read.trees)) ∙ sym (classes_more read.are_read.trees (of_export tree));
         exports = ap (λ es. es ++ tree ∷ []) read.are_read.exports ∙ sym (exports_more read.are_read.trees (of_export tree));
         codes = read.are_read.codes;
+        foreigns = read.are_read.foreigns;
       };
       count = let few = read.count in omega arith;
-      unsupported = foreign_passed lines files i at is.0 old.unsupported read.unsupported;
     })
-read_more lines files old new i line bytes lent a b is_line is_file same read (of_class tree, is, (unsupported, first, puts)) =
+read_more lines files old new i line bytes lent a b is_line is_file same read (of_class tree, is, puts) =
     let here = subst (λ (x : List ℕ). FileIs line x (of_class tree)) same is in
     let at : FileAt lines files i = record { line = line; bytes = bytes; is_line = item_at lines i line a is_line; is_file = item_at files i bytes b is_file } in
     rw puts (record {
@@ -361,10 +287,10 @@ read_more lines files old new i line bytes lent a b is_line is_file same read (o
         spelt = spelt_more lines files read.are_read.trees i line bytes (of_class tree) a b is_line is_file here read.are_read.spelt;
         classes = ap (λ cs. cs ++ tree ∷ []) read.are_read.classes ∙ sym (classes_more read.are_read.trees (of_class tree));
         exports = read.are_read.exports ∙ sym (append-nil (exports_of read.are_read.trees)) ∙ sym (exports_more read.are_read.trees (of_class tree));
-        codes = ap (λ cs. cs ++ codes_of_methods (length old.classes) 0 tree tree.methods) read.are_read.codes ∙ sym (codes_more old.classes tree);
+        codes = ap (λ cs. cs ++ of_methods code_with (length old.classes) 0 tree tree.methods) read.are_read.codes ∙ sym (class_put code_with old.classes tree);
+        foreigns = ap (λ xs. xs ++ of_methods foreign_with (length old.classes) 0 tree tree.methods) read.are_read.foreigns ∙ sym (class_put foreign_with old.classes tree);
       };
       count = let few = read.count in let size = length-append old.classes (tree ∷ []) in omega (arith, size);
-      unsupported = foreign_more lines files i at tree here.0 here.1 old.unsupported unsupported read.unsupported first;
     })
 
 pub read_stops : (lines : List FileLine) (files : List (List ℕ)) (old new : Trees) (i : ℕ) (line : FileLine) (bytes lent : List ℕ) (e : Fault)
@@ -375,15 +301,12 @@ read_stops lines files old new i line bytes lent (faults.Refused r) a b is_line 
     first_of_all lines files read.are_read.trees i (record { line = line; bytes = bytes; is_line = item_at lines i line a is_line; is_file = item_at files i bytes b is_file }) r read.are_read.spelt here
 read_stops lines files old new i line bytes lent faults.NoMemory a b is_line is_file is read first = tt
 
-pub all_read : (lines : List FileLine) (files : List (List ℕ)) (read : Trees) (i : ℕ) → length lines ≤ i → i ≤ length lines → length files ≡ length lines → ReadSoFar lines files i read → AllRead lines files read
+pub all_read : (lines : List FileLine) (files : List (List ℕ)) (read : Trees) (i : ℕ) → length lines ≤ i → i ≤ length lines → length files ≡ length lines → ReadSoFar lines files i read → AreRead lines files read
 all_read lines files read i low high count r =
     let same : i ≡ length lines = omega arith in
     let ls : take i lines ≡ lines = take_all i lines low in
     let fs : take i files ≡ files = take_all i files (omega arith) in
-    record {
-      are_read = subst (λ (l : List FileLine). AreRead l files read) ls (subst (λ (f : List (List ℕ)). AreRead (take i lines) f read) fs r.are_read);
-      unsupported = subst (λ n. FirstForeign lines files n read.unsupported) same r.unsupported;
-    }
+    subst (λ (l : List FileLine). AreRead l files read) ls (subst (λ (f : List (List ℕ)). AreRead (take i lines) f read) fs r.are_read)
 
 -- the line of a class file
 pub as_class : (line : FileLine) (bytes : List ℕ) (old new : Trees) (result : Result Unit Fault) → line.class_file ≡ true → (name : List ℕ) → name ≡ line.name
@@ -392,21 +315,21 @@ as_class line bytes old new result is name same h =
     let here = subst (λ (n : List ℕ). ReadsFile (record { class_file = true; name = n }) bytes old new result) same h in
     subst (λ (b : Bool). ReadsFile (record { class_file = b; name = line.name }) bytes old new result) (sym is) here
 
--- a class file that is read, with its codes
-pub class_read : (name bytes : List ℕ) (old : Trees) (tree : ClassTree) (items classes : List ClassTree) (codes : List MethodCode) (u before after : Option Refusal) → FileSpells class_file tree bytes → items ≡ old.classes
-    → DecodesClass name (length items) tree old.codes codes (Ok u) → classes ≡ old.classes ++ tree ∷ [] → before ≡ old.unsupported → after ≡ earlier before u
-    → ReadsFile (record { class_file = true; name = name }) bytes old (record { classes = classes; exports = old.exports; codes = codes; unsupported = after }) (Ok tt)
-class_read name bytes old tree items classes codes u before after spelt same decoded pushed taken joined =
-    let with : List ClassTree → List MethodCode → Option Refusal → Trees = λ cs ms o. record { classes = cs; exports = old.exports; codes = ms; unsupported = o } in
+-- a class file that is read, with what its methods are decoded to
+pub class_read : (name bytes : List ℕ) (old : Trees) (tree : ClassTree) (items classes : List ClassTree) (codes : List MethodCode) (foreigns : List Foreign) → FileSpells class_file tree bytes → ClassFits tree → items ≡ old.classes
+    → DecodesClass name (length items) tree old.codes codes old.foreigns foreigns (Ok tt) → classes ≡ old.classes ++ tree ∷ []
+    → ReadsFile (record { class_file = true; name = name }) bytes old (record { classes = classes; exports = old.exports; codes = codes; foreigns = foreigns }) (Ok tt)
+class_read name bytes old tree items classes codes foreigns spelt fits same decoded pushed =
+    let with : List ClassTree → List MethodCode → List Foreign → Trees = λ cs ms xs. record { classes = cs; exports = old.exports; codes = ms; foreigns = xs } in
     let put = old.classes ++ tree ∷ [] in
-    let own = old.codes ++ codes_of_methods (length old.classes) 0 tree tree.methods in
-    let numbered = decoded.0 ∙ ap (λ (ts : List ClassTree). old.codes ++ codes_of_methods (length ts) 0 tree tree.methods) same in
-    let first = joined ∙ ap (λ o. earlier o u) taken in (
+    let own = old.codes ++ of_methods code_with (length old.classes) 0 tree tree.methods in
+    let numbered = decoded.0 ∙ ap (λ (ts : List ClassTree). old.codes ++ of_methods code_with (length ts) 0 tree tree.methods) same in
+    let placed = decoded.1 ∙ ap (λ (ts : List ClassTree). old.foreigns ++ of_methods foreign_with (length ts) 0 tree tree.methods) same in (
       of_class tree,
-      (refl, spelt, decoded.2),
-      (u, decoded.1, ap (λ cs. with cs codes after) pushed ∙ ap (λ ms. with put ms after) numbered ∙ ap (λ o. with put own o) first),
+      (refl, spelt, decoded.2, fits),
+      ap (λ cs. with cs codes foreigns) pushed ∙ ap (λ ms. with put ms foreigns) numbered ∙ ap (λ xs. with put own xs) placed,
     )
 
 pub export_read : (line : FileLine) (bytes : List ℕ) (old : Trees) (tree : ExportTree) (exports : List ExportTree) → line.class_file ≡ false → FileSpells export_file tree bytes → IsWritable tree → exports ≡ old.exports ++ tree ∷ []
-    → ReadsFile line bytes old (record { classes = old.classes; exports = exports; codes = old.codes; unsupported = old.unsupported }) (Ok tt)
-export_read line bytes old tree exports is spelt fits pushed = (of_export tree, (is, spelt, fits), ap (λ (es : List ExportTree). let t : Trees = record { classes = old.classes; exports = es; codes = old.codes; unsupported = old.unsupported } in t) pushed)
+    → ReadsFile line bytes old (record { classes = old.classes; exports = exports; codes = old.codes; foreigns = old.foreigns }) (Ok tt)
+export_read line bytes old tree exports is spelt fits pushed = (of_export tree, (is, spelt, fits), ap (λ (es : List ExportTree). let t : Trees = record { classes = old.classes; exports = es; codes = old.codes; foreigns = old.foreigns } in t) pushed)

@@ -1,7 +1,6 @@
 -- The first broken rule of some groups, by the first of each.
-use Rattle.std.proofs.Common.{◌≡◌, ℕ, ◌+◌, ◌<◌, ◌⊎◌, ⊎_elim, inl, inr, Bool, true, false, List, [], ◌∷◌, ◌++◌, Option, Some, None, length, refl, sym, ap, subst, ◌∙◌, arith}
+use Rattle.std.proofs.Common.{◌≡◌, ℕ, ◌+◌, ◌<◌, ◌≤◌, ◌⊎◌, ⊎_elim, inl, inr, Bool, true, false, List, [], ◌∷◌, ◌++◌, Option, Some, None, length, refl, sym, ap, subst, ◌∙◌, arith}
 use Rattle.std.specs.Prelude.{map, slice_get, if◌then◌else◌}
-use Rattle.std.proofs.lemmas.Option.{slice_get_within}
 use Rattle.cjc_bytes.specs.Order.{numbers, AreUpTo, NotAfter}
 use Rattle.cjc_bytes.specs.declared.fault.Refusal.{Refusal}
 use Rattle.cjc_bytes.specs.declared.settings.FileLine.{FileLine}
@@ -14,9 +13,13 @@ use Rattle.cjc_list.specs.Listed.{ListTree}
 use Rattle.cjc_world.specs.Classes.{Class, Member, declared, numbered, size, all_classes}
 use Rattle.cjc_world.specs.Files.{Files}
 use Rattle.cjc_world.specs.Rules.{Break, Among, foremost, after, IsFirst, at_class, at_member, told, members_before, members_from, class_breaks, classes_breaks, class_file_breaks, export_file_breaks, breaks_from, breaks}
-use Rattle.cjc_convert.specs.Spelt.{FileTree, of_class, of_export, SpellsTree, SpellTrees}
-use Rattle.cjc_convert.specs.Rules.{FileBreach, no_class_file, no_instructions, no_export_file, file_rank, BreaksFile, files_spelt, BreaksWorld, BreaksForeign, Breach, of_file, of_world, of_foreign, IsFirstRefused, IsFirstBroken}
-use Rattle.cjc_convert.specs.Trees.{FileIs, AllSpelt, FirstForeign}
+use Rattle.cjc_convert.specs.Spelt.{FileTree, of_class, of_export, SpellsTree, SpellTrees, classes_of}
+use Rattle.cjc_convert.specs.Rules.{FileBreach, no_class_file, no_instructions, no_export_file, file_rank, BreaksFile, files_spelt, BreaksWorld, BreaksNames, BreaksForeign, BreaksSubset, BreaksAnyType, BreaksTypes, foreign_breaks, settings_of, Breach, of_file, of_world, of_names, of_foreign, of_subset, of_types, IsFirstRefused, IsFirstBroken}
+use Rattle.cjc_convert.specs.Trees.{FileIs, AllSpelt}
+use Rattle.cjc_subset.specs.Names.{name_breaks}
+use Rattle.cjc_convert.specs.Codes.{all_codes, all_foreigns}
+use Rattle.cjc_subset.specs.Checks.{check_breaks}
+use Rattle.cjc_convert.proofs.Families.{IsLanguage, names_second, foreigns_third, checks_language, type_fifth}
 use Rattle.cjc_convert.proofs.Files.{files_fine}
 
 -- ---- two groups
@@ -57,19 +60,29 @@ first_of_two f g up = first_before f (λ a h. upto_trans (numbers f.broken.rank)
 
 -- ---- the groups, and the hundreds of their rules
 
+-- the groups that need the world and its names
+abbrev pub Behind : ListTree → List (List ℕ) → Break → Type 0
+Behind list files = Either (BreaksForeign list files) (Either (BreaksSubset list files) (BreaksTypes list files))
+
 -- the group of a broken rule: one line a group, the first ones first
 abbrev pub Groups : ListTree → List (List ℕ) → Break → Type 0
-Groups list files = Either (BreaksFile list.lines files) (Either (BreaksWorld list files) (BreaksForeign list.lines files))
+Groups list files = Either (BreaksFile list.lines files) (Either (BreaksWorld list files) (Either (BreaksNames list files) (Behind list files)))
 
 group_of : (list : ListTree) (files : List (List ℕ)) (b : Break) → Breach list files b → Groups list files b
 group_of list files b (of_file h) = inl h
 group_of list files b (of_world h) = inr (inl h)
-group_of list files b (of_foreign h) = inr (inr h)
+group_of list files b (of_names h) = inr (inr (inl h))
+group_of list files b (of_foreign h) = inr (inr (inr (inl h)))
+group_of list files b (of_subset h) = inr (inr (inr (inr (inl h))))
+group_of list files b (of_types h) = inr (inr (inr (inr (inr h))))
 
 of_group : (list : ListTree) (files : List (List ℕ)) (b : Break) → Groups list files b → Breach list files b
 of_group list files b (inl h) = of_file h
 of_group list files b (inr (inl h)) = of_world h
-of_group list files b (inr (inr h)) = of_foreign h
+of_group list files b (inr (inr (inl h))) = of_names h
+of_group list files b (inr (inr (inr (inl h)))) = of_foreign h
+of_group list files b (inr (inr (inr (inr (inl h))))) = of_subset h
+of_group list files b (inr (inr (inr (inr (inr h))))) = of_types h
 
 first_broken : (list : ListTree) (files : List (List ℕ)) (r : Refusal) → IsFirstRefused (Groups list files) r → IsFirstBroken list files r
 first_broken list files r f = record {
@@ -85,9 +98,6 @@ file_family lines files b (i, at, breach, is) = ap (λ (x : Break). x.rank.famil
     by i line bytes (no_class_file p c h) = refl
     by i line bytes (no_instructions t m o c s h) = refl
     by i line bytes (no_export_file p c h) = refl
-
-foreign_family : (lines : List FileLine) (files : List (List ℕ)) (b : Break) → BreaksForeign lines files b → b.rank.family ≡ 3
-foreign_family lines files b (i, f, is) = ap (λ (x : Break). x.rank.family) is
 
 -- All of these are of the second hundred.
 record InSecond (bs : List Break) : Type 0 where
@@ -155,6 +165,41 @@ breaks_second list files = second_append _ _ (second_map (λ rule. at_class 0 li
 world_family : (list : ListTree) (files : List (List ℕ)) (b : Break) → BreaksWorld list files b → b.rank.family ≡ 2
 world_family list files b (trees, spelt, among) = (breaks_second list.name (files_spelt list trees)).family b among
 
+names_family : (list : ListTree) (files : List (List ℕ)) (b : Break) → BreaksNames list files b → b.rank.family ≡ 2
+names_family list files b (trees, world, among) = (names_second (files_spelt list trees) (all_codes (classes_of trees))).family b among
+
+pub none_among : (b : Break) → Among b [] → ⊥
+none_among b i = elim i [ ]
+
+pub among_left : (b : Break) (xs ys : List Break) → Among b xs → Among b (xs ++ ys)
+among_left b [] ys i = elim i [ ]
+among_left b (x ∷ xs) ys foremost = foremost
+among_left b (x ∷ xs) ys (after i) = after (among_left b xs ys i)
+
+pub among_right : (b : Break) (xs ys : List Break) → Among b ys → Among b (xs ++ ys)
+among_right b [] ys i = i
+among_right b (x ∷ xs) ys i = after (among_right b xs ys i)
+
+pub among_split : (b : Break) (xs ys : List Break) → Among b (xs ++ ys) → Among b xs ⊎ Among b ys
+among_split b [] ys i = inr i
+among_split b (x ∷ xs) ys foremost = inl foremost
+among_split b (x ∷ xs) ys (after i) = elim (among_split b xs ys i) [ inl j ↦ inl (after j) | inr j ↦ inr j ]
+
+foreign_family : (list : ListTree) (files : List (List ℕ)) (b : Break) → BreaksForeign list files b → b.rank.family ≡ 3
+foreign_family list files b (trees, spelt, among) = (foreigns_third (files_spelt list trees) (all_foreigns (classes_of trees))).family b among
+
+subset_family : (list : ListTree) (files : List (List ℕ)) (b : Break) → BreaksSubset list files b → IsLanguage b.rank.family
+subset_family list files b (trees, world, among) = (checks_language list.name (files_spelt list trees) (all_codes (classes_of trees)) (settings_of list)).family b among
+
+types_family : (list : ListTree) (files : List (List ℕ)) (b : Break) → BreaksTypes list files b → b.rank.family ≡ 5
+types_family list files b (trees, world, (i, code, at, h)) = type_fifth (files_spelt list trees) code b h
+
+-- the groups behind names are of the third hundred or a later one
+behind_family : (list : ListTree) (files : List (List ℕ)) (b : Break) → Behind list files b → 3 ≤ b.rank.family
+behind_family list files b (inl h) = let three = foreign_family list files b h in omega (arith, three)
+behind_family list files b (inr (inl h)) = (subset_family list files b h).0
+behind_family list files b (inr (inr h)) = let five = types_family list files b h in omega (arith, five)
+
 -- ---- what the files spell
 
 no_true : {P : Type 0} (b : FileLine) → b.class_file ≡ true → b.class_file ≡ false → P
@@ -199,9 +244,10 @@ file_stops list files r f = first_broken list files r (first_before f behind)
     one : f.broken.rank.family ≡ 1
     one = file_family list.lines files f.broken f.first.breaks
 
-    behind : (a : Break) → Either (BreaksWorld list files) (BreaksForeign list.lines files) a → NotAfter f.broken.rank a.rank
+    behind : (a : Break) → Either (BreaksWorld list files) (Either (BreaksNames list files) (Behind list files)) a → NotAfter f.broken.rank a.rank
     behind a (inl h) = lower_family f.broken a (let two = world_family list files a h in omega (arith, one, two))
-    behind a (inr h) = lower_family f.broken a (let three = foreign_family list.lines files a h in omega (arith, one, three))
+    behind a (inr (inl h)) = lower_family f.broken a (let two = names_family list files a h in omega (arith, one, two))
+    behind a (inr (inr h)) = lower_family f.broken a (let three = behind_family list files a h in omega (arith, one, three))
 
 module _ (list : ListTree) (files : List (List ℕ)) (trees : List FileTree) (all : AllSpelt list.lines files trees) where
   spelt_once : (us : List FileTree) → SpellTrees list.lines files us → us ≡ trees
@@ -217,22 +263,108 @@ module _ (list : ListTree) (files : List (List ℕ)) (trees : List FileTree) (al
       world : IsFirstRefused (BreaksWorld list files) b.refusal
       world = record { broken = b; first = record { breaks = (trees, all_spell list.lines files trees all, f.among); least = least }; is = refl }
 
-      behind : (a : Break) → BreaksForeign list.lines files a → NotAfter b.rank a.rank
-      behind a h = lower_family b a (let two = (breaks_second list.name (files_spelt list trees)).family b f.among in let three = foreign_family list.lines files a h in omega (arith, two, three))
+      -- names are asked of a world alone
+      no_world : (us : List FileTree) → SpellTrees list.lines files us → breaks list.name (files_spelt list us) ≡ [] → ⊥
+      no_world us spelt none = none_among b (subst (Among b) (sym (ap (λ (ts : List FileTree). breaks list.name (files_spelt list ts)) (spelt_once us spelt)) ∙ none) f.among)
+
+      behind : (a : Break) → Either (BreaksNames list files) (Behind list files) a → NotAfter b.rank a.rank
+      behind a (inl (us, world, among)) = absurd (no_world us world.0 world.1)
+      behind a (inr h) = lower_family b a (let two = (breaks_second list.name (files_spelt list trees)).family b f.among in let three = behind_family list files a h in omega (arith, two, three))
 
   module _ (unbroken : breaks list.name (files_spelt list trees) ≡ []) where
     world_fine : (a : Break) → BreaksWorld list files a → ⊥
-    world_fine a (us, spelt, among) = none (subst (Among a) (ap (λ (ts : List FileTree). breaks list.name (files_spelt list ts)) (spelt_once us spelt) ∙ unbroken) among)
+    world_fine a (us, spelt, among) = none_among a (subst (Among a) (ap (λ (ts : List FileTree). breaks list.name (files_spelt list ts)) (spelt_once us spelt) ∙ unbroken) among)
+
+    abbrev names : List Break
+    names = name_breaks (files_spelt list trees) (all_codes (classes_of trees))
+
+    of_names_here : (a : Break) → BreaksNames list files a → Among a names
+    of_names_here a (us, world, among) = subst (λ (ts : List FileTree). Among a (name_breaks (files_spelt list ts) (all_codes (classes_of ts)))) (spelt_once us world.0) among
+
+    -- a rule of names, where the classes are a world
+    pub names_stop : (b : Break) → IsFirst b names → IsFirstBroken list files b.refusal
+    names_stop b f = first_broken list files b.refusal (first_after (files_fine list.lines files trees all) (first_after world_fine (first_before first behind)))
       where
-        none : Among a [] → ⊥
-        none i = elim i [ ]
+        first : IsFirstRefused (BreaksNames list files) b.refusal
+        first = record {
+          broken = b;
+          first = record { breaks = (trees, (all_spell list.lines files trees all, unbroken), f.among); least = λ a h. f.least a (of_names_here a h) };
+          is = refl;
+        }
 
-    -- rule 303, where no rule before it is broken
-    pub foreign_stops : (r : Refusal) → IsFirstRefused (BreaksForeign list.lines files) r → IsFirstBroken list files r
-    foreign_stops r f = first_broken list files r (first_after (files_fine list.lines files trees all) (first_after world_fine f))
+        behind : (a : Break) → Behind list files a → NotAfter b.rank a.rank
+        behind a h = lower_family b a (let two = (names_second (files_spelt list trees) (all_codes (classes_of trees))).family b f.among in let three = behind_family list files a h in omega (arith, two, three))
 
-    -- no rule is broken
-    pub none_broken : FirstForeign list.lines files (length list.lines) None → (b : Break) → Breach list files b → ⊥
-    none_broken none b (of_file h) = files_fine list.lines files trees all b h
-    none_broken none b (of_world h) = world_fine b h
-    none_broken none b (of_foreign (i, f, is)) = none i (slice_get_within list.lines i f.at.line f.at.is_line) f
+    module _ (named : names ≡ []) where
+      names_fine : (a : Break) → BreaksNames list files a → ⊥
+      names_fine a h = none_among a (subst (Among a) named (of_names_here a h))
+
+      abbrev foreigns : List Break
+      foreigns = foreign_breaks (files_spelt list trees) (all_foreigns (classes_of trees))
+
+      abbrev checks : List Break
+      checks = check_breaks list.name (files_spelt list trees) (all_codes (classes_of trees)) (settings_of list)
+
+      of_foreigns_here : (a : Break) → BreaksForeign list files a → Among a foreigns
+      of_foreigns_here a (us, spelt, among) = subst (λ (ts : List FileTree). Among a (foreign_breaks (files_spelt list ts) (all_foreigns (classes_of ts)))) (spelt_once us spelt) among
+
+      of_checks_here : (a : Break) → BreaksSubset list files a → Among a checks
+      of_checks_here a (us, world, among) =
+          subst (λ (ts : List FileTree). Among a (check_breaks list.name (files_spelt list ts) (all_codes (classes_of ts)) (settings_of list))) (spelt_once us world.0) among
+
+      past_names : {r : Refusal} → IsFirstRefused (Behind list files) r → IsFirstBroken list files r
+      past_names {r} f = first_broken list files r (first_after (files_fine list.lines files trees all) (first_after world_fine (first_after names_fine f)))
+
+      -- a rule of the third or fourth hundred
+      pub language_stops : (b : Break) → IsFirst b (foreigns ++ checks) → IsFirstBroken list files b.refusal
+      language_stops b f = past_names (record { broken = b; first = record { breaks = by (among_split b foreigns checks f.among); least = least }; is = refl })
+        where
+          by : Among b foreigns ⊎ Among b checks → Behind list files b
+          by (inl i) = inl (trees, all_spell list.lines files trees all, i)
+          by (inr i) = inr (inl (trees, (all_spell list.lines files trees all, unbroken), i))
+
+          family : Behind list files b → b.rank.family ≤ 4
+          family (inl h) = let three = foreign_family list files b h in omega (arith, three)
+          family (inr (inl h)) = (subset_family list files b h).1
+          family (inr (inr (us, world, (i, code, at, h)))) = absurd (here (among_split b foreigns checks f.among) (type_fifth (files_spelt list us) code b h))
+            where
+              here : Among b foreigns ⊎ Among b checks → b.rank.family ≡ 5 → ⊥
+              here (inl i) five = let three = (foreigns_third (files_spelt list trees) (all_foreigns (classes_of trees))).family b i in omega (arith, three, five)
+              here (inr i) five = let four = ((checks_language list.name (files_spelt list trees) (all_codes (classes_of trees)) (settings_of list)).family b i).1 in omega (arith, four, five)
+
+          least : (a : Break) → Behind list files a → NotAfter b.rank a.rank
+          least a (inl h) = f.least a (among_left a foreigns checks (of_foreigns_here a h))
+          least a (inr (inl h)) = f.least a (among_right a foreigns checks (of_checks_here a h))
+          least a (inr (inr h)) = lower_family b a (let four = family (by (among_split b foreigns checks f.among)) in let five = types_family list files a h in omega (arith, four, five))
+
+      module _ (fit : foreigns ++ checks ≡ []) where
+        language_fine : (a : Break) → Behind list files a → BreaksTypes list files a
+        language_fine a (inl h) = absurd (none_among a (subst (Among a) fit (among_left a foreigns checks (of_foreigns_here a h))))
+        language_fine a (inr (inl h)) = absurd (none_among a (subst (Among a) fit (among_right a foreigns checks (of_checks_here a h))))
+        language_fine a (inr (inr h)) = h
+
+        abbrev TypeBreaks : Break → Type 0
+        TypeBreaks = BreaksAnyType (files_spelt list trees) (all_codes (classes_of trees))
+
+        of_types_here : (a : Break) → BreaksTypes list files a → TypeBreaks a
+        of_types_here a (us, world, h) = subst (λ (ts : List FileTree). BreaksAnyType (files_spelt list ts) (all_codes (classes_of ts)) a) (spelt_once us world.0) h
+
+        -- a rule of types
+        pub types_stop : (r : Refusal) → IsFirstRefused TypeBreaks r → IsFirstBroken list files r
+        types_stop r f = past_names (record {
+          broken = f.broken;
+          first = record {
+            breaks = inr (inr (trees, (all_spell list.lines files trees all, unbroken), f.first.breaks));
+            least = λ a h. f.first.least a (of_types_here a (language_fine a h));
+          };
+          is = f.is;
+        })
+
+        -- no rule is broken
+        pub none_broken : ((b : Break) → TypeBreaks b → ⊥) → (b : Break) → Breach list files b → ⊥
+        none_broken none b (of_file h) = files_fine list.lines files trees all b h
+        none_broken none b (of_world h) = world_fine b h
+        none_broken none b (of_names h) = names_fine b h
+        none_broken none b (of_foreign h) = none b (of_types_here b (language_fine b (inl h)))
+        none_broken none b (of_subset h) = none b (of_types_here b (language_fine b (inr (inl h))))
+        none_broken none b (of_types h) = none b (of_types_here b h)

@@ -8,7 +8,7 @@ use Rattle.cjc_code.specs.declared.decoding.Broken.{Broken}
 use Rattle.cjc_code.specs.declared.insn.JInsn.{JInsn}
 use Rattle.cjc_code.specs.Decoded.{decoding}
 use Rattle.cjc_code.specs.declared.method_code.MethodCode.{MethodCode}
-use Rattle.cjc_convert.specs.Codes.{code_with, code_where, codes_of_methods, all_codes, first_insns}
+use Rattle.cjc_convert.specs.Codes.{code_with, where_code, of_methods, all_codes, first_insns}
 use Rattle.cjc_convert.specs.FirstForm.{PackageLine, IsFirstForm, IsSumCode, IsSumMethod, shorts}
 use Rattle.cjc_convert.specs.Tests.{HasPlainFrame, HasSum, IsSlashPart, IsInside, HasPlainClass, IsFormWith}
 
@@ -112,8 +112,8 @@ one_decoded tree m code x (Err broken) is e = absurd cc
 
 pub one_code : (tree : ClassTree) (m : MethodTree) (code : CodeTree) → tree.methods ≡ m ∷ [] → m.code ≡ Some code → all_codes (tree ∷ []) ≡ code_with 0 0 (decoding tree m code)
 one_code tree m code methods has =
-    ap (λ ms. codes_of_methods 0 0 tree ms ++ []) methods
-    ∙ ap (λ c. (code_where 0 0 tree m c ++ []) ++ []) has
+    ap (λ ms. of_methods code_with 0 0 tree ms ++ []) methods
+    ∙ ap (λ c. (where_code (code_with 0 0) tree m c ++ []) ++ []) has
     ∙ append-nil (code_with 0 0 (decoding tree m code) ++ [])
     ∙ append-nil (code_with 0 0 (decoding tree m code))
 

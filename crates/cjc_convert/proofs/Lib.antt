@@ -2,6 +2,7 @@ pub mod Forms
 pub mod Cuts
 pub mod Decoding
 pub mod Files
+pub mod Families
 pub mod Firsts
 mod Words
 mod Codes
@@ -17,4 +18,6 @@ pub mod Consistency
 pub mod Small
 pub mod Limits
 pub mod ExportFiles
+mod Packages
+mod Typed
 pub mod Converting

@@ -1,19 +1,33 @@
 -- Which rules a package breaks, where each stands in the order of refusals, and which of them is the first.
-use Rattle.std.specs.Prelude.{◌≡◌, ℕ, ◌+◌, List, length, true, false, Some, Err, slice_get}
+use Rattle.std.specs.Prelude.{◌≡◌, ◌⊎◌, ℕ, ◌+◌, List, [], ◌∷◌, ◌++◌, length, true, false, Option, Some, None, Err, slice_get}
 use Rattle.cjc_bytes.specs.Format.{FileSpells, FileBreaks}
 use Rattle.cjc_bytes.specs.Refused.{refusal}
+use Rattle.cjc_bytes.specs.declared.fault.Fault.{Fault}
+use Rattle.cjc_bytes.specs.declared.fault.Fault.TheVariants as faults
 use Rattle.cjc_bytes.specs.declared.fault.Refusal.{Refusal}
 use Rattle.cjc_bytes.specs.declared.settings.FileLine.{FileLine}
+use Rattle.cjc_bytes.specs.declared.settings.Settings.{Settings}
 use Rattle.cjc_classfile.specs.ClassFile.{class_file, refusal_at}
+use Rattle.cjc_classfile.specs.Code.{CodeTree}
 use Rattle.cjc_classfile.specs.declared.tree.ClassTree.{ClassTree}
+use Rattle.cjc_classfile.specs.declared.tree.MethodTree.{MethodTree}
+use Rattle.cjc_code.specs.declared.method_code.MethodCode.{MethodCode}
 use Rattle.cjc_code.specs.Decoded.{decoding_at}
 use Rattle.cjc_code.specs.Decoded as decoded
 use Rattle.cjc_export.specs.ExportFile.{export_file}
 use Rattle.cjc_export.specs.declared.tree.ExportTree.{ExportTree}
 use Rattle.cjc_list.specs.Listed.{ListTree}
+use Rattle.cjc_world.specs.Classes.{all_classes}
 use Rattle.cjc_world.specs.Files.{Files, files_of}
 use Rattle.cjc_world.specs.Rules.{Break, Among, breaks}
 use Rattle.cjc_bytes.specs.Order.{Rank, NotAfter}
+use Rattle.cjc_subset.specs.Names.{name_breaks}
+use Rattle.cjc_subset.specs.Checks.{check_breaks}
+use Rattle.cjc_subset.specs.Places.{at_method, broken_at, each, file_of, of_code, IsFirstOf as FirstOfList}
+use Rattle.cjc_types.specs.Flow.{body_of}
+use Rattle.cjc_types.specs.Tables.{IsMethodOf, IsRefusedBy}
+use Rattle.cjc_convert.specs.Codes.{all_codes, all_foreigns}
+use Rattle.cjc_convert.specs.declared.reading.Foreign.{Foreign}
 use Rattle.cjc_convert.specs.Spelt.{FileTree, SpellTrees, classes_of, exports_of}
 
 -- ---- the rules that one file breaks, whatever the others say
@@ -56,22 +70,6 @@ pub record FileAt (lines : List FileLine) (files : List (List ℕ)) (index : ℕ
   pub is_line : slice_get lines index ≡ Some line
   pub is_file : slice_get files index ≡ Some bytes
 
--- 303: a method that breaks no 103 has an instruction that is not converted.
-pub record Foreign (lines : List FileLine) (files : List (List ℕ)) (index : ℕ) : Type 0 where
-  pub at : FileAt lines files index
-  pub is_class : at.line.class_file ≡ true
-  pub tree : ClassTree
-  pub spelt : FileSpells class_file tree at.bytes
-  pub method : ℕ
-  pub offset : ℕ
-  pub breaks : CodeBreaks tree method 303 offset
-
-abbrev pub foreign_refusal : (lines : List FileLine) (files : List (List ℕ)) (index : ℕ) → Foreign lines files index → Refusal
-foreign_refusal lines files index f = code_refusal f.at.line f.tree f.method 303 f.offset
-
-abbrev pub foreign_rank : (lines : List FileLine) (files : List (List ℕ)) (index : ℕ) → Foreign lines files index → Rank
-foreign_rank lines files index f = record { family = 3; file = index + 1; class = 1; member = method_rank f.tree f.method; offset = f.offset; rule = 303 }
-
 -- ---- groups of rules: each says of a break, a refusal with its rank, whether it is one of its own
 
 -- 101 to 104: a file by itself
@@ -91,12 +89,53 @@ files_spelt list trees = world_files list (classes_of trees) (exports_of trees)
 abbrev pub BreaksWorld : ListTree → List (List ℕ) → Break → Type 0
 BreaksWorld list files b = (trees : List FileTree) × SpellTrees list.lines files trees × Among b (breaks list.name (files_spelt list trees))
 
--- 303: an instruction that is not converted
-abbrev pub foreign_break : (lines : List FileLine) (files : List (List ℕ)) (index : ℕ) → Foreign lines files index → Break
-foreign_break lines files index f = record { rank = foreign_rank lines files index f; refusal = foreign_refusal lines files index f }
+-- The files spell these, and their classes break none of those rules: they are a world.
+abbrev pub AreWorld : ListTree → List (List ℕ) → List FileTree → Type 0
+AreWorld list files trees = SpellTrees list.lines files trees × (breaks list.name (files_spelt list trees) ≡ [])
 
-abbrev pub BreaksForeign : List FileLine → List (List ℕ) → Break → Type 0
-BreaksForeign lines files b = (index : ℕ) × (f : Foreign lines files index) × (b ≡ foreign_break lines files index f)
+-- 203, 205 and 206 of instructions and catch types, of the methods that break neither 103 nor 303
+abbrev pub BreaksNames : ListTree → List (List ℕ) → Break → Type 0
+BreaksNames list files b = (trees : List FileTree) × AreWorld list files trees × Among b (name_breaks (files_spelt list trees) (all_codes (classes_of trees)))
+
+-- 303: the first instruction of a method that is not converted
+unfoldable pub foreign_break : Files → Foreign → List Break
+foreign_break files x = of_code files x.class x.method (λ f c m. broken_at (at_method f c x.method m x.offset) 303 ∷ [])
+
+unfoldable pub foreign_breaks : Files → List Foreign → List Break
+foreign_breaks files xs = each (λ _ x. foreign_break files x) xs
+
+abbrev pub BreaksForeign : ListTree → List (List ℕ) → Break → Type 0
+BreaksForeign list files b = (trees : List FileTree) × SpellTrees list.lines files trees × Among b (foreign_breaks (files_spelt list trees) (all_foreigns (classes_of trees)))
+
+-- 301 to 310 but 303, and 401 to 409
+abbrev pub settings_of : ListTree → Settings
+settings_of list = record { ints = list.ints; applets = list.applets }
+
+abbrev pub BreaksSubset : ListTree → List (List ℕ) → Break → Type 0
+BreaksSubset list files b = (trees : List FileTree) × AreWorld list files trees × Among b (check_breaks list.name (files_spelt list trees) (all_codes (classes_of trees)) (settings_of list))
+
+-- both of these groups, which the third hundred mixes
+abbrev pub language_breaks : ListTree → Files → List MethodCode → List Foreign → List Break
+language_breaks list files codes foreigns = foreign_breaks files foreigns ++ check_breaks list.name files codes (settings_of list)
+
+-- 501 to 503: a method breaks the first of them at the first of its instructions that breaks one
+abbrev pub type_break : Files → MethodCode → ClassTree → MethodTree → Refusal → Break
+type_break files code class method r = broken_at (at_method (file_of files.lines code.class) class code.method method r.place.offset) r.rule.0
+
+pub record BreaksType (files : Files) (code : MethodCode) (b : Break) : Type 0 where
+  pub class : ClassTree
+  pub method : MethodTree
+  pub tree : CodeTree
+  pub of_package : IsMethodOf files code class method tree
+  pub refusal : Refusal
+  pub breaks : IsRefusedBy (all_classes files) (file_of files.lines code.class).name class method (body_of class method tree code.insns) refusal
+  pub is : b ≡ type_break files code class method refusal
+
+abbrev pub BreaksAnyType : Files → List MethodCode → Break → Type 0
+BreaksAnyType files codes b = (i : ℕ) × (code : MethodCode) × (slice_get codes i ≡ Some code) × BreaksType files code b
+
+abbrev pub BreaksTypes : ListTree → List (List ℕ) → Break → Type 0
+BreaksTypes list files b = (trees : List FileTree) × AreWorld list files trees × BreaksAnyType (files_spelt list trees) (all_codes (classes_of trees)) b
 
 -- ---- all rules
 
@@ -104,7 +143,10 @@ BreaksForeign lines files b = (index : ℕ) × (f : Foreign lines files index) �
 pub data Breach (list : ListTree) (files : List (List ℕ)) (b : Break) : Type 0 where
   of_file : BreaksFile list.lines files b → Breach list files b
   of_world : BreaksWorld list files b → Breach list files b
-  of_foreign : BreaksForeign list.lines files b → Breach list files b
+  of_names : BreaksNames list files b → Breach list files b
+  of_foreign : BreaksForeign list files b → Breach list files b
+  of_subset : BreaksSubset list files b → Breach list files b
+  of_types : BreaksTypes list files b → Breach list files b
 
 -- The break is one of these, and none of these stands before it.
 pub record IsFirstOf (Group : Break → Type 0) (b : Break) : Type 0 where
@@ -116,6 +158,17 @@ pub record IsFirstRefused (Group : Break → Type 0) (r : Refusal) : Type 0 wher
   pub broken : Break
   pub first : IsFirstOf Group broken
   pub is : r ≡ broken.refusal
+
+-- The error is the refusal of the first of these, or that memory ran out.
+abbrev pub IsFirstFault : (Break → Type 0) → Fault → Type 0
+IsFirstFault Group e = (e ≡ faults.NoMemory) ⊎ ((r : Refusal) × IsFirstRefused Group r × (e ≡ faults.Refused r))
+
+-- The list has exactly these breaks, and the answer is the first of it, if it has one.
+abbrev pub IsListOf : (Break → Type 0) → List Break → Type 0
+IsListOf Group bs = (b : Break) → (Among b bs → Group b) × (Group b → Among b bs)
+
+abbrev pub IsFirstIn : (Break → Type 0) → Option Break → Type 0
+IsFirstIn Group o = (bs : List Break) × IsListOf Group bs × FirstOfList bs o
 
 -- The refusal is of a broken rule, and no broken rule stands before that one.
 abbrev pub IsFirstBroken : ListTree → List (List ℕ) → Refusal → Type 0

@@ -19,6 +19,7 @@ use crate::above::root_of;
 use crate::components::tree_for;
 use crate::exported::exported;
 use crate::form::{Form, first_form};
+use crate::judging::{language, types};
 use crate::reading::{Trees, read_files};
 use cjc_bytes::{Bytes, Fault, FileLine, NoMemory, Row, refused};
 use cjc_capread::CapTree;
@@ -27,6 +28,7 @@ use cjc_classfile::ClassTree;
 use cjc_code::MethodCode;
 use cjc_export::{ExportClass, ExportTree};
 use cjc_list::List;
+use cjc_subset::names;
 use cjc_world::World;
 use std::alloc::Global;
 
@@ -182,8 +184,9 @@ fn convert_unbroken(
 /// # Errors
 ///
 /// The first broken rule: 101 or 102 of a class file, 103 of a method, 104 of an export file; else 201, 202, 203,
-/// 204, 207 or 208 of the classes and export files together; else 303 of a method; else 801 at the list where the
-/// package is not of the form that is converted so far.
+/// 204, 207 or 208 of the classes and export files together; else 203, 205 or 206 of what instructions and catch types
+/// name; else 301 to 310, then 401 to 409; else 501 to 503 of a method; else 801 at the list where the package is not of the
+/// form that is converted so far.
 pub fn convert(alloc: Global, list: &List, files: &Row<Bytes>) -> Result<Converted, Fault>
     requires read { IsRead list.now }
     requires count { length files.now ≡ length list.now.lines }
@@ -195,11 +198,11 @@ pub fn convert(alloc: Global, list: &List, files: &Row<Bytes>) -> Result<Convert
         classes,
         exports,
         codes,
-        unsupported,
+        foreigns,
     } = read_files(alloc, list.lines.items(), files.items())?;
     let world = world_of(alloc, list, classes, exports)?;
-    if let Some(refusal) = unsupported {
-        return Err(Fault::Refused(refusal));
-    }
+    names(alloc, list.name.items(), &world, &codes)?;
+    language(alloc, list, &world, &codes, foreigns.items())?;
+    types(alloc, &world, codes.items())?;
     convert_unbroken(alloc, list, files.items(), &world, codes.items())
 }

@@ -10,6 +10,7 @@ mod conversion;
 mod example;
 mod exported;
 mod form;
+mod judging;
 mod reading;
 mod selected;
 

@@ -5,9 +5,9 @@ ghost use Rattle.std.specs.Prelude.{◌≡◌, ◌<◌, length, true};
 ghost use Rattle.cjc_code.specs.Decoded.{HasCode};
 ghost use Rattle.cjc_classfile.specs.Fits.{ClassFits};
 ghost use Rattle.cjc_convert.specs.Conversion.{AreFiles};
-ghost use Rattle.cjc_convert.specs.Trees.{earlier as earlier_of, DecodesMethod, DecodesClass, ReadsFile, ReadsFiles};
+ghost use Rattle.cjc_convert.specs.Trees.{DecodesMethod, DecodesClass, ReadsFile, ReadsFiles};
 
-use cjc_bytes::{Bytes, Fault, FileLine, Refusal, Row};
+use cjc_bytes::{Bytes, Fault, FileLine, Row};
 use cjc_classfile::ClassTree;
 use cjc_code::{Codes, MethodCode, decode};
 use cjc_export::ExportTree;
@@ -20,12 +20,21 @@ pub(crate) struct Trees<'a> {
     pub(crate) exports: Row<ExportTree>,
     /// The instructions of each method that breaks neither 103 nor 303.
     pub(crate) codes: Codes,
-    /// The first refusal by rule 303, which rules of the hundreds before it come before.
-    pub(crate) unsupported: Option<Refusal>,
+    /// The methods that break rule 303, and not 103.
+    pub(crate) foreigns: Row<Foreign>,
 }
 
-// Decodes a method onto the codes that there are. The answer is its refusal by rule 303, if it breaks that, and a
-// refusal by rule 103 is an error.
+/// A method with an instruction that is not converted, by its class's number among the package's and its own among the
+/// class's, with the offset of the first such instruction.
+#[derive(Drop)]
+pub(crate) struct Foreign {
+    pub(crate) class: u32,
+    pub(crate) method: u32,
+    pub(crate) offset: u32,
+}
+
+// Decodes a method: its instructions, or its place by rule 303, are put behind those that there are. A refusal by rule
+// 103 is an error.
 fn decode_method(
     alloc: Global,
     file: &[u8],
@@ -33,9 +42,10 @@ fn decode_method(
     class: &ClassTree<'_>,
     method: u32,
     codes: &mut Codes,
-) -> Result<Option<Refusal>, Fault>
+    foreigns: &mut Row<Foreign>,
+) -> Result<(), Fault>
     requires { HasCode class.now method }
-    ensures { DecodesMethod file.now number class.now method codes.old codes.new result }
+    ensures { DecodesMethod file.now number class.now method codes.old codes.new foreigns.old foreigns.new result }
 {
     match decode(alloc, file, class, method) {
         Ok(insns) => {
@@ -44,11 +54,16 @@ fn decode_method(
                 method,
                 insns,
             })?;
-            Ok(None)
+            Ok(())
         }
         Err(Fault::Refused(refusal)) => {
             if refusal.rule.0 == 303 {
-                Ok(Some(refusal))
+                foreigns.push(Foreign {
+                    class: number,
+                    method,
+                    offset: refusal.place.offset,
+                })?;
+                Ok(())
             } else {
                 Err(Fault::Refused(refusal))
             }
@@ -57,33 +72,24 @@ fn decode_method(
     }
 }
 
-// The first of two, where there is one.
-fn earlier(first: Option<Refusal>, second: Option<Refusal>) -> Option<Refusal>
-    ensures { result ≡ earlier_of first second }
-{
-    if first.is_some() { first } else { second }
-}
-
-// Decodes the methods of a class onto the codes that there are. The answer is the first refusal by rule 303,
-// if there is one, and a refusal by rule 103 is an error.
+// Decodes the methods of a class, whose number among the package's this is. The first refusal by rule 103 is an error.
 fn decode_class(
     alloc: Global,
     file: &[u8],
     number: u32,
     class: &ClassTree<'_>,
     codes: &mut Codes,
-) -> Result<Option<Refusal>, Fault>
+    foreigns: &mut Row<Foreign>,
+) -> Result<(), Fault>
     requires { ClassFits class.now }
-    ensures { DecodesClass file.now number class.now codes.old codes.new result }
+    ensures { DecodesClass file.now number class.now codes.old codes.new foreigns.old foreigns.new result }
 {
-    let mut unsupported = None;
     for (method, tree) in class.methods.items().iter().enumerate() {
         if tree.code.is_some() {
-            let refusal = decode_method(alloc, file, number, class, method as u32, codes)?;
-            unsupported = earlier(unsupported, refusal);
+            decode_method(alloc, file, number, class, method as u32, codes, foreigns)?;
         }
     }
-    Ok(unsupported)
+    Ok(())
 }
 
 // Reads a class file onto what was read before.
@@ -99,10 +105,15 @@ fn read_class<'a>(
 {
     let class = cjc_classfile::read(alloc, name, bytes)?;
     let number = trees.classes.items().len() as u32;
-    let unsupported = decode_class(alloc, name, number, &class, &mut trees.codes)?;
+    decode_class(
+        alloc,
+        name,
+        number,
+        &class,
+        &mut trees.codes,
+        &mut trees.foreigns,
+    )?;
     trees.classes.push(class)?;
-    let before = trees.unsupported.take();
-    trees.unsupported = earlier(before, unsupported);
     Ok(())
 }
 
@@ -142,7 +153,7 @@ pub(crate) fn read_files<'a>(
         classes: Row::new(alloc),
         exports: Row::new(alloc),
         codes: Row::new(alloc),
-        unsupported: None,
+        foreigns: Row::new(alloc),
     };
     for (at, line) in lines.iter().enumerate() {
         read_file(alloc, line, files[at].items(), &mut trees)?;

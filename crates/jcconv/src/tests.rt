@@ -331,12 +331,36 @@ const TWO_LANG: &[u8] =
 fn refuses_by_the_world(rt: HostRuntime) -> Result<(), Fail> {
     let mut longs = CLASS;
     longs[95] = 0x61;
-    let cases: [(&[u8], &[u8], &str); 5] = [
+    // synchronized, and a max_stack of 258
+    let mut locks = CLASS;
+    locks[72] = 0x29;
+    let mut deep = CLASS;
+    deep[85] = 1;
+    let mut mixed = longs;
+    mixed[72] = 0x29;
+    let mut late = longs;
+    late[85] = 1;
+    // aconst_null, three nops, ireturn; and three constants
+    let mut nulls = CLASS;
+    nulls[93] = 0x01;
+    nulls[94] = 0x00;
+    nulls[95] = 0x00;
+    nulls[96] = 0x00;
+    let mut high = CLASS;
+    high[93] = 0x04;
+    high[95] = 0x04;
+    let cases: [(&[u8], &[u8], &str); 11] = [
         (TWICE, &CLASS, "refused 202 U.class p/T - 0\n"),
         (NO_LANG, &CLASS, "refused 207 list - - 0\n"),
         (TWO_LANG, &CLASS, "refused 202 lang.exp - - 0\n"),
         (ALONE, &longs, "refused 207 list - - 0\n"),
         (LIST, &longs, "refused 303 T.class p/T f(S)S 2\n"),
+        (LIST, &locks, "refused 304 T.class p/T f(S)S 0\n"),
+        (LIST, &mixed, "refused 304 T.class p/T f(S)S 0\n"),
+        (LIST, &deep, "refused 405 T.class p/T f(S)S 0\n"),
+        (LIST, &late, "refused 303 T.class p/T f(S)S 2\n"),
+        (LIST, &nulls, "refused 502 T.class p/T f(S)S 4\n"),
+        (LIST, &high, "refused 503 T.class p/T f(S)S 2\n"),
     ];
     for (list, class, want) in cases {
         let mut shelf = package(rt.alloc(), &[], class)?;

@@ -1,0 +1,11 @@
+use Rattle.cjc_convert.proofs.judging.language.Goals as goal
+
+pub returns-clause-unbroken : goal.returns-clause-unbroken
+returns-clause-unbroken c =
+    let checks = rw (c.items.ensures, c.in_ok-settings.ensures) at c.in_ok-broken.ensures in
+    c.answer.ensures.ok _ (c.first.ensures _ _ c.foreigns_break-foreign.ensures checks)
+
+pub returns-clause-refused : goal.returns-clause-refused
+returns-clause-refused c =
+    let checks = rw (c.items.ensures, c.in_ok-settings.ensures) at c.in_ok-broken.ensures in
+    c.answer.ensures.refused _ (c.first.ensures _ _ c.foreigns_break-foreign.ensures checks)
