@@ -1,6 +1,7 @@
--- What is broken of 301, 302, 304 to 307, 309, 310 and 401 to 409, and where. Not yet of 301 and 302 in
--- methods that abstract classes get from their interfaces.
+-- What is broken of 301, 302, 304 to 307, 309, 310 and 401 to 409, and where.
 use Rattle.std.specs.Prelude.{ℕ, List, ◌++◌, length, Bool, false, not, ◌&&◌, nat_lt, Option, Some, None, is_some}
+use Rattle.std.specs.List.{list_any}
+use Rattle.cjc_bytes.specs.declared.fault.MemberId.{MemberId}
 use Rattle.cjc_bytes.specs.declared.settings.Settings.{Settings}
 use Rattle.cjc_classfile.specs.declared.tree.ClassTree.{ClassTree}
 use Rattle.cjc_classfile.specs.declared.tree.FieldTree.{FieldTree}
@@ -10,6 +11,7 @@ use Rattle.cjc_code.specs.declared.insn.JOp.{JOp}
 use Rattle.cjc_code.specs.declared.insn.JOp.TheVariants as jop
 use Rattle.cjc_code.specs.declared.method_code.MethodCode.{MethodCode}
 use Rattle.cjc_world.specs.declared.found.Found.{Found}
+use Rattle.cjc_world.specs.Added.{added_at}
 use Rattle.cjc_world.specs.Classes.{all_classes, is_interface}
 use Rattle.cjc_world.specs.Files.{Files}
 use Rattle.cjc_world.specs.Rules.{Break}
@@ -62,11 +64,26 @@ method_breaks settings f c i m =
     ++ at (has_many_locals m.code) (at_method f c i m 0) 404
     ++ at (has_deep_stack m.code) (at_method f c i m 0) 405
 
-unfoldable pub class_breaks : Files → Settings → FilePlace → ClassTree → List Break
-class_breaks files settings f c =
-    at (is_unfit_class c.flags) (at_class f c) 304
+-- one of the methods that an abstract class gets from its interfaces
+abbrev pub has_foreign : List MemberId → Bool
+has_foreign added = list_any (λ m. is_foreign_desc m.desc) added
+
+abbrev pub has_int : List MemberId → Bool
+has_int added = list_any (λ m. is_int_desc m.desc) added
+
+-- at the class of this number itself
+unfoldable pub own_breaks : Files → Settings → FilePlace → (number : ℕ) → ClassTree → List Break
+own_breaks files settings f n c =
+    at (has_foreign (added_at files n)) (at_class f c) 301
+    ++ at (not settings.ints && has_int (added_at files n)) (at_class f c) 302
+    ++ at (is_unfit_class c.flags) (at_class f c) 304
     ++ at (has_many_interfaces files c) (at_class f c) 403
     ++ at (has_many_cells c) (at_class f c) 406
+
+-- at the class and its members
+unfoldable pub class_breaks : Files → Settings → FilePlace → (number : ℕ) → ClassTree → List Break
+class_breaks files settings f n c =
+    own_breaks files settings f n c
     ++ each (λ i m. field_breaks settings f c i m) c.fields
     ++ each (λ i m. method_breaks settings f c i m) c.methods
     ++ overriding_breaks files f c
@@ -86,5 +103,5 @@ list_breaks list files settings =
 unfoldable pub check_breaks : (list : List ℕ) → Files → List MethodCode → Settings → List Break
 check_breaks list files codes settings =
     list_breaks list files settings
-    ++ each (λ n c. class_breaks files settings (file_of files.lines n) c) files.classes
+    ++ each (λ n c. class_breaks files settings (file_of files.lines n) n c) files.classes
     ++ each (λ _ code. code_breaks files settings code) codes

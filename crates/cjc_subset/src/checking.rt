@@ -6,7 +6,7 @@ ghost use Rattle.cjc_classfile.specs.declared.tree.ClassTree.{ClassTree as Tree}
 ghost use Rattle.cjc_world.specs.Classes.{is_interface};
 ghost use Rattle.cjc_world.specs.Rules.{IsFirstRefusal};
 ghost use Rattle.cjc_subset.specs.Breaks.{break_of, spot_of};
-ghost use Rattle.cjc_subset.specs.Checks.{check_breaks, class_breaks, code_breaks, field_breaks, insn_breaks, is_imported_variable, list_breaks, method_breaks, names_variable};
+ghost use Rattle.cjc_subset.specs.Checks.{check_breaks, class_breaks, code_breaks, field_breaks, has_foreign, has_int, insn_breaks, is_imported_variable, list_breaks, method_breaks, names_variable, own_breaks};
 ghost use Rattle.cjc_subset.specs.Places.{FilePlace, IsFirstOf, at_class, at_method, each, file_of};
 ghost use Rattle.cjc_subset.specs.Flags.{is_unfit_method};
 ghost use Rattle.cjc_subset.specs.Types.{is_int_desc, names_int};
@@ -22,7 +22,7 @@ use crate::members::{has, is_constant};
 use crate::overriding::overriding_break;
 use crate::places::{class_spot, field_spot, file_of, list_spot, method_spot};
 use crate::types::{is_foreign_desc, is_int_desc, names_foreign, names_int};
-use cjc_bytes::{Fault, NoMemory, Settings};
+use cjc_bytes::{Fault, MemberId, NoMemory, Settings};
 use cjc_classfile::{ClassTree, FieldTree, MethodTree};
 use cjc_code::{Codes, JInsn, JOp, MethodCode};
 use cjc_world::{Found, World};
@@ -223,40 +223,85 @@ fn methods_break<'w>(
 
 // ---- the package
 
-/// The first rule that a class of the package or its members break, whose place this is.
+fn has_foreign(added: &[MemberId]) -> bool
+    ensures { result ≡ has_foreign added.now }
+{
+    added
+        .iter()
+        .any(|method| is_foreign_desc(method.desc.items()))
+}
+
+fn has_int(added: &[MemberId]) -> bool
+    ensures { result ≡ has_int added.now }
+{
+    added.iter().any(|method| is_int_desc(method.desc.items()))
+}
+
+fn adds_int(settings: &Settings, added: &[MemberId]) -> bool
+    ensures { result ≡ (not settings.now.ints && has_int added.now) }
+{
+    !settings.ints && has_int(added)
+}
+
+/// The first rule that a class of the package breaks itself, by what it has and what it gets.
+fn own_break<'w>(
+    alloc: Global,
+    world: &World<'_>,
+    settings: &Settings,
+    number: u32,
+    class: &'w ClassTree<'_>,
+    spot: Spot<'w>,
+) -> Result<Option<Break<'w>>, NoMemory>
+    requires { number < length world.now.classes }
+    ensures { (f : FilePlace) → spot_of spot.entry ≡ at_class f class.now → IfOk result (λ b. IsFirstOf (own_breaks world.now settings.now f number class.now) (option_map break_of b)) }
+{
+    let added = world.added(number).items();
+    let foreign = broken(has_foreign(added), spot, 301);
+    let int = broken(adds_int(settings, added), spot, 302);
+    let unfit = broken(is_unfit_class(class.flags), spot, 304);
+    let interfaces = broken(has_many_interfaces(alloc, world, class)?, spot, 403);
+    let cells = broken(has_many_cells(class), spot, 406);
+    let types = first(foreign, int);
+    Ok(first(first(first(types, unfit), interfaces), cells))
+}
+
+/// The first rule that the class of this number or its members break, whose place this is.
 fn class_break<'w>(
     alloc: Global,
     world: &World<'_>,
     settings: &Settings,
+    number: u32,
     class: &'w ClassTree<'_>,
     spot: Spot<'w>,
 ) -> Result<Option<Break<'w>>, NoMemory>
-    ensures { (f : FilePlace) → spot_of spot.entry ≡ at_class f class.now → IfOk result (λ b. IsFirstOf (class_breaks world.now settings.now f class.now) (option_map break_of b)) }
+    requires { number < length world.now.classes }
+    ensures { (f : FilePlace) → spot_of spot.entry ≡ at_class f class.now → IfOk result (λ b. IsFirstOf (class_breaks world.now settings.now f number class.now) (option_map break_of b)) }
 {
-    let unfit = broken(is_unfit_class(class.flags), spot, 304);
-    let interfaces = broken(has_many_interfaces(alloc, world, class)?, spot, 403);
-    let cells = broken(has_many_cells(class), spot, 406);
+    let own = own_break(alloc, world, settings, number, class, spot)?;
     let fields = fields_break(settings, class, spot);
     let methods = methods_break(settings, class, spot);
     let overriding = overriding_break(alloc, world, class, spot)?;
-    let limits = first(first(unfit, interfaces), cells);
-    Ok(first(first(first(limits, fields), methods), overriding))
+    Ok(first(first(first(own, fields), methods), overriding))
 }
 
-/// The first rule that the classes of the package break.
+/// The first rule that the classes of the package break. More than 32 bits count have no memory.
 fn classes_break<'w>(
     alloc: Global,
     world: &'w World<'_>,
     settings: &Settings,
 ) -> Result<Option<Break<'w>>, NoMemory>
-    ensures { IfOk result (λ b. IsFirstOf (each (λ n c. class_breaks world.now settings.now (file_of world.now.lines n) c) world.now.classes) (option_map break_of b)) }
+    ensures { IfOk result (λ b. IsFirstOf (each (λ n c. class_breaks world.now settings.now (file_of world.now.lines n) n c) world.now.classes) (option_map break_of b)) }
 {
     let mut least = None;
     let classes = world.classes().items();
+    if classes.len() >= 0x1_0000_0000 {
+        return Err(NoMemory);
+    }
     for (number, class) in classes.iter().enumerate() {
         let (file, file_name) = file_of(world.lines().items(), number);
         let spot = class_spot(file, file_name, class);
-        least = first(least, class_break(alloc, world, settings, class, spot)?);
+        let broken = class_break(alloc, world, settings, number as u32, class, spot)?;
+        least = first(least, broken);
     }
     Ok(least)
 }

@@ -162,6 +162,10 @@ fn other(alloc: Global) -> Result<Row<ExportClass>, NoMemory> {
     row.push(imported(alloc, 0x0601, b"q/I", &[OBJECT], &[], &[], interface)?)?;
     row.push(imported(alloc, 0x0401, b"q/K", &[OBJECT], &[b"q/I"], &[], &[])?)?;
     row.push(imported(alloc, 1, b"q/Many", &[OBJECT], &MANY, &[], &[])?)?;
+    let chars: &[Member<'_>] = &[(0x0401, b"l", b"(C)V")];
+    row.push(imported(alloc, 0x0601, b"q/Chars", &[OBJECT], &[], &[], chars)?)?;
+    let ints: &[Member<'_>] = &[(0x0401, b"l", b"(I)V")];
+    row.push(imported(alloc, 0x0601, b"q/Ints", &[OBJECT], &[], &[], ints)?)?;
     Ok(row)
 }
 
@@ -625,7 +629,9 @@ fn instructions_are_refused(rt: HostRuntime) -> Result<(), Fail> {
     Ok(())
 }
 
-const PACKAGES: [Case<'static>; 29] = [
+const PACKAGES: [Case<'static>; 31] = [
+    (Edit::Interface(3, b"q/Chars"), 301, b"C", b"p/C", b"", 0), // by a method that p/C gets
+    (Edit::Interface(3, b"q/Ints"), 302, b"C", b"p/C", b"", 0),
     (
         Edit::Field(0, (1, b"x", b"C")),
         301,
