@@ -163,14 +163,21 @@ check_overriding files f c =
     (all_append IsLanguage _ _ (all_at IsLanguage _ _ 307 third) (all_each IsLanguage _ 0 files.classes (λ _ d. check_kin (all_classes files) f c (declared 0 d))))
     (all_each IsLanguage _ 0 files.exports (λ _ t. all_each IsLanguage _ 0 t.classes (λ _ d. check_kin (all_classes files) f c (imported 0 d))))
 
-check_class : (files : Files) (settings : Settings) (f : FilePlace) (c : ClassTree) → AllOf IsLanguage (checks.class_breaks files settings f c)
-unfolding checks.class_breaks
-check_class files settings f c =
+check_own : (files : Files) (settings : Settings) (f : FilePlace) (n : ℕ) (c : ClassTree) → AllOf IsLanguage (checks.own_breaks files settings f n c)
+unfolding checks.own_breaks
+check_own files settings f n c =
     all_append IsLanguage _ _
     (all_append IsLanguage _ _
+    (all_append IsLanguage _ _ (all_append IsLanguage _ _ (all_at IsLanguage _ _ 301 third) (all_at IsLanguage _ _ 302 third)) (all_at IsLanguage _ _ 304 third))
+    (all_at IsLanguage _ _ 403 fourth))
+    (all_at IsLanguage _ _ 406 fourth)
+
+check_class : (files : Files) (settings : Settings) (f : FilePlace) (n : ℕ) (c : ClassTree) → AllOf IsLanguage (checks.class_breaks files settings f n c)
+unfolding checks.class_breaks
+check_class files settings f n c =
+    all_append IsLanguage _ _
     (all_append IsLanguage _ _
-    (all_append IsLanguage _ _ (all_append IsLanguage _ _ (all_at IsLanguage _ _ 304 third) (all_at IsLanguage _ _ 403 fourth)) (all_at IsLanguage _ _ 406 fourth))
-    (all_each IsLanguage _ 0 c.fields (λ i m. check_field settings f c i m)))
+    (all_append IsLanguage _ _ (check_own files settings f n c) (all_each IsLanguage _ 0 c.fields (λ i m. check_field settings f c i m)))
     (all_each IsLanguage _ 0 c.methods (λ i m. check_method settings f c i m)))
     (check_overriding files f c)
 
@@ -190,7 +197,7 @@ pub checks_language : (list : List ℕ) (files : Files) (codes : List MethodCode
 unfolding checks.check_breaks
 checks_language list files codes settings =
     all_append IsLanguage _ _
-    (all_append IsLanguage _ _ (check_list list files settings) (all_each IsLanguage _ 0 files.classes (λ n c. check_class files settings (file_of files.lines n) c)))
+    (all_append IsLanguage _ _ (check_list list files settings) (all_each IsLanguage _ 0 files.classes (λ n c. check_class files settings (file_of files.lines n) n c)))
     (all_each IsLanguage _ 0 codes (λ _ code. check_code files settings code))
 
 -- ---- types
