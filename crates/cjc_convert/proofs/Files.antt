@@ -1,9 +1,8 @@
 -- Reading one file after the other.
-use Rattle.std.proofs.Common.{◌≡◌, Ok, ℕ, zero, suc, ◌+◌, ◌<◌, ◌≤◌, ◌⊎◌, ⊎_elim, Bool, true, false, List, [], ◌∷◌, ◌++◌, Option, Some, None, Result, Err, inl, inr, length, take, get_or, refl, sym, ap, subst, ◌∙◌, append_assoc, append-nil, add-zero, length-append, arith, Fits, w8}
+use Rattle.std.proofs.Common.{◌≡◌, Ok, ℕ, zero, suc, ◌+◌, ◌<◌, ◌≤◌, ◌⊎◌, ⊎_elim, Bool, true, false, List, [], ◌∷◌, ◌++◌, Some, Result, Err, inl, inr, length, take, get_or, refl, sym, ap, subst, ◌∙◌, append_assoc, append-nil, add-zero, length-append, arith, Fits, w8}
 use Rattle.std.specs.Prelude.{slice_get}
 use Rattle.std.proofs.lemmas.Bool.{cases_lt}
 use Rattle.std.proofs.lemmas.List.{take_all}
-use Rattle.std.proofs.lemmas.Option.{slice_get_past}
 use Rattle.cjc_bytes.specs.Refused.{IsBreak, refusal}
 use Rattle.cjc_bytes.specs.declared.fault.Fault.{Fault}
 use Rattle.cjc_bytes.specs.declared.fault.Fault.TheVariants as faults
@@ -14,11 +13,9 @@ use Rattle.cjc_bytes.proofs.Laws.{one_value, one_place, spelt_or_broken}
 use Rattle.cjc_bytes.proofs.Inverse.{InBytes}
 use Rattle.cjc_classfile.specs.ClassFile.{class_file, refusal_at}
 use Rattle.cjc_classfile.specs.Fits.{ClassFits}
-use Rattle.cjc_classfile.specs.declared.tree.MethodTree.{MethodTree}
 use Rattle.cjc_classfile.specs.declared.tree.ClassTree.{ClassTree}
 use Rattle.cjc_classfile.proofs.Fitting.{spelt_fits}
 use Rattle.cjc_code.specs.declared.decoding.Broken.{Broken}
-use Rattle.cjc_code.specs.Decoded.{of_method}
 use Rattle.cjc_code.specs.declared.method_code.MethodCode.{MethodCode}
 use Rattle.cjc_export.specs.ExportFile.{export_file}
 use Rattle.cjc_export.specs.Writable.{IsWritable}

@@ -1,5 +1,5 @@
 -- The codes of what was read are of methods of the package.
-use Rattle.std.proofs.Common.{◌≡◌, ℕ, zero, suc, ◌+◌, ◌<◌, ◌≤◌, List, [], ◌∷◌, ◌++◌, Option, Some, None, Result, Ok, Err, IfSome, All, length, drop, refl, sym, ap, subst, ◌∙◌, add-zero, add-one, arith}
+use Rattle.std.proofs.Common.{◌≡◌, ℕ, zero, suc, ◌+◌, ◌≤◌, List, [], ◌∷◌, Option, Some, None, Result, Ok, Err, IfSome, All, length, drop, refl, sym, ap, subst, ◌∙◌, arith}
 use Rattle.std.specs.Prelude.{slice_get}
 use Rattle.std.specs.List.{AllByRecursion}
 use Rattle.std.proofs.lemmas.List.Elements.{All-nil, All-cons, All-append}
@@ -11,8 +11,7 @@ use Rattle.cjc_classfile.specs.declared.tree.MethodTree.{MethodTree}
 use Rattle.cjc_code.specs.declared.decoding.Broken.{Broken}
 use Rattle.cjc_code.specs.Decoded.{decoding, of_code, of_method, decoding_at}
 use Rattle.cjc_code.specs.declared.insn.JInsn.{JInsn}
-use Rattle.cjc_code.specs.declared.method_code.MethodCode.{MethodCode}
-use Rattle.cjc_types.specs.Tables.{IsMethodOf, IsOfPackage}
+use Rattle.cjc_types.specs.Tables.{IsOfPackage}
 use Rattle.cjc_world.specs.Files.{Files}
 use Rattle.cjc_convert.specs.Codes.{code_with, where_code, of_methods, of_classes, all_codes}
 use Rattle.cjc_convert.specs.Spelt.{FileTree, of_class, of_export, classes_of}

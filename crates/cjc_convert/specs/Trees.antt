@@ -9,7 +9,6 @@ use Rattle.cjc_classfile.specs.ClassFile.{class_file}
 use Rattle.cjc_classfile.specs.Fits.{ClassFits}
 use Rattle.cjc_classfile.specs.declared.tree.ClassTree.{ClassTree}
 use Rattle.cjc_code.specs.Decoded.{decoding_at, refusal_of as code_refusal_of}
-use Rattle.cjc_code.specs.declared.insn.JInsn.{JInsn}
 use Rattle.cjc_code.specs.declared.method_code.MethodCode.{MethodCode}
 use Rattle.cjc_export.specs.ExportFile.{export_file}
 use Rattle.cjc_export.specs.Writable.{IsWritable}

@@ -1,6 +1,6 @@
 use Rattle.std.proofs.Common.{refl}
 use Rattle.std.proofs.lemmas.Result.{err_from_is_err_and}
-use Rattle.cjc_convert.proofs.Converting.{InWorld, few_lines, stopped_from, world_refused, names_refused, language_refused, types_refused, read_with, codes_of_package, unbroken}
+use Rattle.cjc_convert.proofs.Converting.{few_lines, stopped_from, world_refused, names_refused, language_refused, types_refused, read_with, codes_of_package, unbroken}
 use Rattle.cjc_convert.proofs.conversion.convert.Goals as goal
 
 pub read_files-requires-clause-few : goal.read_files-requires-clause-few
