@@ -50,9 +50,12 @@ named_few class method code insns e =
     let few = cut_few (length code.bytes) (record { at = 0; left = code.bytes }) in
     omega (arith, same, few)
 
-pub insns_few : (files : Files) (code : MethodCode) (class : ClassTree) (method : MethodTree) (tree : CodeTree) → IsMethodOf files code class method tree → length code.insns < 2 ^ 32
-insns_few files code class method tree m =
+pub insns_at_most : (files : Files) (code : MethodCode) (class : ClassTree) (method : MethodTree) (tree : CodeTree) → IsMethodOf files code class method tree → length code.insns ≤ 65535
+insns_at_most files code class method tree m =
     let found : decoding class method tree ≡ Ok code.insns = sym (ap (of_code class method) m.is_code) ∙ sym (ap (of_method class) m.is_method) ∙ m.insns in
     let few = named_few class method tree code.insns found in
     let bytes = m.bytes in
     omega (arith, few, bytes)
+
+pub insns_few : (files : Files) (code : MethodCode) (class : ClassTree) (method : MethodTree) (tree : CodeTree) → IsMethodOf files code class method tree → length code.insns < 2 ^ 32
+insns_few files code class method tree m = let few = insns_at_most files code class method tree m in omega (arith, few)

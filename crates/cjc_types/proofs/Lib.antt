@@ -1,5 +1,6 @@
 pub mod Among
 pub mod Answering
+pub mod Ascending
 pub mod Few
 pub mod Filtered
 pub mod Greater

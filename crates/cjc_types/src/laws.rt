@@ -1,6 +1,6 @@
 //! What holds of type tables, for the layers above. Nothing here runs.
 
-ghost use Rattle.std.specs.Prelude.{◌≡◌, ◌<◌, ◌≤◌, ℕ, true, List, length, Option};
+ghost use Rattle.std.specs.Prelude.{◌≡◌, ◌<◌, ◌≤◌, ℕ, true, List, length, slice_get, Option, Some};
 ghost use Rattle.std.specs.List.{list_all};
 ghost use Rattle.cjc_fixpoint.specs.Dataflow.{IsLawful, StaysWithin};
 ghost use Rattle.cjc_fixpoint.specs.Tables.{HasRow, IsClosed};
@@ -10,7 +10,13 @@ ghost use Rattle.cjc_types.specs.declared.cell.Cell.{Cell as Known};
 ghost use Rattle.cjc_types.specs.declared.cell.Cell.TheVariants as known;
 ghost use Rattle.cjc_types.specs.declared.state.State.{State as Before};
 ghost use Rattle.cjc_types.specs.declared.state.Stack.TheVariants as stacks;
+ghost use Rattle.cjc_classfile.specs.Code.{CodeTree};
+ghost use Rattle.cjc_classfile.specs.declared.tree.ClassTree.{ClassTree as ClassFile};
+ghost use Rattle.cjc_classfile.specs.declared.tree.MethodTree.{MethodTree as ClassMethod};
+ghost use Rattle.cjc_code.specs.declared.insn.JInsn.{JInsn as Insn};
 ghost use Rattle.cjc_code.specs.declared.insn.JOp.{JOp};
+ghost use Rattle.cjc_code.specs.declared.method_code.MethodCode.{MethodCode as Instructions};
+ghost use Rattle.cjc_world.specs.Files.{Files};
 ghost use Rattle.cjc_types.specs.Steps.{stack_after, stack_behind};
 ghost use Rattle.cjc_types.specs.declared.table.TypeTable.{TypeTable as Types};
 ghost use Rattle.cjc_types.specs.Among.{HasNames, IsStateAmong};
@@ -18,13 +24,20 @@ ghost use Rattle.cjc_types.specs.Cells.{IsNameSet, refs};
 ghost use Rattle.cjc_types.specs.Names.{IsSet, IsWithin};
 ghost use Rattle.cjc_types.specs.Flow.{Body, entry, type_flow};
 ghost use Rattle.cjc_types.specs.Rules.{is_number, is_reference, all_types, is_of};
-ghost use Rattle.cjc_types.specs.Tables.{Breach, IsLeastTable, IsTypeTable};
+ghost use Rattle.cjc_types.specs.Tables.{Breach, IsLeastTable, IsMethodOf, IsTypeTable};
 ghost use Rattle.cjc_types.specs.Typed.{AreTyped, Leads};
 
 /// The flow of every method obeys the laws of flows and stays among the method's instructions.
 pub fn flow_laws()
     ensures lawful { (b : Body) → IsLawful (type_flow b) }
     ensures stays { (b : Body) → StaysWithin (type_flow b) (length b.insns) }
+{}
+
+/// A method has at most 65,535 instructions, in ascending order of their offsets: the first by place is the first by offset.
+pub fn code_laws()
+    ensures few { (files : Files) (code : Instructions) (c : ClassFile) (m : ClassMethod) (t : CodeTree) → IsMethodOf files code c m t → length code.insns ≤ 65535 }
+    ensures ascending { (files : Files) (code : Instructions) (c : ClassFile) (m : ClassMethod) (t : CodeTree) → IsMethodOf files code c m t
+        → (j k : ℕ) (x y : Insn) → slice_get code.insns j ≡ Some x → slice_get code.insns k ≡ Some y → j < k → x.at < y.at }
 {}
 
 /// A method has one least table. No stack of it is cut off for its height. A rule is broken at an instruction of it only
