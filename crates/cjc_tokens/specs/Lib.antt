@@ -1,4 +1,8 @@
 pub mod Members
 pub mod Lines
 pub mod Slots
+pub mod Fields
 pub mod Methods
+pub mod Tokens
+pub mod Rules
+pub mod Working

@@ -1,8 +1,8 @@
 -- Members by name and descriptor, and which methods are virtual.
-use Rattle.std.specs.Prelude.{ℕ, List, [], ◌∷◌, ◌++◌, Bool, false, not, ◌&&◌, ◌||◌, if◌then◌else◌, codes}
+use Rattle.std.specs.Prelude.{ℕ, List, [], ◌∷◌, ◌++◌, Bool, false, not, ◌&&◌, ◌||◌, if◌then◌else◌, Option, Some, None, codes}
 use Rattle.std.specs.Str.{bytes_eq}
 use Rattle.cjc_world.specs.Classes.{Member, Class, is_public, is_protected}
-use Rattle.cjc_world.specs.Lookup.{is_selectable}
+use Rattle.cjc_world.specs.Lookup.{is_called, is_selectable}
 
 -- the name and the descriptor of a method
 pub record Signature : Type 0 where
@@ -38,8 +38,11 @@ abbrev pub is_initialiser : List ℕ → Bool
 is_initialiser name = bytes_eq name (codes "<clinit>")
 
 -- neither static nor private, and no constructor
+abbrev pub is_virtual_by : (flags : ℕ) → (name : List ℕ) → Bool
+is_virtual_by flags name = is_selectable flags && not (is_constructor name || is_initialiser name)
+
 abbrev pub is_virtual : Member → Bool
-is_virtual m = is_selectable m.flags && not (is_constructor m.name || is_initialiser m.name)
+is_virtual m = is_virtual_by m.flags m.name
 
 -- a virtual method that is public or protected
 abbrev pub is_shown : Member → Bool
@@ -53,3 +56,13 @@ is_hidden m = not (is_exposed m.flags) && is_virtual m
 abbrev pub all_methods : List Class → List Member
 all_methods [] = []
 all_methods (c ∷ cs) = c.methods ++ all_methods cs
+
+-- the member stands in the list
+pub data In (m : Member) : List Member → Type 0 where
+  first_of : {ms : List Member} → In m (m ∷ ms)
+  later : {n : Member} {ms : List Member} → In m ms → In m (n ∷ ms)
+
+-- the first method of the signature that passes the test
+abbrev pub chosen : (Member → Bool) → Signature → List Member → Option Member
+chosen test s [] = None
+chosen test s (m ∷ ms) = if test m && is_called s.name s.desc m then Some m else chosen test s ms

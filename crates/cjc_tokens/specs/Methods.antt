@@ -1,11 +1,13 @@
--- The methods of interfaces by token (Java Card Virtual Machine Specification 2.2.2, section 4.3.7.7).
-use Rattle.std.specs.Prelude.{List, [], ◌++◌, map, false, true, if◌then◌else◌}
-use Rattle.cjc_world.specs.Classes.{Class}
+-- Tokens of methods (Java Card Virtual Machine Specification 2.2.2, sections 4.3.7.3, 4.3.7.6 and 4.3.7.7).
+use Rattle.std.specs.Prelude.{ℕ, ◌+◌, List, [], ◌∷◌, ◌++◌, map, take, position, count_by, Bool, false, true, not, ◌&&◌, ◌||◌, if◌then◌else◌, Option, Some, None, option_map}
+use Rattle.cjc_world.specs.Classes.{Member, Class, is_static, is_interface}
 use Rattle.cjc_world.specs.Kin.{kin}
 use Rattle.cjc_world.specs.Interfaces.{Interface, gathered, each_once}
 use Rattle.cjc_world.specs.Added.{own_methods, asked_by}
-use Rattle.cjc_tokens.specs.Members.{Signature, signature_of}
-use Rattle.cjc_tokens.specs.Slots.{new_in}
+use Rattle.cjc_tokens.specs.Members.{Signature, signature_of, same, is_exposed, is_constructor, is_initialiser, is_shown, is_hidden}
+use Rattle.cjc_tokens.specs.Slots.{Slots, new_in, token}
+
+-- ---- interfaces
 
 -- the interfaces of a class, in order
 unfoldable pub interfaces_at : List Class → Class → List Interface
@@ -15,3 +17,35 @@ interfaces_at w c = each_once [] (gathered false (kin w c.supers) ++ gathered tr
 -- methods of its interfaces.
 unfoldable pub interface_methods : List Class → Class → List Signature
 interface_methods w c = new_in [] (map signature_of (if c.is_imported then own_methods c else asked_by (kin w c.supers) (kin w c.interfaces) ++ own_methods c))
+
+abbrev pub interface_token : List Signature → Member → Option ℕ
+interface_token methods m = if is_initialiser m.name then None else position (λ s. same s (signature_of m)) methods
+
+-- ---- classes
+
+-- a public or protected static method or constructor
+abbrev pub is_open_bound : Member → Bool
+is_open_bound m = is_exposed m.flags && (is_static m.flags || is_constructor m.name) && not (is_initialiser m.name)
+
+-- The high bit tells a package-visible method's token from the others.
+abbrev pub with_high_bit : ℕ → ℕ
+with_high_bit t = t + 128
+
+-- the token of a virtual method among the slots of its class, without the high bit of a package-visible one
+abbrev pub virtual_token : (shown hidden : Slots) → Member → Option ℕ
+virtual_token shown hidden m =
+    if is_shown m then token shown (signature_of m)
+    else if is_hidden m then token hidden (signature_of m)
+    else None
+
+-- the token of the method at a place of a class
+unfoldable pub class_method_token : (exported : Bool) → (shown hidden : Slots) → List Member → (place : ℕ) → Member → Option ℕ
+class_method_token exported shown hidden ms i m =
+    if is_shown m then token shown (signature_of m)
+    else if is_hidden m then option_map with_high_bit (token hidden (signature_of m))
+    else if exported && is_open_bound m then Some (count_by is_open_bound (take i ms)) else None
+
+-- those of the methods from a place on
+unfoldable pub class_method_tokens : (exported : Bool) → (shown hidden : Slots) → List Member → (place : ℕ) → List Member → List (Option ℕ)
+class_method_tokens exported shown hidden ms i [] = []
+class_method_tokens exported shown hidden ms i (m ∷ rest) = class_method_token exported shown hidden ms i m ∷ class_method_tokens exported shown hidden ms (i + 1) rest

@@ -1,2 +1,17 @@
-//! The tokens of the classes and members of a package.
+//! The tokens of the classes and members of a package (Java Card Virtual Machine Specification 2.2.2, section 4.3.7).
 #![tactic(auto)]
+
+mod assigning;
+mod class;
+mod fields;
+mod imports;
+mod interfaces;
+mod line;
+mod listed;
+mod methods;
+mod refusal;
+mod slot;
+mod tokens;
+
+pub use assigning::assign;
+pub use tokens::Tokens;

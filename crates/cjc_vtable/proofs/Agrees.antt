@@ -3,13 +3,13 @@ use Rattle.std.proofs.Common.{◌≡◌, ℕ, suc, ◌+◌, refl, sym, ap, subst
 use Rattle.std.specs.Prelude.{◌&&◌, Option, Some, None, if◌then◌else◌, slice_get, map, option_map, position, not}
 use Rattle.cjc_world.specs.Classes.{Member, Class}
 use Rattle.cjc_world.specs.Lookup.{is_called, is_selectable, first, or_else, member_at}
-use Rattle.cjc_tokens.specs.Members.{Signature, signature_of, signatures, is_exposed, is_virtual, is_shown, is_hidden, all_methods}
+use Rattle.cjc_tokens.specs.Members.{Signature, signature_of, signatures, is_exposed, is_virtual, is_shown, is_hidden, all_methods, In, chosen}
 use Rattle.cjc_tokens.specs.Lines.{Line, Nowhere, Imported, Declared}
 use Rattle.cjc_tokens.specs.Slots.{has_slot, new_in, with_new, listed_slots, slots, hidden_slots, token, own, got, implementing, implementing_hidden}
 use Rattle.cjc_vtable.specs.Dispatch.{dispatched, dispatched_hidden}
-use Rattle.cjc_vtable.specs.Calls.{In, is_special, selects, chosen, passes, selected_in, selects_shown, selects_hidden, IsOneToOne, IsTold, IsProper, Climbs, here, up, over}
-use Rattle.cjc_vtable.proofs.Facts.{same-true, position-cons, position-same, place, chosen-passes, chosen-In, chosen-some, has-chosen, own-none, own-some, got-none}
-use Rattle.cjc_vtable.proofs.Places.{at_front, shown-virtual, has_slot-append, offered-has_slot, here-has_slot, In-slot, token-slot, listed_slot}
+use Rattle.cjc_vtable.specs.Calls.{is_special, selects, passes, selected_in, selects_shown, selects_hidden, IsOneToOne, IsTold, IsProper, Climbs, here, up, over}
+use Rattle.cjc_tokens.proofs.Facts.{same-true, position-cons, position-same, place, chosen-passes, chosen-In, chosen-some, has-chosen, own-none, own-some, got-none}
+use Rattle.cjc_tokens.proofs.Held.{at_front, shown-virtual, has_slot-append, offered-has_slot, here-has_slot, In-slot, token-slot, listed_slot}
 use Rattle.cjc_vtable.proofs.Tables.{tower, dispatched-slot, dispatched-hidden_slot}
 
 -- ---- virtual methods are selectable

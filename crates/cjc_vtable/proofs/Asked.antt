@@ -8,16 +8,16 @@ use Rattle.cjc_world.specs.Kin.{Kin, kin, IsKin, ends, unknown_here, known_here}
 use Rattle.cjc_world.specs.Interfaces.{Interface, where_listed, gathered, is_among, each_once, known}
 use Rattle.cjc_world.specs.Lookup.{is_called}
 use Rattle.cjc_world.specs.Added.{own_methods, methods_of, asked_by}
-use Rattle.cjc_tokens.specs.Members.{Signature, signature_of, same, has, is_shown}
+use Rattle.cjc_tokens.specs.Members.{Signature, signature_of, same, has, is_shown, In, chosen, first_of, later}
 use Rattle.cjc_tokens.specs.Slots.{Slots, token}
 use Rattle.cjc_tokens.specs.Methods.{interfaces_at, interface_methods}
 use Rattle.cjc_vtable.specs.declared.table.InterfaceMap.{InterfaceMap}
 use Rattle.cjc_vtable.specs.Tables.{or_zero, interface_map}
 use Rattle.cjc_vtable.specs.Dispatch.{map_in}
-use Rattle.cjc_vtable.specs.Calls.{In, first_of, later, is_special, selects, chosen}
+use Rattle.cjc_vtable.specs.Calls.{is_special, selects}
 use Rattle.cjc_vtable.specs.Laws.{interface_named}
-use Rattle.cjc_vtable.proofs.Facts.{same-true, same-refl}
-use Rattle.cjc_vtable.proofs.Places.{new-offered}
+use Rattle.cjc_tokens.proofs.Facts.{same-true, same-refl}
+use Rattle.cjc_tokens.proofs.Held.{new-offered}
 use Rattle.cjc_vtable.proofs.Calls.{In-front, In-behind}
 use Rattle.cjc_vtable.proofs.Given.{In-split}
 

@@ -3,13 +3,13 @@ use Rattle.std.proofs.Common.{◌≡◌, ℕ, suc, refl, sym, ap, ◌∙◌, Boo
 use Rattle.std.specs.Prelude.{◌&&◌, ◌||◌, Option, Some, None, if◌then◌else◌, map, option_map, not}
 use Rattle.cjc_world.specs.Classes.{Member, Class, is_private, is_static}
 use Rattle.cjc_world.specs.Lookup.{is_called, is_selectable}
-use Rattle.cjc_tokens.specs.Members.{Signature, signature_of, same, has, signatures, is_exposed, is_virtual, is_shown, is_hidden, all_methods}
+use Rattle.cjc_tokens.specs.Members.{Signature, signature_of, same, has, signatures, is_exposed, is_virtual, is_shown, is_hidden, all_methods, In, chosen, first_of, later}
 use Rattle.cjc_tokens.specs.Lines.{Line, Nowhere, Imported, Declared}
 use Rattle.cjc_tokens.specs.Slots.{Slots, holds, has_slot, new_in, with_new, slots, hidden_slots, token}
 use Rattle.cjc_vtable.specs.Dispatch.{dispatched, dispatched_hidden}
-use Rattle.cjc_vtable.specs.Calls.{In, first_of, later, is_special, selects, any_method, chosen, passes, selected_in, selects_shown, selects_hidden, finds_shown, finds_hidden, IsTold, IsProper, methods_of_line, is_clash, KeepsAccess, Climbs, here, up, over}
-use Rattle.cjc_vtable.proofs.Facts.{same-refl, chosen-passes, chosen-In, chosen-some, has-chosen}
-use Rattle.cjc_vtable.proofs.Places.{has_slot-append, offered-has_slot, token-cons, shown-virtual}
+use Rattle.cjc_vtable.specs.Calls.{is_special, selects, any_method, passes, selected_in, selects_shown, selects_hidden, finds_shown, finds_hidden, IsTold, IsProper, methods_of_line, is_clash, KeepsAccess, Climbs, here, up, over}
+use Rattle.cjc_tokens.proofs.Facts.{same-refl, chosen-passes, chosen-In, chosen-some, has-chosen}
+use Rattle.cjc_tokens.proofs.Held.{has_slot-append, offered-has_slot, token-cons, shown-virtual}
 use Rattle.cjc_vtable.proofs.Tables.{tower}
 use Rattle.cjc_vtable.proofs.Agrees.{virtual_plain, hidden-virtual, shown_selects, hidden_selects, chosen-finer, shown-has_slot, agree_shown, agree_hidden}
 

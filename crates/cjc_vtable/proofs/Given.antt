@@ -6,12 +6,12 @@ use Rattle.cjc_world.specs.Classes.{Member, Class, is_private, is_static}
 use Rattle.cjc_world.specs.Kin.{Kin, End, Unknown, Known, kin, IsKin, ends, unknown_here, known_here, upwards}
 use Rattle.cjc_world.specs.Lookup.{is_called}
 use Rattle.cjc_world.specs.Added.{is_open, declares_open, is_one_of, has_open, lacking, added, asked_by, takes_added}
-use Rattle.cjc_tokens.specs.Members.{Signature, signature_of, same, has, signatures, is_exposed, is_shown, all_methods}
+use Rattle.cjc_tokens.specs.Members.{Signature, signature_of, same, has, signatures, is_exposed, is_shown, all_methods, In, first_of, later}
 use Rattle.cjc_tokens.specs.Lines.{Imported, Declared, line_in}
 use Rattle.cjc_tokens.specs.Slots.{Slots, has_slot, new_in, with_new, listed_slots, slots}
-use Rattle.cjc_vtable.specs.Calls.{In, first_of, later, is_special, IsProper}
-use Rattle.cjc_vtable.proofs.Facts.{same-true, same-refl, chosen-some, chosen-passes, chosen-In}
-use Rattle.cjc_vtable.proofs.Places.{at_either, new-offered, here-has_slot, token-slot, listed_slot}
+use Rattle.cjc_vtable.specs.Calls.{is_special, IsProper}
+use Rattle.cjc_tokens.proofs.Facts.{same-true, same-refl, chosen-some, chosen-passes, chosen-In}
+use Rattle.cjc_tokens.proofs.Held.{at_either, new-offered, here-has_slot, token-slot, listed_slot}
 use Rattle.cjc_vtable.proofs.Calls.{token-some, In-front, In-behind}
 
 or_left : (a b : Bool) → a ≡ true → (a || b) ≡ true

@@ -1,5 +1,3 @@
-pub mod Facts
-pub mod Places
 pub mod Tables
 pub mod Agrees
 pub mod Calls

@@ -2,11 +2,11 @@
 use Rattle.std.proofs.Common.{◌≡◌, ℕ, zero, suc, refl, sym, ap, subst, ◌∙◌, Bool, true, false, List, [], ◌∷◌, ◌++◌, length, append-nil, inl, inr, ⊎_elim, append_assoc}
 use Rattle.std.specs.Prelude.{◌⊎◌, Some, if◌then◌else◌, slice_get, map}
 use Rattle.cjc_world.specs.Classes.{Member, Class}
-use Rattle.cjc_tokens.specs.Members.{Signature, signature_of, signatures, is_shown, is_hidden, all_methods}
+use Rattle.cjc_tokens.specs.Members.{Signature, signature_of, signatures, is_shown, is_hidden, all_methods, In}
 use Rattle.cjc_tokens.specs.Lines.{Line, Nowhere, Imported, Declared}
 use Rattle.cjc_tokens.specs.Slots.{Slots, has_slot, new_in, with_new, listed_slots, slots, hidden_slots, token}
-use Rattle.cjc_vtable.specs.Calls.{In, IsOneToOne, IsTold, Climbs}
-use Rattle.cjc_vtable.proofs.Places.{shown-virtual, here-has_slot, In-slot, token-slot, listed_slot}
+use Rattle.cjc_vtable.specs.Calls.{IsOneToOne, IsTold, Climbs}
+use Rattle.cjc_tokens.proofs.Held.{shown-virtual, here-has_slot, In-slot, token-slot, listed_slot}
 use Rattle.cjc_vtable.proofs.Agrees.{slot_stays, hidden_slot_stays}
 use Rattle.cjc_vtable.proofs.Calls.{token-some}
 

@@ -6,14 +6,14 @@ use Rattle.std.proofs.lemmas.Bool.Decides.{nat_tests}
 use Rattle.std.proofs.lemmas.Option.{slice_get-map}
 use Rattle.cjc_world.specs.Classes.{Member, Class, is_private, is_static}
 use Rattle.cjc_world.specs.Lookup.{or_else, first, is_selectable}
-use Rattle.cjc_tokens.specs.Members.{Signature, signature_of, signatures, is_exposed, is_virtual, is_shown, is_hidden, all_methods}
+use Rattle.cjc_tokens.specs.Members.{Signature, signature_of, signatures, is_exposed, is_virtual, is_shown, is_hidden, all_methods, In, chosen, first_of, later}
 use Rattle.cjc_tokens.specs.Lines.{Line, Imported, Declared}
 use Rattle.cjc_tokens.specs.Slots.{Slots, has_slot, new_in, with_new, put, reserve, listed_slots, slots, own, got, implementing, meant_by, row}
 use Rattle.cjc_vtable.specs.Tables.{base, entries, of_package}
 use Rattle.cjc_vtable.specs.Dispatch.{held, dispatched, own_by_token}
-use Rattle.cjc_vtable.specs.Calls.{In, first_of, later, is_special, selects, chosen, selected_in, IsOneToOne, IsTold, IsProper, methods_of_line, imported_methods, KeepsAccess, KeepsImported, Climbs, here, up, over}
-use Rattle.cjc_vtable.proofs.Facts.{chosen-passes, chosen-In, own-none, got-none}
-use Rattle.cjc_vtable.proofs.Places.{at_front, has_slot-append, here-has_slot, shown-virtual, listed_slot, put-same_at, put-still, reserve-still}
+use Rattle.cjc_vtable.specs.Calls.{is_special, selects, selected_in, IsOneToOne, IsTold, IsProper, methods_of_line, imported_methods, KeepsAccess, KeepsImported, Climbs, here, up, over}
+use Rattle.cjc_tokens.proofs.Facts.{chosen-passes, chosen-In, own-none, got-none}
+use Rattle.cjc_tokens.proofs.Held.{at_front, has_slot-append, here-has_slot, shown-virtual, listed_slot, put-same_at, put-still, reserve-still}
 use Rattle.cjc_vtable.proofs.Tables.{tower, entry_at, by_token, dispatched-slot}
 use Rattle.cjc_vtable.proofs.Agrees.{chosen-coarser, shown_selects, hidden-virtual, virtual_plain, imported-same}
 use Rattle.cjc_vtable.proofs.Calls.{In-behind}

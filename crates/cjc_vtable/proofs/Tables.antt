@@ -7,14 +7,14 @@ use Rattle.std.proofs.lemmas.Option.{slice_get-map}
 use Rattle.cjc_world.specs.declared.found.Found.{Found}
 use Rattle.cjc_world.specs.Classes.{Member, Class}
 use Rattle.cjc_world.specs.Lookup.{is_called, first, or_else, member_at}
-use Rattle.cjc_tokens.specs.Members.{Signature, signature_of, same, has, signatures, is_shown, is_hidden, is_virtual, all_methods}
+use Rattle.cjc_tokens.specs.Members.{Signature, signature_of, same, has, signatures, is_shown, is_hidden, is_virtual, all_methods, In, first_of, later}
 use Rattle.cjc_tokens.specs.Lines.{Line, Nowhere, Imported, Declared}
 use Rattle.cjc_tokens.specs.Slots.{Slots, new_in, with_new, slots, hidden_slots, own, got, implementing, implementing_hidden, meant_by, hidden_row}
 use Rattle.cjc_vtable.specs.Tables.{is_own, base, of_package, entries, methods, table_in}
 use Rattle.cjc_vtable.specs.Dispatch.{Tower, Missing, Exported, Info, held, at_table, dispatched, dispatched_hidden, own_by_token}
-use Rattle.cjc_vtable.specs.Calls.{In, first_of, later, IsOneToOne, IsTold, IsProper}
-use Rattle.cjc_vtable.proofs.Facts.{same-true, same-refl, position-same, own-at, got-at, has-own_none, has-got_none}
-use Rattle.cjc_vtable.proofs.Places.{at_either, new-offered, listed_slot, shown-virtual}
+use Rattle.cjc_vtable.specs.Calls.{IsOneToOne, IsTold, IsProper}
+use Rattle.cjc_tokens.proofs.Facts.{same-true, same-refl, position-same, own-at, got-at, has-own_none, has-got_none}
+use Rattle.cjc_tokens.proofs.Held.{at_either, new-offered, listed_slot, shown-virtual}
 
 -- the tables of the classes of a line
 abbrev pub tower : List Class → Line → Tower

@@ -6,15 +6,15 @@ use Rattle.cjc_world.specs.Interfaces.{where_listed, gathered, known}
 use Rattle.cjc_world.specs.Kin.{Kin, End, Unknown, Known, kin, IsKin, ends, unknown_here, known_here, Lists, foremost, after, upwards, line}
 use Rattle.cjc_world.specs.Lookup.{first, own_method, or_else}
 use Rattle.cjc_world.specs.Added.{added, own_methods, methods_of, asked_by}
-use Rattle.cjc_tokens.specs.Members.{Signature, signature_of, is_shown, all_methods}
+use Rattle.cjc_tokens.specs.Members.{Signature, signature_of, is_shown, all_methods, In, chosen, first_of, later}
 use Rattle.cjc_tokens.specs.Lines.{Line, Imported, Declared, line_in, line_of}
 use Rattle.cjc_tokens.specs.Slots.{own, slots, hidden_slots, token}
 use Rattle.cjc_tokens.specs.Methods.{interfaces_at, interface_methods}
 use Rattle.cjc_vtable.specs.Tables.{table_in}
 use Rattle.cjc_vtable.specs.Dispatch.{Exported, Info, tower_in, tower_of, dispatched, dispatched_hidden, dispatched_interface, map_of, at_map, at_index}
-use Rattle.cjc_vtable.specs.Calls.{In, first_of, later, selects, chosen, passes, selected_in, selects_shown, IsOneToOne, IsTold, IsProper, methods_of_line, imported_methods, is_special, KeepsAccess, KeepsImported as KeepsFar, Climbs, here, up, over}
+use Rattle.cjc_vtable.specs.Calls.{selects, passes, selected_in, selects_shown, IsOneToOne, IsTold, IsProper, methods_of_line, imported_methods, is_special, KeepsAccess, KeepsImported as KeepsFar, Climbs, here, up, over}
 use Rattle.cjc_vtable.specs.Laws.{Under, itself, below, KeepsRules, KeepsInterfaces, KeepsImported, selection, VirtualCallsAgree, InterfaceCallsAgree, ImportedCallsAgree, TokensAreOnce}
-use Rattle.cjc_vtable.proofs.Facts.{chosen-passes, has-chosen}
+use Rattle.cjc_tokens.proofs.Facts.{chosen-passes, has-chosen}
 use Rattle.cjc_vtable.proofs.Tables.{tower}
 use Rattle.cjc_vtable.proofs.Calls.{In-front, In-behind, token-some, open_calls, package_calls}
 use Rattle.cjc_vtable.proofs.Agrees.{chosen-finer, shown_selects, shown-has_slot, agree_shown}

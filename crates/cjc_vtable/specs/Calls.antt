@@ -3,14 +3,9 @@ use Rattle.std.specs.Prelude.{◌≡◌, ℕ, List, [], ◌∷◌, ◌++◌, Boo
 use Rattle.cjc_world.specs.declared.found.Found.{Found}
 use Rattle.cjc_world.specs.Classes.{Member, Class, is_private}
 use Rattle.cjc_world.specs.Lookup.{or_else, first, is_called, is_selectable}
-use Rattle.cjc_tokens.specs.Members.{Signature, signature_of, has, signatures, is_exposed, is_constructor, is_initialiser, is_virtual, is_shown, is_hidden, all_methods}
+use Rattle.cjc_tokens.specs.Members.{Signature, signature_of, has, signatures, is_exposed, is_constructor, is_initialiser, is_virtual, is_shown, is_hidden, all_methods, In, chosen}
 use Rattle.cjc_tokens.specs.Lines.{Line, Nowhere, Imported, Declared}
 use Rattle.cjc_tokens.specs.Slots.{slots, has_slot, own}
-
--- the member stands in the list
-pub data In (m : Member) : List Member → Type 0 where
-  first_of : {ms : List Member} → In m (m ∷ ms)
-  later : {n : Member} {ms : List Member} → In m ms → In m (n ∷ ms)
 
 -- a constructor or an initialiser
 abbrev pub is_special : Signature → Bool
@@ -22,11 +17,6 @@ selects m = is_selectable m.flags
 
 abbrev pub any_method : Member → Bool
 any_method m = true
-
--- the first method of the signature that passes the test
-abbrev pub chosen : (Member → Bool) → Signature → List Member → Option Member
-chosen test s [] = None
-chosen test s (m ∷ ms) = if test m && is_called s.name s.desc m then Some m else chosen test s ms
 
 abbrev pub passes : (Member → Bool) → Option Member → Bool → Bool
 passes test None above = above

@@ -7,12 +7,12 @@ use Rattle.cjc_world.specs.Kin.{Lists, IsAcyclic, kin, upwards, line}
 use Rattle.cjc_world.specs.Interfaces.{known}
 use Rattle.cjc_world.specs.Added.{asked_by, own_methods}
 use Rattle.cjc_world.specs.Lookup.{first, own_method}
-use Rattle.cjc_tokens.specs.Members.{Signature, signature_of, all_methods, is_hidden, is_shown}
+use Rattle.cjc_tokens.specs.Members.{Signature, signature_of, all_methods, is_hidden, is_shown, In, chosen}
 use Rattle.cjc_tokens.specs.Lines.{line_in, line_of}
 use Rattle.cjc_tokens.specs.Slots.{slots, hidden_slots, token}
 use Rattle.cjc_tokens.specs.Methods.{interfaces_at, interface_methods}
 use Rattle.cjc_vtable.specs.Dispatch.{tower_of, dispatched, dispatched_hidden, dispatched_interface}
-use Rattle.cjc_vtable.specs.Calls.{In, IsOneToOne, is_special, is_clash, is_package_visible, finds_shown, finds_hidden, selects, selects_shown, chosen, imported_methods}
+use Rattle.cjc_vtable.specs.Calls.{IsOneToOne, is_special, is_clash, is_package_visible, finds_shown, finds_hidden, selects, selects_shown, imported_methods}
 
 -- the class is the other, or stands below it over superclasses
 pub data Under (w : List Class) : List ℕ → List ℕ → Type 0 where

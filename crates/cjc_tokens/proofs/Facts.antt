@@ -6,9 +6,8 @@ use Rattle.std.proofs.lemmas.Slice.Eq.{bytes_eq-Decides}
 use Rattle.cjc_world.specs.declared.found.Found.{Found}
 use Rattle.cjc_world.specs.Classes.{Member, Class}
 use Rattle.cjc_world.specs.Lookup.{is_called, member_at}
-use Rattle.cjc_tokens.specs.Members.{Signature, signature_of, same, has, signatures}
+use Rattle.cjc_tokens.specs.Members.{Signature, signature_of, same, has, signatures, In, chosen, first_of, later}
 use Rattle.cjc_tokens.specs.Slots.{own, got}
-use Rattle.cjc_vtable.specs.Calls.{In, first_of, later, chosen}
 
 signature : List ℕ → List ℕ → Signature
 signature n d = record { name = n; desc = d }

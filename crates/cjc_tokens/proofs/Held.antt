@@ -3,10 +3,9 @@ use Rattle.std.proofs.Common.{◌≡◌, ℕ, zero, suc, refl, sym, ap, subst, �
 use Rattle.std.specs.Prelude.{◌&&◌, ◌||◌, ◌⊎◌, Option, Some, None, if◌then◌else◌, slice_get, map, option_map, ◌==◌}
 use Rattle.std.proofs.lemmas.Bool.{eqb-false, eqb-true}
 use Rattle.cjc_world.specs.Classes.{Member}
-use Rattle.cjc_tokens.specs.Members.{Signature, signature_of, same, has, is_exposed, is_shown, is_virtual}
+use Rattle.cjc_tokens.specs.Members.{Signature, signature_of, same, has, is_exposed, is_shown, is_virtual, In, first_of, later}
 use Rattle.cjc_tokens.specs.Slots.{Slots, holds, has_slot, new_in, put, reserve, listed_slots, token}
-use Rattle.cjc_vtable.specs.Calls.{In, first_of, later}
-use Rattle.cjc_vtable.proofs.Facts.{same-true, same-refl, position-cons}
+use Rattle.cjc_tokens.proofs.Facts.{same-true, same-refl, position-cons}
 
 pub at_front : {A : Type 0} (xs ys : List A) (k : ℕ) (x : A) → slice_get xs k ≡ Some x → slice_get (xs ++ ys) k ≡ Some x
 at_front [] ys k x e = cc

@@ -1,0 +1,14 @@
+pub mod Places
+pub mod Offers
+pub mod Facts
+pub mod Held
+pub mod Steps
+pub mod Overlays
+pub mod Walks
+pub mod Supers
+pub mod Sums
+pub mod Counts
+pub mod Asked
+pub mod Classes
+pub mod Signs
+pub mod Assigns

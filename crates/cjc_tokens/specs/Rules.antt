@@ -1,0 +1,80 @@
+-- Rule 413, and the two rules that tokens stand on.
+use Rattle.std.specs.Prelude.{◌≡◌, ◌≤◌, ℕ, zero, suc, ◌+◌, List, [], ◌∷◌, ◌++◌, length, map, take, count_by, sum_by, All, nat_lt, not, Bool, true, false, ◌&&◌, ◌||◌, if◌then◌else◌, Option, Some, None}
+use Rattle.std.specs.List.{list_any}
+use Rattle.cjc_bytes.specs.declared.settings.FileLine.{FileLine}
+use Rattle.cjc_classfile.specs.declared.tree.ClassTree.{ClassTree}
+use Rattle.cjc_world.specs.Files.{Files}
+use Rattle.cjc_world.specs.Classes.{Class, declared, is_interface, all_classes}
+use Rattle.cjc_world.specs.Added.{added}
+use Rattle.cjc_world.specs.Rules.{Break}
+use Rattle.cjc_tokens.specs.Members.{signature_of}
+use Rattle.cjc_tokens.specs.Lines.{line_at}
+use Rattle.cjc_tokens.specs.Slots.{slots, hidden_slots, token}
+use Rattle.cjc_tokens.specs.Fields.{is_open_static, instance_cells}
+use Rattle.cjc_tokens.specs.Methods.{interface_methods, is_open_bound, virtual_token}
+use Rattle.cjc_tokens.specs.Tokens.{is_exported, one_more}
+
+-- ---- 401: more than 255 exported classes
+
+abbrev pub count_exported : List Class → (applets : Bool) → (number : ℕ) → List ClassTree → ℕ
+count_exported w applets k [] = 0
+count_exported w applets k (c ∷ cs) = one_more (is_exported w applets (declared k c)) (count_exported w applets (k + 1) cs)
+
+abbrev pub FewExported : (applets : Bool) → Files → Type 0
+FewExported applets files = count_exported (all_classes files) applets 0 files.classes ≤ 255
+
+-- ---- 406: a class declares more than 255 cells of instance fields
+
+abbrev pub HasFewCells : ClassTree → Type 0
+HasFewCells c = instance_cells c.fields ≤ 255
+
+abbrev pub FewCells : Files → Type 0
+FewCells files = All HasFewCells files.classes
+
+-- ---- 413: a virtual or interface method would get a token above 127, or a static field or method one above 254
+
+abbrev pub is_above : (limit : ℕ) → Option ℕ → Bool
+is_above limit None = false
+is_above limit (Some t) = nat_lt limit t
+
+abbrev pub has_high_method : List Class → Class → Bool
+has_high_method w c =
+    list_any (λ m. is_above 127 (virtual_token (slots (line_at w c)) (hidden_slots (line_at w c)) m)) c.methods
+    || list_any (λ m. is_above 127 (token (slots (line_at w c)) (signature_of m))) (added w c)
+
+-- A method that an interface inherits has a token in it too.
+unfoldable pub has_high_token : List Class → (exported : Bool) → (number : ℕ) → ClassTree → Bool
+has_high_token w exported number c =
+    (if is_interface c.flags then nat_lt 128 (length (interface_methods w (declared number c)))
+    else has_high_method w (declared number c) || (exported && nat_lt 255 (count_by is_open_bound (declared number c).methods)))
+    || (exported && nat_lt 255 (count_by is_open_static c.fields))
+
+-- a file by its place in the list, from 1, and its name
+pub record FilePlace : Type 0 where
+  pub file : ℕ
+  pub name : List ℕ
+
+-- the file of the class of a number, where so many lines stand before these
+abbrev pub file_of : (before : ℕ) → List FileLine → (number : ℕ) → FilePlace
+file_of n [] k = record { file = n + 1; name = [] }
+file_of n (line ∷ lines) zero = if line.class_file then record { file = n + 1; name = line.name } else file_of (n + 1) lines zero
+file_of n (line ∷ lines) (suc k) = if line.class_file then file_of (n + 1) lines k else file_of (n + 1) lines (suc k)
+
+abbrev pub at_class : FilePlace → List ℕ → Break
+at_class at class_name = record {
+  rank = record { family = 4; file = at.file; class = 1; member = 0; offset = 0; rule = 413 };
+  refusal = record { rule = record { 0 = 413 }; place = record { file = at.name; class = class_name; member = []; offset = 0 } };
+}
+
+abbrev pub breaks_where : Bool → Break → List Break
+breaks_where true b = b ∷ []
+breaks_where false b = []
+
+-- those of the class files in list order, from one on
+unfoldable pub breaks_from : List Class → (applets : Bool) → List FileLine → (number : ℕ) → List ClassTree → List Break
+breaks_from w applets lines k [] = []
+breaks_from w applets lines k (c ∷ cs) = breaks_where (has_high_token w (is_exported w applets (declared k c)) k c) (at_class (file_of 0 lines k) c.name) ++ breaks_from w applets lines (k + 1) cs
+
+-- All that is broken of 413.
+unfoldable pub token_breaks : (applets : Bool) → Files → List Break
+token_breaks applets files = breaks_from (all_classes files) applets files.lines 0 files.classes

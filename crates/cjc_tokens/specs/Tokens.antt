@@ -1,0 +1,131 @@
+-- The tokens of a package and of the classes that its export files describe, all together.
+use Rattle.std.specs.Prelude.{ℕ, suc, ◌+◌, ◌-◌, ◌==◌, List, [], ◌∷◌, ◌++◌, map, length, slice_get, nat_lt, not, position, Bool, true, false, ◌&&◌, ◌||◌, is_some, if◌then◌else◌, Option, Some, None, option_map, option_and_then, codes}
+use Rattle.cjc_bytes.specs.declared.settings.FileLine.{FileLine}
+use Rattle.cjc_classfile.specs.declared.tree.ClassTree.{ClassTree}
+use Rattle.cjc_export.specs.declared.tree.ExportField.{ExportField}
+use Rattle.cjc_export.specs.declared.tree.ExportMethod.{ExportMethod}
+use Rattle.cjc_export.specs.declared.tree.ExportClass.{ExportClass}
+use Rattle.cjc_export.specs.declared.tree.ExportTree.{ExportTree}
+use Rattle.cjc_world.specs.declared.found.Found.{Found}
+use Rattle.cjc_world.specs.Files.{Files}
+use Rattle.cjc_world.specs.Classes.{Class, declared, is_public, is_interface, class_named, all_classes}
+use Rattle.cjc_world.specs.Subtype.{is_subtype}
+use Rattle.cjc_world.specs.Added.{added}
+use Rattle.cjc_tokens.specs.Members.{signature_of, is_initialiser}
+use Rattle.cjc_tokens.specs.Lines.{line_at}
+use Rattle.cjc_tokens.specs.Slots.{slots, hidden_slots, token, row, hidden_row}
+use Rattle.cjc_tokens.specs.Fields.{field_tokens, instance_tokens}
+use Rattle.cjc_tokens.specs.Methods.{interface_methods, interface_token, class_method_tokens}
+
+-- ---- which classes are exported
+
+abbrev pub shareable : List ℕ
+shareable = codes "javacard/framework/Shareable"
+
+abbrev pub is_imported_interface : Option Class → Bool
+is_imported_interface None = false
+is_imported_interface (Some c) = c.is_imported && is_interface c.flags
+
+-- Public classes where no applet is named; else the public interfaces below the imported interface Shareable.
+unfoldable pub is_exported : List Class → (applets : Bool) → Class → Bool
+is_exported w applets c =
+    is_public c.flags
+    && (not applets || (is_interface c.flags && is_imported_interface (class_named w shareable) && is_subtype w c.name shareable))
+
+-- ---- the tokens of one class
+
+-- what is kept of a class of the package
+pub record OfClass : Type 0 where
+  -- its own token, where it is exported
+  pub class : Option ℕ
+  -- those of its fields, its methods and the methods that are added to it, in this order
+  pub members : List (Option ℕ)
+  -- those of its instance fields by the place of the field
+  pub instances : List (Option ℕ)
+  -- the method that each public token means
+  pub public_methods : List (Option Found)
+  -- the package-visible method that each token means, the token without its high bit
+  pub package_methods : List (Option Found)
+
+abbrev pub method_tokens : List Class → (exported : Bool) → Class → List (Option ℕ)
+method_tokens w exported c =
+    if is_interface c.flags then map (interface_token (interface_methods w c)) c.methods
+    else class_method_tokens exported (slots (line_at w c)) (hidden_slots (line_at w c)) c.methods 0 c.methods ++ map (λ m. token (slots (line_at w c)) (signature_of m)) (added w c)
+
+-- an interface has no virtual methods of its own
+abbrev pub of_class : List Class → (applets : Bool) → (exported_before number : ℕ) → ClassTree → OfClass
+of_class w applets before number c = record {
+  class = if is_exported w applets (declared number c) then Some before else None;
+  members = field_tokens (is_exported w applets (declared number c)) c.fields 0 c.fields ++ method_tokens w (is_exported w applets (declared number c)) (declared number c);
+  instances = instance_tokens c.fields 0 c.fields;
+  public_methods = if is_interface c.flags then [] else row (line_at w (declared number c));
+  package_methods = if is_interface c.flags then [] else hidden_row (line_at w (declared number c));
+}
+
+abbrev pub one_more : Bool → ℕ → ℕ
+one_more true n = n + 1
+one_more false n = n
+
+-- Those of the class files in list order, from one on, where so many exported ones stand before it.
+unfoldable pub classes_from : List Class → (applets : Bool) → (exported_before number : ℕ) → List ClassTree → List OfClass
+classes_from w applets before k [] = []
+classes_from w applets before k (c ∷ cs) = of_class w applets before k c ∷ classes_from w applets (one_more (is_exported w applets (declared k c)) before) (k + 1) cs
+
+-- ---- imported classes: the tokens of their export files
+
+abbrev pub listed_field_token : ExportField → Option ℕ
+listed_field_token f = if is_some f.constant then None else Some f.token
+
+abbrev pub listed_method_token : ExportMethod → Option ℕ
+listed_method_token m = if is_initialiser m.name then None else Some m.token
+
+abbrev pub of_import : ExportClass → List (Option ℕ)
+of_import c = map listed_field_token c.fields ++ map listed_method_token c.methods
+
+abbrev pub imports_of : List ExportTree → List (List (Option ℕ))
+imports_of [] = []
+imports_of (t ∷ ts) = map of_import t.classes ++ imports_of ts
+
+-- ---- all together
+
+pub record Assigned : Type 0 where
+  -- of the package's classes, in list order
+  pub classes : List OfClass
+  -- of the members of all imported classes, in list order and as they stand in their files
+  pub imports : List (List (Option ℕ))
+
+unfoldable pub assigned : (applets : Bool) → Files → Assigned
+assigned applets files = record {
+  classes = classes_from (all_classes files) applets 0 0 files.classes;
+  imports = imports_of files.exports;
+}
+
+-- ---- look-up, both ways
+
+abbrev pub joined : {A : Type 0} → Option (Option A) → Option A
+joined None = None
+joined (Some o) = o
+
+-- the token of a class of the package
+abbrev pub token_of_class : Assigned → (class : ℕ) → Option ℕ
+token_of_class a class = option_and_then (λ c. c.class) (slice_get a.classes class)
+
+-- the token of a field or method
+abbrev pub token_of_member : Assigned → Found → Option ℕ
+token_of_member a f =
+    if f.imported then option_and_then (λ ms. joined (slice_get ms f.member)) (slice_get a.imports f.class)
+    else option_and_then (λ c. joined (slice_get c.members f.member)) (slice_get a.classes f.class)
+
+-- The method that a virtual token of a class means: package-visible ones have the high bit.
+abbrev pub method_of_token : Assigned → (class token : ℕ) → Option Found
+method_of_token a class token =
+    if nat_lt token 128 then option_and_then (λ c. joined (slice_get c.public_methods token)) (slice_get a.classes class)
+    else option_and_then (λ c. joined (slice_get c.package_methods (token - 128))) (slice_get a.classes class)
+
+abbrev pub has_token : ℕ → Option ℕ → Bool
+has_token t None = false
+has_token t (Some u) = u == t
+
+-- the instance field that a class declares with a token
+abbrev pub field_of_token : Assigned → (class token : ℕ) → Option ℕ
+field_of_token a class token = option_and_then (λ c. position (λ o. has_token token o) c.instances) (slice_get a.classes class)

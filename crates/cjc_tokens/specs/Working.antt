@@ -1,0 +1,136 @@
+-- What the code holds of a line while it assigns tokens.
+use Rattle.std.specs.Prelude.{◌≡◌, ℕ, zero, suc, List, [], ◌∷◌, ◌++◌, map, slice_get, nat_lt, count_by, Bool, true, false, not, ◌&&◌, ◌||◌, Option, Some, None, option_map, if◌then◌else◌}
+use Rattle.std.specs.List.{list_any}
+use Rattle.cjc_bytes.specs.declared.fault.MemberId.{MemberId}
+use Rattle.cjc_classfile.specs.declared.tree.ClassTree.{ClassTree}
+use Rattle.cjc_world.specs.declared.found.Found.{Found}
+use Rattle.cjc_world.specs.Classes.{Member, Class, declared, method_of_class}
+use Rattle.cjc_world.specs.Kin.{Kin, kin}
+use Rattle.cjc_world.specs.Interfaces.{gathered, known}
+use Rattle.cjc_world.specs.Added.{methods_of, own_methods}
+use Rattle.cjc_world.specs.Lookup.{or_else}
+use Rattle.cjc_tokens.specs.declared.slot.Slot.{Slot}
+use Rattle.cjc_tokens.specs.declared.slot.Rows.{Rows}
+use Rattle.cjc_tokens.specs.Members.{Signature, signature_of, is_exposed, is_virtual_by, is_shown, is_virtual, is_initialiser}
+use Rattle.cjc_tokens.specs.Lines.{Line, line_at}
+use Rattle.cjc_tokens.specs.Slots.{Slots, slots, hidden_slots, row, hidden_row, meant_by, token, own, got, new_in, with_new}
+use Rattle.cjc_tokens.specs.Fields.{is_open_static}
+use Rattle.cjc_tokens.specs.Methods.{is_open_bound, virtual_token}
+use Rattle.cjc_tokens.specs.Tokens.{OfClass, is_exported, of_class}
+use Rattle.cjc_tokens.specs.Rules.{has_high_token, is_above}
+
+abbrev pub signature_in : Slot → Signature
+signature_in s = record { name = s.name.now; desc = s.desc.now }
+
+-- the signatures of a row
+abbrev pub signs : List (Option Slot) → Slots
+signs row = map (option_map signature_in) row
+
+abbrev pub meant : Option Slot → Option Found
+meant None = None
+meant (Some s) = s.method
+
+-- the methods that it means
+abbrev pub methods_in : List (Option Slot) → List (Option Found)
+methods_in row = map meant row
+
+-- Each slot means what this says of its signature.
+abbrev pub AreMeant : (Signature → Option Found) → List (Option Slot) → Type 0
+AreMeant implements row = methods_in row ≡ map (meant_by implements) (signs row)
+
+-- package-visible methods, or public and protected ones
+abbrev pub is_kind : (hidden : Bool) → (flags : ℕ) → (name : List ℕ) → Bool
+is_kind true flags name = not (is_exposed flags) && is_virtual_by flags name
+is_kind false flags name = is_exposed flags && is_virtual_by flags name
+
+abbrev pub is_of_kind : (hidden : Bool) → Member → Bool
+is_of_kind hidden m = is_kind hidden m.flags m.name
+
+-- an added method, as a member
+abbrev pub member_of : MemberId → Member
+member_of m = record { flags = 0; name = m.name; desc = m.desc; token = 0 }
+
+-- the method of the nearest class, where this one is the superclass's; no package-visible one is added
+abbrev pub nearest : Class → (added : List Member) → (hidden : Bool) → Signature → Option Found → Option Found
+nearest c added true s above = or_else (own (is_of_kind true) s c) above
+nearest c added false s above = or_else (own (is_of_kind false) s c) (or_else (got added s c) above)
+
+abbrev pub nearest_slot : Class → (added : List Member) → (hidden : Bool) → Option Slot → Option Found
+nearest_slot c added hidden None = None
+nearest_slot c added hidden (Some s) = nearest c added hidden (signature_in s) s.method
+
+-- The slots are the same, and each means the method of the nearest class.
+pub record Renewed (c : Class) (added : List Member) (hidden : Bool) (above row : List (Option Slot)) : Type 0 where
+  pub slots : signs row ≡ signs above
+  pub methods : methods_in row ≡ map (nearest_slot c added hidden) above
+
+-- A slot was put at the end for each signature that had none, with the method that this says.
+pub record Offered (ss : List Signature) (method : Signature → Option Found) (old new : List (Option Slot)) : Type 0 where
+  pub slots : signs new ≡ with_new (signs old) ss
+  pub methods : methods_in new ≡ methods_in old ++ map method (new_in (signs old) ss)
+
+-- The rows are those of the line.
+pub record AreRowsOf (line : Line) (r : Rows) : Type 0 where
+  pub shown_slots : signs r.shown.items ≡ slots line
+  pub shown_methods : methods_in r.shown.items ≡ row line
+  pub hidden_slots_are : signs r.hidden.items ≡ hidden_slots line
+  pub hidden_methods : methods_in r.hidden.items ≡ hidden_row line
+
+-- They have the same slots.
+pub record SameRows (r s : Rows) : Type 0 where
+  pub shown : s.shown.items ≡ r.shown.items
+  pub hidden : s.hidden.items ≡ r.hidden.items
+
+-- Where a class has rows, they are those of its line.
+abbrev pub IsKept : List Class → List ClassTree → List (Option Rows) → Type 0
+IsKept w trees kept = (n : ℕ) (c : ClassTree) (r : Rows) → slice_get trees n ≡ Some c → slice_get kept n ≡ Some (Some r) → AreRowsOf (line_at w (declared n c)) r
+
+-- ---- an imported class, the nearest first
+
+-- the second where the first has none
+abbrev pub overlay : Slots → Slots → Slots
+overlay [] b = b
+overlay (s ∷ a) [] = s ∷ a
+overlay (None ∷ a) (t ∷ b) = t ∷ overlay a b
+overlay (Some s ∷ a) (t ∷ b) = Some s ∷ overlay a b
+
+-- one token alone
+abbrev pub alone : ℕ → Option Signature → Slots
+alone zero slot = slot ∷ []
+alone (suc t) slot = None ∷ alone t slot
+
+-- what a method lists
+abbrev pub one : Member → Slots
+one m = if is_shown m then alone m.token (Some (signature_of m)) else if is_virtual m then alone m.token None else []
+
+-- a method of an interface; an initialiser is none
+abbrev pub listed_method : (name desc : List ℕ) → List Signature
+listed_method name desc = if is_initialiser name then [] else record { name = name; desc = desc } ∷ []
+
+-- the methods of the interfaces of some classes
+abbrev pub asked : (listed : Bool) → Kin → List Signature
+asked listed k = map signature_of (methods_of (known (gathered listed k)))
+
+-- a class's own methods, where it is listed as an interface
+abbrev pub own_where : (listed : Bool) → Class → List Signature
+own_where listed c = if listed then map signature_of (own_methods c) else []
+
+-- what stands before its own: an export file lists all
+abbrev pub above_where : List Class → Class → List Signature
+above_where w c = if c.is_imported then [] else asked false (kin w c.supers) ++ asked true (kin w c.interfaces)
+
+-- whether a class that is no interface breaks 413, from its slots
+abbrev pub is_high_class : (exported : Bool) → (shown hidden : Slots) → ClassTree → (added : List MemberId) → Bool
+is_high_class exported shown hidden c added =
+    ((list_any (λ m. is_above 127 (virtual_token shown hidden (method_of_class m))) c.methods || list_any (λ m. is_above 127 (token shown (signature_of (member_of m)))) added)
+    || (exported && nat_lt 255 (count_by is_open_bound (map method_of_class c.methods))))
+    || (exported && nat_lt 255 (count_by is_open_static c.fields))
+
+-- whether an interface does, from its methods
+abbrev pub is_high_interface : (exported : Bool) → (methods : ℕ) → ClassTree → Bool
+is_high_interface exported methods c = nat_lt 128 methods || (exported && nat_lt 255 (count_by is_open_static c.fields))
+
+-- None where the class breaks 413, else its tokens.
+abbrev pub AreTokensOf : List Class → (applets : Bool) → (exported_before number : ℕ) → ClassTree → Option OfClass → Type 0
+AreTokensOf w applets before n c None = has_high_token w (is_exported w applets (declared n c)) n c ≡ true
+AreTokensOf w applets before n c (Some t) = (has_high_token w (is_exported w applets (declared n c)) n c ≡ false) × (t ≡ of_class w applets before n c)

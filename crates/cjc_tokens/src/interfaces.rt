@@ -1,0 +1,179 @@
+//! The interfaces of a class, and the methods of an interface by token.
+
+ghost use Rattle.std.specs.Prelude.{◌≡◌, ◌+◌, ◌<◌, ◌++◌, ◌==◌, [], ◌∷◌, map, length, position, if◌then◌else◌, false, true, IfOk, IfSome, OnOk, Some};
+ghost use Rattle.cjc_world.specs.Classes.{all_classes, method_of_class, method_of_export};
+ghost use Rattle.cjc_world.specs.Kin.{IsAcyclic, kin};
+ghost use Rattle.cjc_world.specs.Known.{class_of};
+ghost use Rattle.cjc_world.specs.Interfaces.{gathered, known};
+ghost use Rattle.cjc_world.specs.Added.{by_token, methods_of, own_methods, with_token, without_initialiser};
+ghost use Rattle.cjc_tokens.specs.Members.{is_initialiser, signature_of};
+ghost use Rattle.cjc_tokens.specs.Methods.{interface_methods};
+ghost use Rattle.cjc_tokens.specs.Slots.{new_in, with_new};
+ghost use Rattle.cjc_tokens.specs.Working.{above_where, asked, listed_method, own_where, signs};
+
+use crate::line::STEPS;
+use crate::slot::{Slot, is_initialiser, put_name};
+use cjc_bytes::{Bytes, NoMemory};
+use cjc_classfile::MethodTree;
+use cjc_export::ExportMethod;
+use cjc_world::{Known, World, lookup_laws};
+use std::alloc::Global;
+
+/// Puts a method at the end that is there not yet, unless it is an initialiser.
+fn put_method<'w>(
+    row: &mut Vec<Option<Slot<'w>>>,
+    name: &'w [u8],
+    desc: &'w [u8],
+) -> Result<(), NoMemory>
+    ensures { OnOk result (signs row.new.items ≡ with_new (signs row.old.items) (listed_method name.now desc.now)) }
+{
+    if is_initialiser(name) {
+        Ok(())
+    } else {
+        put_name(row, name, desc)
+    }
+}
+
+fn put_declared<'w>(
+    row: &mut Vec<Option<Slot<'w>>>,
+    methods: &'w [MethodTree<'_>],
+) -> Result<(), NoMemory>
+    ensures { OnOk result (signs row.new.items ≡ with_new (signs row.old.items) (map signature_of (without_initialiser (map method_of_class methods.now)))) }
+{
+    for method in methods {
+        let name = method.name.items();
+        let desc = method.desc.items();
+        put_method(row, name, desc)?;
+    }
+    Ok(())
+}
+
+#[tactic(auto, using(crate::proofs::Places::position_within))]
+fn token_place(methods: &[ExportMethod], token: usize) -> Option<usize>
+    ensures place { result ≡ position (λ m. m.token == token) methods.now }
+    ensures within { IfSome result (λ i. i < length methods.now) }
+{
+    methods
+        .iter()
+        .position(|method| method.token as usize == token)
+}
+
+/// Puts the method of a token.
+fn put_token<'w>(
+    row: &mut Vec<Option<Slot<'w>>>,
+    methods: &'w [ExportMethod],
+    token: usize,
+) -> Result<(), NoMemory>
+    ensures { OnOk result (signs row.new.items ≡ with_new (signs row.old.items) (map signature_of (without_initialiser (with_token token (map method_of_export methods.now))))) }
+{
+    match token_place(methods, token) {
+        None => Ok(()),
+        Some(place) => {
+            let method = &methods[place];
+            let name = method.name.items();
+            let desc = method.desc.items();
+            put_method(row, name, desc)
+        }
+    }
+}
+
+/// Puts the methods of an export file by their tokens.
+fn put_exported<'w>(
+    row: &mut Vec<Option<Slot<'w>>>,
+    methods: &'w [ExportMethod],
+) -> Result<(), NoMemory>
+    ensures { OnOk result (signs row.new.items ≡ with_new (signs row.old.items) (map signature_of (without_initialiser (by_token (length methods.now) 0 (map method_of_export methods.now))))) }
+{
+    for token in 0..methods.len() {
+        put_token(row, methods, token)?;
+    }
+    Ok(())
+}
+
+/// Puts a class's own methods, those of an export file by their tokens.
+fn put_own<'w>(row: &mut Vec<Option<Slot<'w>>>, class: Known<'w, '_>) -> Result<(), NoMemory>
+    ensures { OnOk result (signs row.new.items ≡ with_new (signs row.old.items) (map signature_of (own_methods (class_of class.entry)))) }
+{
+    match class {
+        Known::Declared(_, class) => put_declared(row, class.methods.items()),
+        Known::Imported(_, class) => put_exported(row, class.methods.items()),
+    }
+}
+
+fn put_own_where<'w>(
+    row: &mut Vec<Option<Slot<'w>>>,
+    listed: bool,
+    class: Known<'w, '_>,
+) -> Result<(), NoMemory>
+    ensures { OnOk result (signs row.new.items ≡ with_new (signs row.old.items) (own_where listed (class_of class.entry))) }
+{
+    if listed { put_own(row, class) } else { Ok(()) }
+}
+
+/// Puts the methods of the interfaces of some classes, each interface's superinterfaces before it; where the classes
+/// are listed as interfaces themselves, each one's own behind those. No way up has so many steps.
+fn put_asked<'w>(
+    world: &'w World<'_>,
+    listed: bool,
+    names: &[Bytes],
+    steps: usize,
+    row: &mut Vec<Option<Slot<'w>>>,
+) -> Result<(), NoMemory>
+    requires { IsAcyclic (all_classes world.now) }
+    ensures { OnOk result (signs row.new.items ≡ with_new (signs row.old.items) (asked listed (kin (all_classes world.now) names.now))) }
+{
+    if steps == 0 {
+        return Err(NoMemory);
+    }
+    lookup_laws();
+    for name in names {
+        if let Some(class) = world.class_named(name.items()) {
+            put_asked(world, false, class.supers(), steps - 1, row)?;
+            put_asked(world, true, class.interfaces(), steps - 1, row)?;
+            put_own_where(row, listed, class)?;
+        }
+    }
+    Ok(())
+}
+
+fn put_above<'w>(
+    world: &'w World<'_>,
+    class: Known<'w, '_>,
+    row: &mut Vec<Option<Slot<'w>>>,
+) -> Result<(), NoMemory>
+    requires { IsAcyclic (all_classes world.now) }
+    ensures { OnOk result (signs row.new.items ≡ with_new (signs row.old.items) (asked false (kin (all_classes world.now) (class_of class.entry).supers) ++ asked true (kin (all_classes world.now) (class_of class.entry).interfaces))) }
+{
+    put_asked(world, false, class.supers(), STEPS, row)?;
+    put_asked(world, true, class.interfaces(), STEPS, row)
+}
+
+fn put_above_where<'w>(
+    world: &'w World<'_>,
+    class: Known<'w, '_>,
+    row: &mut Vec<Option<Slot<'w>>>,
+) -> Result<(), NoMemory>
+    requires { IsAcyclic (all_classes world.now) }
+    ensures { OnOk result (signs row.new.items ≡ with_new (signs row.old.items) (above_where (all_classes world.now) (class_of class.entry))) }
+{
+    if class.is_imported() {
+        Ok(())
+    } else {
+        put_above(world, class, row)
+    }
+}
+
+/// The methods of an interface by token.
+pub(crate) fn interface_methods<'w>(
+    alloc: Global,
+    world: &'w World<'_>,
+    class: Known<'w, '_>,
+) -> Result<Vec<Option<Slot<'w>>>, NoMemory>
+    requires { IsAcyclic (all_classes world.now) }
+    ensures { IfOk result (λ row. signs row.items ≡ map Some (interface_methods (all_classes world.now) (class_of class.entry))) }
+{
+    let mut row = Vec::new(alloc);
+    put_above_where(world, class, &mut row)?;
+    put_own(&mut row, class)?;
+    Ok(row)
+}

@@ -1,0 +1,313 @@
+//! Rows of slots: the virtual methods of a class by their tokens.
+
+ghost use Rattle.std.specs.Prelude.{◌≡◌, ◌++◌, ◌∷◌, [], ◌+◌, ◌<◌, ◌^◌, ℕ, List, Option, true, false, map, length, position, IfOk, IfSome, OnOk, option_map, ◌&&◌, ◌||◌};
+ghost use Rattle.std.specs.Str.{bytes_eq};
+ghost use Rattle.cjc_world.specs.declared.found.Found.{Found as Method};
+ghost use Rattle.cjc_world.specs.Classes.{Member, declared, has, method_of_class};
+ghost use Rattle.cjc_world.specs.Lookup.{is_called, or_else};
+ghost use Rattle.cjc_tokens.specs.Members.{Signature, is_exposed, is_virtual_by, signature_of, signatures};
+ghost use Rattle.cjc_tokens.specs.Slots.{got, has_slot, holds, own, token, with_new};
+ghost use Rattle.cjc_tokens.specs.declared.slot.Slot.{Slot as RowSlot};
+ghost use Rattle.cjc_tokens.specs.Working.{is_kind, is_of_kind, member_of, nearest, Offered, Renewed, signature_in, signs};
+
+use cjc_bytes::{MemberId, NoMemory};
+use cjc_classfile::{ClassTree, MethodTree};
+use cjc_world::Found;
+use std::alloc::Global;
+
+const CONSTRUCTOR: &[u8] = b"<init>";
+
+const INITIALISER: &[u8] = b"<clinit>";
+
+/// A slot: a name and a descriptor, and the method of the nearest class that has one.
+#[derive(Clone, Copy)]
+pub(crate) struct Slot<'w> {
+    pub name: &'w [u8],
+    pub desc: &'w [u8],
+    pub method: Option<Found>,
+}
+
+/// The slots of a class by their tokens: of public and protected methods, and of package-visible ones.
+#[derive(Drop)]
+pub(crate) struct Rows<'w> {
+    pub shown: Vec<Option<Slot<'w>>>,
+    pub hidden: Vec<Option<Slot<'w>>>,
+}
+
+pub(crate) fn has(flags: u16, flag: u16) -> bool
+    ensures { result ≡ has flags flag }
+{
+    flags & flag > 0
+}
+
+/// Whether a member is public or protected.
+pub(crate) fn is_exposed(flags: u16) -> bool
+    ensures { result ≡ is_exposed flags }
+{
+    has(flags, 0x0001) || has(flags, 0x0004)
+}
+
+pub(crate) fn is_constructor(name: &[u8]) -> bool
+    ensures { result ≡ bytes_eq name.now CONSTRUCTOR.now }
+{
+    name == CONSTRUCTOR
+}
+
+pub(crate) fn is_initialiser(name: &[u8]) -> bool
+    ensures { result ≡ bytes_eq name.now INITIALISER.now }
+{
+    name == INITIALISER
+}
+
+/// Whether a method is neither static nor private nor a constructor.
+pub(crate) fn is_virtual(flags: u16, name: &[u8]) -> bool
+    ensures { result ≡ is_virtual_by flags name.now }
+{
+    !has(flags, 0x0002) && !has(flags, 0x0008) && !(is_constructor(name) || is_initialiser(name))
+}
+
+/// Whether a virtual method is package-visible, or is public or protected.
+pub(crate) fn is_of_kind(hidden: bool, flags: u16, name: &[u8]) -> bool
+    ensures { result ≡ is_kind hidden flags name.now }
+{
+    if hidden {
+        !is_exposed(flags) && is_virtual(flags, name)
+    } else {
+        is_exposed(flags) && is_virtual(flags, name)
+    }
+}
+
+fn holds(slot: &Option<Slot<'_>>, name: &[u8], desc: &[u8]) -> bool
+    ensures { result ≡ holds (option_map signature_in slot.now) (record { name = name.now; desc = desc.now }) }
+{
+    match slot {
+        None => false,
+        Some(slot) => slot.name == name && slot.desc == desc,
+    }
+}
+
+pub(crate) fn has_slot(row: &[Option<Slot<'_>>], name: &[u8], desc: &[u8]) -> bool
+    ensures { result ≡ has_slot (signs row.now) (record { name = name.now; desc = desc.now }) }
+{
+    for slot in row {
+        if holds(slot, name, desc) {
+            return true;
+        }
+    }
+    false
+}
+
+fn slot_place(row: &[Option<Slot<'_>>], name: &[u8], desc: &[u8]) -> Option<usize>
+    ensures { result ≡ position (λ slot. holds (option_map signature_in slot) (record { name = name.now; desc = desc.now })) row.now }
+{
+    row.iter().position(|slot| holds(slot, name, desc))
+}
+
+/// The place of the slot of a name and descriptor.
+pub(crate) fn token(row: &[Option<Slot<'_>>], name: &[u8], desc: &[u8]) -> Option<usize>
+    ensures { result ≡ token (signs row.now) (record { name = name.now; desc = desc.now }) }
+{
+    slot_place(row, name, desc)
+}
+
+fn method_place(methods: &[MethodTree<'_>], hidden: bool, name: &[u8], desc: &[u8]) -> Option<usize>
+    ensures { result ≡ position (λ m. is_kind hidden m.flags m.name && (bytes_eq m.name name.now && bytes_eq m.desc desc.now)) methods.now }
+{
+    methods.iter().position(|m| {
+        is_of_kind(hidden, m.flags, m.name.items())
+            && (m.name.items() == name && m.desc.items() == desc)
+    })
+}
+
+/// The place of a class's own virtual method.
+#[tactic(auto, using(crate::proofs::Places::position_of_map, crate::proofs::Places::position_within))]
+fn own_place(methods: &[MethodTree<'_>], hidden: bool, name: &[u8], desc: &[u8]) -> Option<usize>
+    ensures place { result ≡ position (λ m. is_of_kind hidden m && is_called name.now desc.now m) (map method_of_class methods.now) }
+    ensures within { IfSome result (λ i. i < length methods.now) }
+{
+    method_place(methods, hidden, name, desc)
+}
+
+/// A class's own virtual method.
+#[tactic(auto, unfolding(crate::specs::Slots::own))]
+pub(crate) fn own(
+    class: &ClassTree<'_>,
+    number: u32,
+    hidden: bool,
+    name: &[u8],
+    desc: &[u8],
+) -> Option<Found>
+    requires { length class.now.fields + length class.now.methods < 2 ^ 32 }
+    ensures { result ≡ own (is_of_kind hidden) (record { name = name.now; desc = desc.now }) (declared number class.now) }
+{
+    let place = own_place(class.methods.items(), hidden, name, desc)?;
+    Some(Found {
+        imported: false,
+        class: number,
+        member: (class.fields.items().len() + place) as u32,
+    })
+}
+
+fn id_place(added: &[MemberId], name: &[u8], desc: &[u8]) -> Option<usize>
+    ensures { result ≡ position (λ m. bytes_eq m.name name.now && bytes_eq m.desc desc.now) added.now }
+{
+    added
+        .iter()
+        .position(|m| m.name.items() == name && m.desc.items() == desc)
+}
+
+/// The place of an added method.
+#[tactic(auto, using(crate::proofs::Places::position_of_map, crate::proofs::Places::position_within))]
+fn added_place(added: &[MemberId], name: &[u8], desc: &[u8]) -> Option<usize>
+    ensures place { result ≡ position (λ m. is_called name.now desc.now m) (map member_of added.now) }
+    ensures within { IfSome result (λ i. i < length added.now) }
+{
+    id_place(added, name, desc)
+}
+
+/// A method that is added to a class.
+#[tactic(auto, using(crate::proofs::Places::length_of_methods), unfolding(crate::specs::Slots::got))]
+fn got(
+    class: &ClassTree<'_>,
+    number: u32,
+    added: &[MemberId],
+    name: &[u8],
+    desc: &[u8],
+) -> Option<Found>
+    requires { length class.now.fields + length class.now.methods + length added.now < 2 ^ 32 }
+    ensures { result ≡ got (map member_of added.now) (record { name = name.now; desc = desc.now }) (declared number class.now) }
+{
+    let place = added_place(added, name, desc)?;
+    Some(Found {
+        imported: false,
+        class: number,
+        member: (class.fields.items().len() + class.methods.items().len() + place) as u32,
+    })
+}
+
+/// The method of the nearest class, with the one that the superclass has.
+fn nearest(
+    class: &ClassTree<'_>,
+    number: u32,
+    added: &[MemberId],
+    hidden: bool,
+    name: &[u8],
+    desc: &[u8],
+    above: Option<Found>,
+) -> Option<Found>
+    requires { length class.now.fields + length class.now.methods + length added.now < 2 ^ 32 }
+    ensures { result ≡ nearest (declared number class.now) (map member_of added.now) hidden (record { name = name.now; desc = desc.now }) above }
+{
+    if let Some(method) = own(class, number, hidden, name, desc) {
+        return Some(method);
+    }
+    if !hidden {
+        if let Some(method) = got(class, number, added, name, desc) {
+            return Some(method);
+        }
+    }
+    above
+}
+
+/// The slots of the superclass, each with the method of the nearest class.
+pub(crate) fn renewed<'w>(
+    alloc: Global,
+    class: &ClassTree<'_>,
+    number: u32,
+    added: &[MemberId],
+    hidden: bool,
+    above: &[Option<Slot<'w>>],
+) -> Result<Vec<Option<Slot<'w>>>, NoMemory>
+    requires { length class.now.fields + length class.now.methods + length added.now < 2 ^ 32 }
+    ensures { IfOk result (λ row. Renewed (declared number class.now) (map member_of added.now) hidden above.now row.items) }
+{
+    let mut row = Vec::new(alloc);
+    for slot in above {
+        match slot {
+            None => row.push(None)?,
+            Some(slot) => {
+                let method = nearest(
+                    class,
+                    number,
+                    added,
+                    hidden,
+                    slot.name,
+                    slot.desc,
+                    slot.method,
+                );
+                row.push(Some(Slot {
+                    name: slot.name,
+                    desc: slot.desc,
+                    method,
+                }))?;
+            }
+        }
+    }
+    Ok(row)
+}
+
+/// Puts a slot at the end for a name and descriptor that has none yet.
+fn put_new<'w>(
+    row: &mut Vec<Option<Slot<'w>>>,
+    name: &'w [u8],
+    desc: &'w [u8],
+    method: Option<Found>,
+) -> Result<(), NoMemory>
+    ensures { (ss : List Signature) (method_of : Signature → Option Method) (old : List (Option RowSlot)) → Offered ss method_of old row.old.items → method ≡ method_of (record { name = name.now; desc = desc.now }) → OnOk result (Offered (ss ++ record { name = name.now; desc = desc.now } ∷ []) method_of old row.new.items) }
+{
+    if !has_slot(row, name, desc) {
+        row.push(Some(Slot { name, desc, method }))?;
+    }
+    Ok(())
+}
+
+/// Puts a slot at the end for each method of the class that has none yet.
+pub(crate) fn offer_methods<'w>(
+    row: &mut Vec<Option<Slot<'w>>>,
+    class: &'w ClassTree<'_>,
+    number: u32,
+    hidden: bool,
+) -> Result<(), NoMemory>
+    requires { length class.now.fields + length class.now.methods < 2 ^ 32 }
+    ensures { OnOk result (Offered (signatures (is_of_kind hidden) (declared number class.now).methods) (λ s. own (is_of_kind hidden) s (declared number class.now)) row.old.items row.new.items) }
+{
+    for method in class.methods.items() {
+        let name = method.name.items();
+        let desc = method.desc.items();
+        if is_of_kind(hidden, method.flags, name) {
+            let found = own(class, number, hidden, name, desc);
+            put_new(row, name, desc, found)?;
+        }
+    }
+    Ok(())
+}
+
+/// Puts a slot at the end for each added method that has none yet.
+pub(crate) fn offer_added<'w>(
+    row: &mut Vec<Option<Slot<'w>>>,
+    class: &ClassTree<'_>,
+    number: u32,
+    added: &'w [MemberId],
+) -> Result<(), NoMemory>
+    requires { length class.now.fields + length class.now.methods + length added.now < 2 ^ 32 }
+    ensures { OnOk result (Offered (map signature_of (map member_of added.now)) (λ s. got (map member_of added.now) s (declared number class.now)) row.old.items row.new.items) }
+{
+    for id in added {
+        let name = id.name.items();
+        let desc = id.desc.items();
+        let found = got(class, number, added, name, desc);
+        put_new(row, name, desc, found)?;
+    }
+    Ok(())
+}
+
+/// Puts a name and descriptor at the end that has no slot yet, with no method.
+pub(crate) fn put_name<'w>(
+    row: &mut Vec<Option<Slot<'w>>>,
+    name: &'w [u8],
+    desc: &'w [u8],
+) -> Result<(), NoMemory>
+    ensures { OnOk result (signs row.new.items ≡ with_new (signs row.old.items) (record { name = name.now; desc = desc.now } ∷ [])) }
+{
+    put_new(row, name, desc, None)
+}
