@@ -122,6 +122,22 @@ method_of_token a class token =
     if nat_lt token 128 then option_and_then (λ c. joined (slice_get c.public_methods token)) (slice_get a.classes class)
     else option_and_then (λ c. joined (slice_get c.package_methods (token - 128))) (slice_get a.classes class)
 
+abbrev pub public_in : Option OfClass → List (Option Found)
+public_in None = []
+public_in (Some c) = c.public_methods
+
+abbrev pub package_in : Option OfClass → List (Option Found)
+package_in None = []
+package_in (Some c) = c.package_methods
+
+-- the methods of a class of the package by their tokens
+abbrev pub public_methods_of : Assigned → (class : ℕ) → List (Option Found)
+public_methods_of a class = public_in (slice_get a.classes class)
+
+-- the package-visible ones, by the tokens without the high bit
+abbrev pub package_methods_of : Assigned → (class : ℕ) → List (Option Found)
+package_methods_of a class = package_in (slice_get a.classes class)
+
 abbrev pub has_token : ℕ → Option ℕ → Bool
 has_token t None = false
 has_token t (Some u) = u == t

@@ -164,7 +164,7 @@ fn put_above_where<'w>(
 }
 
 /// The methods of an interface by token.
-pub(crate) fn interface_methods<'w>(
+pub fn interface_methods<'w>(
     alloc: Global,
     world: &'w World<'_>,
     class: Known<'w, '_>,

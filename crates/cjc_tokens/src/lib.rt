@@ -14,4 +14,6 @@ mod slot;
 mod tokens;
 
 pub use assigning::assign;
+pub use interfaces::interface_methods;
+pub use slot::Slot;
 pub use tokens::Tokens;

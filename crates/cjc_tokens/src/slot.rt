@@ -21,7 +21,7 @@ const INITIALISER: &[u8] = b"<clinit>";
 
 /// A slot: a name and a descriptor, and the method of the nearest class that has one.
 #[derive(Clone, Copy)]
-pub(crate) struct Slot<'w> {
+pub struct Slot<'w> {
     pub name: &'w [u8],
     pub desc: &'w [u8],
     pub method: Option<Found>,

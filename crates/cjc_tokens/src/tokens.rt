@@ -1,7 +1,7 @@
 //! The tokens of a package, and look-up in them.
 
 ghost use Rattle.std.specs.Prelude.{◌≡◌, ◌<◌, length, position, IfSome};
-ghost use Rattle.cjc_tokens.specs.Tokens.{field_of_token, has_token, method_of_token, token_of_class, token_of_member};
+ghost use Rattle.cjc_tokens.specs.Tokens.{field_of_token, has_token, method_of_token, package_methods_of, public_methods_of, token_of_class, token_of_member};
 
 use cjc_bytes::Row;
 use cjc_world::Found;
@@ -109,6 +109,27 @@ impl Tokens {
             *class.public_methods.items().get(token as usize)?
         } else {
             *class.package_methods.items().get(token as usize - 128)?
+        }
+    }
+
+    /// The methods that the tokens of public and protected virtual methods mean in a class of the package, by token.
+    /// None at a token that no method has.
+    pub fn public_methods(&self, class: u32) -> &[Option<Found>]
+        ensures { result.now ≡ public_methods_of self.now class }
+    {
+        match self.classes.items().get(class as usize) {
+            Some(class) => class.public_methods.items(),
+            None => &[],
+        }
+    }
+
+    /// The same of package-visible methods, by token without its high bit.
+    pub fn package_methods(&self, class: u32) -> &[Option<Found>]
+        ensures { result.now ≡ package_methods_of self.now class }
+    {
+        match self.classes.items().get(class as usize) {
+            Some(class) => class.package_methods.items(),
+            None => &[],
         }
     }
 
