@@ -2,6 +2,7 @@
 use Rattle.std.proofs.Common.{◌≡◌, ℕ, ◌+◌, ◌≤◌, Bool, true, false, List, [], ◌∷◌, ◌++◌, Option, Some, None, refl, ap, ◌∙◌, arith}
 use Rattle.std.specs.Prelude.{slice_get, ◌/◌, if◌then◌else◌}
 use Rattle.cjc_bytes.specs.declared.fault.Refusal.{Refusal}
+use Rattle.cjc_bytes.specs.declared.settings.FileLine.{FileLine}
 use Rattle.cjc_bytes.specs.declared.settings.Settings.{Settings}
 use Rattle.cjc_classfile.specs.declared.tree.Catch.{Catch}
 use Rattle.cjc_classfile.specs.declared.tree.ClassTree.{ClassTree}
@@ -17,6 +18,10 @@ use Rattle.cjc_subset.specs.Places.{Spot, FilePlace, at, at_method, broken_at, e
 use Rattle.cjc_subset.specs.Names.{insn_breaks, catch_breaks, catches_of, method_breaks, code_breaks, name_breaks}
 use Rattle.cjc_subset.specs.Checks as checks
 use Rattle.cjc_subset.specs.Overriding.{is_above, method_against, class_against, kin_breaks, overriding_breaks}
+use Rattle.cjc_tokens.specs.Rules.{breaks_from, breaks_where, has_high_token, is_few, tested_breaks, token_breaks}
+use Rattle.cjc_tokens.specs.Rules.at_class as token_at_class
+use Rattle.cjc_tokens.specs.Rules.file_of as token_file_of
+use Rattle.cjc_tokens.specs.Tokens.{is_exported}
 use Rattle.cjc_types.specs.declared.state.State.{State}
 use Rattle.cjc_types.specs.Flow.{Body}
 use Rattle.cjc_types.specs.Rules.{Breaks, clash, wrong, off}
@@ -199,6 +204,29 @@ checks_language list files codes settings =
     all_append IsLanguage _ _
     (all_append IsLanguage _ _ (check_list list files settings) (all_each IsLanguage _ 0 files.classes (λ n c. check_class files settings (file_of files.lines n) n c)))
     (all_each IsLanguage _ 0 codes (λ _ code. check_code files settings code))
+
+-- ---- tokens
+
+abbrev pub IsFourth : ℕ → Type 0
+IsFourth n = n ≡ 4
+
+high_fourth : (w : List Class) (applets : Bool) (lines : List FileLine) (k : ℕ) (cs : List ClassTree) → AllOf IsFourth (breaks_from w applets lines k cs)
+unfolding breaks_from
+high_fourth w applets lines k [] = all_none IsFourth
+high_fourth w applets lines k (c ∷ cs) = all_append IsFourth _ _ (by (has_high_token w (is_exported w applets (declared k c)) k c)) (high_fourth w applets lines (k + 1) cs)
+  where
+    by : (high : Bool) → AllOf IsFourth (breaks_where high (token_at_class (token_file_of 0 lines k) c.name))
+    by true = all_more IsFourth _ [] refl (all_none IsFourth)
+    by false = all_none IsFourth
+
+-- 413 is of the fourth hundred
+pub tokens_fourth : (applets : Bool) (files : Files) → AllOf IsFourth (tested_breaks applets files)
+unfolding tested_breaks token_breaks
+tokens_fourth applets files = by (is_few applets files)
+  where
+    by : (few : Bool) → AllOf IsFourth (if few then breaks_from (all_classes files) applets files.lines 0 files.classes else [])
+    by true = high_fourth (all_classes files) applets files.lines 0 files.classes
+    by false = all_none IsFourth
 
 -- ---- types
 

@@ -14,12 +14,13 @@ use Rattle.cjc_world.specs.Classes.{Class, Member, declared, numbered, size, all
 use Rattle.cjc_world.specs.Files.{Files}
 use Rattle.cjc_world.specs.Rules.{Break, Among, foremost, after, IsFirst, at_class, at_member, told, members_before, members_from, class_breaks, classes_breaks, class_file_breaks, export_file_breaks, breaks_from, breaks}
 use Rattle.cjc_convert.specs.Spelt.{FileTree, of_class, of_export, SpellsTree, SpellTrees, classes_of}
-use Rattle.cjc_convert.specs.Rules.{FileBreach, no_class_file, no_instructions, no_export_file, file_rank, BreaksFile, files_spelt, BreaksWorld, BreaksNames, BreaksForeign, BreaksSubset, BreaksAnyType, BreaksTypes, foreign_breaks, settings_of, Breach, of_file, of_world, of_names, of_foreign, of_subset, of_types, IsFirstRefused, IsFirstBroken}
+use Rattle.cjc_convert.specs.Rules.{FileBreach, no_class_file, no_instructions, no_export_file, file_rank, BreaksFile, files_spelt, BreaksWorld, BreaksNames, BreaksForeign, BreaksSubset, BreaksAnyType, BreaksTypes, foreign_breaks, settings_of, Breach, of_file, of_world, of_names, of_foreign, of_subset, of_tokens, of_types, BreaksTokens, has_applets, IsFirstRefused, IsFirstBroken}
 use Rattle.cjc_convert.specs.Trees.{FileIs, AllSpelt}
 use Rattle.cjc_subset.specs.Names.{name_breaks}
 use Rattle.cjc_convert.specs.Codes.{all_codes, all_foreigns}
 use Rattle.cjc_subset.specs.Checks.{check_breaks}
-use Rattle.cjc_convert.proofs.Families.{IsLanguage, names_second, foreigns_third, checks_language, type_fifth}
+use Rattle.cjc_tokens.specs.Rules.{tested_breaks}
+use Rattle.cjc_convert.proofs.Families.{IsLanguage, names_second, foreigns_third, checks_language, tokens_fourth, type_fifth}
 use Rattle.cjc_convert.proofs.Files.{files_fine}
 
 -- ---- two groups
@@ -62,7 +63,7 @@ first_of_two f g up = first_before f (λ a h. upto_trans (numbers f.broken.rank)
 
 -- the groups that need the world and its names
 abbrev pub Behind : ListTree → List (List ℕ) → Break → Type 0
-Behind list files = Either (BreaksForeign list files) (Either (BreaksSubset list files) (BreaksTypes list files))
+Behind list files = Either (BreaksForeign list files) (Either (BreaksSubset list files) (Either (BreaksTokens list files) (BreaksTypes list files)))
 
 -- the group of a broken rule: one line a group, the first ones first
 abbrev pub Groups : ListTree → List (List ℕ) → Break → Type 0
@@ -74,7 +75,8 @@ group_of list files b (of_world h) = inr (inl h)
 group_of list files b (of_names h) = inr (inr (inl h))
 group_of list files b (of_foreign h) = inr (inr (inr (inl h)))
 group_of list files b (of_subset h) = inr (inr (inr (inr (inl h))))
-group_of list files b (of_types h) = inr (inr (inr (inr (inr h))))
+group_of list files b (of_tokens h) = inr (inr (inr (inr (inr (inl h)))))
+group_of list files b (of_types h) = inr (inr (inr (inr (inr (inr h)))))
 
 of_group : (list : ListTree) (files : List (List ℕ)) (b : Break) → Groups list files b → Breach list files b
 of_group list files b (inl h) = of_file h
@@ -82,7 +84,8 @@ of_group list files b (inr (inl h)) = of_world h
 of_group list files b (inr (inr (inl h))) = of_names h
 of_group list files b (inr (inr (inr (inl h)))) = of_foreign h
 of_group list files b (inr (inr (inr (inr (inl h))))) = of_subset h
-of_group list files b (inr (inr (inr (inr (inr h))))) = of_types h
+of_group list files b (inr (inr (inr (inr (inr (inl h)))))) = of_tokens h
+of_group list files b (inr (inr (inr (inr (inr (inr h)))))) = of_types h
 
 first_broken : (list : ListTree) (files : List (List ℕ)) (r : Refusal) → IsFirstRefused (Groups list files) r → IsFirstBroken list files r
 first_broken list files r f = record {
@@ -191,6 +194,9 @@ foreign_family list files b (trees, spelt, among) = (foreigns_third (files_spelt
 subset_family : (list : ListTree) (files : List (List ℕ)) (b : Break) → BreaksSubset list files b → IsLanguage b.rank.family
 subset_family list files b (trees, world, among) = (checks_language list.name (files_spelt list trees) (all_codes (classes_of trees)) (settings_of list)).family b among
 
+tokens_family : (list : ListTree) (files : List (List ℕ)) (b : Break) → BreaksTokens list files b → b.rank.family ≡ 4
+tokens_family list files b (trees, world, among) = (tokens_fourth (has_applets list) (files_spelt list trees)).family b among
+
 types_family : (list : ListTree) (files : List (List ℕ)) (b : Break) → BreaksTypes list files b → b.rank.family ≡ 5
 types_family list files b (trees, world, (i, code, at, h)) = type_fifth (files_spelt list trees) code b h
 
@@ -198,7 +204,8 @@ types_family list files b (trees, world, (i, code, at, h)) = type_fifth (files_s
 behind_family : (list : ListTree) (files : List (List ℕ)) (b : Break) → Behind list files b → 3 ≤ b.rank.family
 behind_family list files b (inl h) = let three = foreign_family list files b h in omega (arith, three)
 behind_family list files b (inr (inl h)) = (subset_family list files b h).0
-behind_family list files b (inr (inr h)) = let five = types_family list files b h in omega (arith, five)
+behind_family list files b (inr (inr (inl h))) = let four = tokens_family list files b h in omega (arith, four)
+behind_family list files b (inr (inr (inr h))) = let five = types_family list files b h in omega (arith, five)
 
 -- ---- what the files spell
 
@@ -312,36 +319,55 @@ module _ (list : ListTree) (files : List (List ℕ)) (trees : List FileTree) (al
       of_checks_here a (us, world, among) =
           subst (λ (ts : List FileTree). Among a (check_breaks list.name (files_spelt list ts) (all_codes (classes_of ts)) (settings_of list))) (spelt_once us world.0) among
 
+      abbrev tokens : List Break
+      tokens = tested_breaks (has_applets list) (files_spelt list trees)
+
+      of_tokens_here : (a : Break) → BreaksTokens list files a → Among a tokens
+      of_tokens_here a (us, world, among) = subst (λ (ts : List FileTree). Among a (tested_breaks (has_applets list) (files_spelt list ts))) (spelt_once us world.0) among
+
       past_names : {r : Refusal} → IsFirstRefused (Behind list files) r → IsFirstBroken list files r
       past_names {r} f = first_broken list files r (first_after (files_fine list.lines files trees all) (first_after world_fine (first_after names_fine f)))
 
-      -- a rule of the third or fourth hundred
-      pub language_stops : (b : Break) → IsFirst b (foreigns ++ checks) → IsFirstBroken list files b.refusal
-      language_stops b f = past_names (record { broken = b; first = record { breaks = by (among_split b foreigns checks f.among); least = least }; is = refl })
-        where
-          by : Among b foreigns ⊎ Among b checks → Behind list files b
-          by (inl i) = inl (trees, all_spell list.lines files trees all, i)
-          by (inr i) = inr (inl (trees, (all_spell list.lines files trees all, unbroken), i))
+      abbrev language : List Break
+      language = foreigns ++ checks ++ tokens
 
-          family : Behind list files b → b.rank.family ≤ 4
-          family (inl h) = let three = foreign_family list files b h in omega (arith, three)
-          family (inr (inl h)) = (subset_family list files b h).1
-          family (inr (inr (us, world, (i, code, at, h)))) = absurd (here (among_split b foreigns checks f.among) (type_fifth (files_spelt list us) code b h))
-            where
-              here : Among b foreigns ⊎ Among b checks → b.rank.family ≡ 5 → ⊥
-              here (inl i) five = let three = (foreigns_third (files_spelt list trees) (all_foreigns (classes_of trees))).family b i in omega (arith, three, five)
-              here (inr i) five = let four = ((checks_language list.name (files_spelt list trees) (all_codes (classes_of trees)) (settings_of list)).family b i).1 in omega (arith, four, five)
+      -- each of the three lists in the whole
+      of_foreigns : (a : Break) → BreaksForeign list files a → Among a language
+      of_foreigns a h = among_left a (foreigns ++ checks) tokens (among_left a foreigns checks (of_foreigns_here a h))
+
+      of_checks : (a : Break) → BreaksSubset list files a → Among a language
+      of_checks a h = among_left a (foreigns ++ checks) tokens (among_right a foreigns checks (of_checks_here a h))
+
+      of_tokens_in : (a : Break) → BreaksTokens list files a → Among a language
+      of_tokens_in a h = among_right a (foreigns ++ checks) tokens (of_tokens_here a h)
+
+      -- a rule of the third or fourth hundred
+      pub language_stops : (b : Break) → IsFirst b language → IsFirstBroken list files b.refusal
+      language_stops b f = past_names (record { broken = b; first = record { breaks = (of_any f.among).0; least = least }; is = refl })
+        where
+          of_some : Among b foreigns ⊎ Among b checks → Behind list files b × (b.rank.family ≤ 4)
+          of_some (inl i) = (inl (trees, all_spell list.lines files trees all, i), (let three = (foreigns_third (files_spelt list trees) (all_foreigns (classes_of trees))).family b i in omega (arith, three)))
+          of_some (inr i) = (inr (inl (trees, (all_spell list.lines files trees all, unbroken), i)), ((checks_language list.name (files_spelt list trees) (all_codes (classes_of trees)) (settings_of list)).family b i).1)
+
+          of_split : Among b (foreigns ++ checks) ⊎ Among b tokens → Behind list files b × (b.rank.family ≤ 4)
+          of_split (inl i) = of_some (among_split b foreigns checks i)
+          of_split (inr i) = (inr (inr (inl (trees, (all_spell list.lines files trees all, unbroken), i))), (let four = (tokens_fourth (has_applets list) (files_spelt list trees)).family b i in omega (arith, four)))
+
+          of_any : Among b language → Behind list files b × (b.rank.family ≤ 4)
+          of_any i = of_split (among_split b (foreigns ++ checks) tokens i)
 
           least : (a : Break) → Behind list files a → NotAfter b.rank a.rank
-          least a (inl h) = f.least a (among_left a foreigns checks (of_foreigns_here a h))
-          least a (inr (inl h)) = f.least a (among_right a foreigns checks (of_checks_here a h))
-          least a (inr (inr h)) = lower_family b a (let four = family (by (among_split b foreigns checks f.among)) in let five = types_family list files a h in omega (arith, four, five))
+          least a (inl h) = f.least a (of_foreigns a h)
+          least a (inr (inl h)) = f.least a (of_checks a h)
+          least a (inr (inr (inl h))) = f.least a (of_tokens_in a h)
+          least a (inr (inr (inr h))) = lower_family b a (let four = (of_any f.among).1 in let five = types_family list files a h in omega (arith, four, five))
 
-      module _ (fit : foreigns ++ checks ≡ []) where
+      module _ (fit : language ≡ []) where
         language_fine : (a : Break) → Behind list files a → BreaksTypes list files a
-        language_fine a (inl h) = absurd (none_among a (subst (Among a) fit (among_left a foreigns checks (of_foreigns_here a h))))
-        language_fine a (inr (inl h)) = absurd (none_among a (subst (Among a) fit (among_right a foreigns checks (of_checks_here a h))))
-        language_fine a (inr (inr h)) = h
+        language_fine a (inl h) = absurd (none_among a (subst (Among a) fit (of_foreigns a h)))
+        language_fine a (inr (inl h)) = absurd (none_among a (subst (Among a) fit (of_checks a h)))
+        language_fine a (inr (inr (inl h))) = absurd (none_among a (subst (Among a) fit (of_tokens_in a h)))
+        language_fine a (inr (inr (inr h))) = h
 
         abbrev TypeBreaks : Break → Type 0
         TypeBreaks = BreaksAnyType (files_spelt list trees) (all_codes (classes_of trees))
@@ -354,7 +380,7 @@ module _ (list : ListTree) (files : List (List ℕ)) (trees : List FileTree) (al
         types_stop r f = past_names (record {
           broken = f.broken;
           first = record {
-            breaks = inr (inr (trees, (all_spell list.lines files trees all, unbroken), f.first.breaks));
+            breaks = inr (inr (inr (trees, (all_spell list.lines files trees all, unbroken), f.first.breaks)));
             least = λ a h. f.first.least a (of_types_here a (language_fine a h));
           };
           is = f.is;
@@ -367,4 +393,5 @@ module _ (list : ListTree) (files : List (List ℕ)) (trees : List FileTree) (al
         none_broken none b (of_names h) = names_fine b h
         none_broken none b (of_foreign h) = none b (of_types_here b (language_fine b (inl h)))
         none_broken none b (of_subset h) = none b (of_types_here b (language_fine b (inr (inl h))))
+        none_broken none b (of_tokens h) = none b (of_types_here b (language_fine b (inr (inr (inl h)))))
         none_broken none b (of_types h) = none b (of_types_here b h)

@@ -1,5 +1,5 @@
 -- Which rules a package breaks, where each stands in the order of refusals, and which of them is the first.
-use Rattle.std.specs.Prelude.{◌≡◌, ◌⊎◌, ℕ, ◌+◌, List, [], ◌∷◌, ◌++◌, length, true, false, Option, Some, Err, slice_get}
+use Rattle.std.specs.Prelude.{◌≡◌, ◌⊎◌, ℕ, ◌+◌, List, [], ◌∷◌, ◌++◌, length, nat_lt, Bool, true, false, Option, Some, Err, slice_get}
 use Rattle.cjc_bytes.specs.Format.{FileSpells, FileBreaks}
 use Rattle.cjc_bytes.specs.Refused.{refusal}
 use Rattle.cjc_bytes.specs.declared.fault.Fault.{Fault}
@@ -23,6 +23,7 @@ use Rattle.cjc_world.specs.Rules.{Break, Among, breaks}
 use Rattle.cjc_bytes.specs.Order.{Rank, NotAfter}
 use Rattle.cjc_subset.specs.Names.{name_breaks}
 use Rattle.cjc_subset.specs.Checks.{check_breaks}
+use Rattle.cjc_tokens.specs.Rules.{tested_breaks}
 use Rattle.cjc_subset.specs.Places.{at_method, broken_at, each, file_of, of_code, IsFirstOf as FirstOfList}
 use Rattle.cjc_types.specs.Flow.{body_of}
 use Rattle.cjc_types.specs.Tables.{IsMethodOf, IsRefusedBy}
@@ -114,9 +115,16 @@ settings_of list = record { ints = list.ints; applets = list.applets }
 abbrev pub BreaksSubset : ListTree → List (List ℕ) → Break → Type 0
 BreaksSubset list files b = (trees : List FileTree) × AreWorld list files trees × Among b (check_breaks list.name (files_spelt list trees) (all_codes (classes_of trees)) (settings_of list))
 
--- both of these groups, which the third hundred mixes
+-- 413, where neither 401 nor 406 is broken
+abbrev pub has_applets : ListTree → Bool
+has_applets list = nat_lt 0 (length list.applets)
+
+abbrev pub BreaksTokens : ListTree → List (List ℕ) → Break → Type 0
+BreaksTokens list files b = (trees : List FileTree) × AreWorld list files trees × Among b (tested_breaks (has_applets list) (files_spelt list trees))
+
+-- these three groups, which the third and the fourth hundred mix
 abbrev pub language_breaks : ListTree → Files → List MethodCode → List Foreign → List Break
-language_breaks list files codes foreigns = foreign_breaks files foreigns ++ check_breaks list.name files codes (settings_of list)
+language_breaks list files codes foreigns = foreign_breaks files foreigns ++ check_breaks list.name files codes (settings_of list) ++ tested_breaks (has_applets list) files
 
 -- 501 to 503: a method breaks the first of them at the first of its instructions that breaks one
 abbrev pub type_break : Files → MethodCode → ClassTree → MethodTree → Refusal → Break
@@ -146,6 +154,7 @@ pub data Breach (list : ListTree) (files : List (List ℕ)) (b : Break) : Type 0
   of_names : BreaksNames list files b → Breach list files b
   of_foreign : BreaksForeign list files b → Breach list files b
   of_subset : BreaksSubset list files b → Breach list files b
+  of_tokens : BreaksTokens list files b → Breach list files b
   of_types : BreaksTypes list files b → Breach list files b
 
 -- The break is one of these, and none of these stands before it.

@@ -1,11 +1,14 @@
 //! The rules that are tested over the world of a package, behind those of names: what the language of the card leaves
 //! out, limits, and types.
 
-ghost use Rattle.std.specs.Prelude.{◌≡◌, All, IfOk, IfErr, OnOk, [], option_map};
+ghost use Rattle.std.specs.Prelude.{◌≡◌, All, IfOk, IfErr, OnOk, [], length, nat_lt, option_map};
 ghost use Rattle.cjc_subset.specs.Breaks.{break_of};
 ghost use Rattle.cjc_subset.specs.Places.{IsFirstOf};
 ghost use Rattle.cjc_types.specs.Tables.{IsOfPackage};
-ghost use Rattle.cjc_world.specs.Rules.{IsFirstRefusal, Break as Broken};
+ghost use Rattle.cjc_tokens.specs.Rules.{tested_breaks};
+ghost use Rattle.cjc_world.specs.Classes.{all_classes};
+ghost use Rattle.cjc_world.specs.Kin.{IsAcyclic};
+ghost use Rattle.cjc_world.specs.Rules.{IsFirstRefusal, breaks, Break as Broken};
 ghost use Rattle.cjc_convert.specs.Rules.{foreign_break, foreign_breaks, language_breaks, settings_of, BreaksType, BreaksAnyType, IsFirstIn, IsFirstFault};
 
 use crate::reading::Foreign;
@@ -13,8 +16,9 @@ use cjc_bytes::{AppletLine, Bytes, Fault, NoMemory, Row, Settings};
 use cjc_code::{Codes, MethodCode};
 use cjc_list::List;
 use cjc_subset::{Break, answer, class_spot, file_of, first, first_broken, method_spot};
+use cjc_tokens::first_high;
 use cjc_types::infer;
-use cjc_world::World;
+use cjc_world::{World, lookup_laws};
 use std::alloc::Global;
 
 // The applet lines of a list, in memory of their own.
@@ -70,7 +74,29 @@ fn foreigns_break<'w>(world: &'w World<'_>, foreigns: &[Foreign]) -> Option<Brea
     least
 }
 
-/// Rules 301 to 310 and 401 to 409 of a package, 303 among them. A refusal is the first of what is broken.
+// Rule 413 in the first class that breaks it.
+fn tokens_break<'w>(
+    alloc: Global,
+    world: &'w World<'_>,
+    settings: &Settings,
+) -> Result<Option<Break<'w>>, NoMemory>
+    requires { IsAcyclic (all_classes world.now) }
+    ensures { IfOk result (λ b. IsFirstOf (tested_breaks (nat_lt 0 (length settings.now.applets)) world.now) (option_map break_of b)) }
+{
+    match first_high(alloc, world, settings)? {
+        None => Ok(None),
+        Some(number) => {
+            let class = &world.classes().items()[number as usize];
+            let (file, file_name) = cjc_tokens::file_of(world.lines().items(), number);
+            Ok(Some(Break {
+                rule: 413,
+                spot: class_spot(file, file_name, class),
+            }))
+        }
+    }
+}
+
+/// Rules 301 to 310, 401 to 409 and 413 of a package, 303 among them. A refusal is the first of what is broken.
 pub(crate) fn language(
     alloc: Global,
     list: &List,
@@ -78,13 +104,16 @@ pub(crate) fn language(
     codes: &Codes,
     foreigns: &[Foreign],
 ) -> Result<(), Fault>
+    requires { breaks list.now.name world.now ≡ [] }
     ensures unbroken { OnOk result (language_breaks list.now world.now codes.now foreigns.now ≡ []) }
     ensures refused { IfErr result (IsFirstRefusal (language_breaks list.now world.now codes.now foreigns.now)) }
 {
     let settings = settings(alloc, list)?;
     let foreign = foreigns_break(world, foreigns);
     let broken = first_broken(alloc, list.name.items(), world, codes, &settings)?;
-    answer(alloc, first(foreign, broken))
+    lookup_laws();
+    let tokens = tokens_break(alloc, world, &settings)?;
+    answer(alloc, first(first(foreign, broken), tokens))
 }
 
 // What of 501 to 503 a method breaks.

@@ -1,12 +1,12 @@
 -- Rule 413, and the two rules that tokens stand on.
-use Rattle.std.specs.Prelude.{◌≡◌, ◌≤◌, ℕ, zero, suc, ◌+◌, List, [], ◌∷◌, ◌++◌, length, map, take, count_by, sum_by, All, nat_lt, not, Bool, true, false, ◌&&◌, ◌||◌, if◌then◌else◌, Option, Some, None}
-use Rattle.std.specs.List.{list_any}
+use Rattle.std.specs.Prelude.{◌≡◌, ◌≤◌, ℕ, zero, suc, ◌+◌, List, [], ◌∷◌, ◌++◌, length, map, take, count_by, sum_by, All, nat_le, nat_lt, slice_get, not, Bool, true, false, ◌&&◌, ◌||◌, if◌then◌else◌, Option, Some, None}
+use Rattle.std.specs.List.{list_all, list_any}
 use Rattle.cjc_bytes.specs.declared.settings.FileLine.{FileLine}
 use Rattle.cjc_classfile.specs.declared.tree.ClassTree.{ClassTree}
 use Rattle.cjc_world.specs.Files.{Files}
 use Rattle.cjc_world.specs.Classes.{Class, declared, is_interface, all_classes}
 use Rattle.cjc_world.specs.Added.{added}
-use Rattle.cjc_world.specs.Rules.{Break}
+use Rattle.cjc_world.specs.Rules.{Break, IsFirst}
 use Rattle.cjc_tokens.specs.Members.{signature_of}
 use Rattle.cjc_tokens.specs.Lines.{line_at}
 use Rattle.cjc_tokens.specs.Slots.{slots, hidden_slots, token}
@@ -23,6 +23,9 @@ count_exported w applets k (c ∷ cs) = one_more (is_exported w applets (declare
 abbrev pub FewExported : (applets : Bool) → Files → Type 0
 FewExported applets files = count_exported (all_classes files) applets 0 files.classes ≤ 255
 
+abbrev pub has_few_exported : (applets : Bool) → Files → Bool
+has_few_exported applets files = nat_le (count_exported (all_classes files) applets 0 files.classes) 255
+
 -- ---- 406: a class declares more than 255 cells of instance fields
 
 abbrev pub HasFewCells : ClassTree → Type 0
@@ -30,6 +33,9 @@ HasFewCells c = instance_cells c.fields ≤ 255
 
 abbrev pub FewCells : Files → Type 0
 FewCells files = All HasFewCells files.classes
+
+abbrev pub has_few_cells : ClassTree → Bool
+has_few_cells c = nat_le (instance_cells c.fields) 255
 
 -- ---- 413: a virtual or interface method would get a token above 127, or a static field or method one above 254
 
@@ -78,3 +84,16 @@ breaks_from w applets lines k (c ∷ cs) = breaks_where (has_high_token w (is_ex
 -- All that is broken of 413.
 unfoldable pub token_breaks : (applets : Bool) → Files → List Break
 token_breaks applets files = breaks_from (all_classes files) applets files.lines 0 files.classes
+
+-- neither 401 nor 406 is broken
+abbrev pub is_few : (applets : Bool) → Files → Bool
+is_few applets files = has_few_exported applets files && list_all has_few_cells files.classes
+
+-- Where one of the two is broken there are no tokens, and 413 counts as unbroken.
+unfoldable pub tested_breaks : (applets : Bool) → Files → List Break
+tested_breaks applets files = if is_few applets files then token_breaks applets files else []
+
+-- None where there is no break, else the number of the class whose break is the first.
+abbrev pub IsFirstHigh : (applets : Bool) → Files → Option ℕ → Type 0
+IsFirstHigh applets files None = tested_breaks applets files ≡ []
+IsFirstHigh applets files (Some n) = (c : ClassTree) × (slice_get files.classes n ≡ Some c) × IsFirst (at_class (file_of 0 files.lines n) c.name) (tested_breaks applets files)

@@ -1,10 +1,12 @@
 -- What the code holds of a line while it assigns tokens.
-use Rattle.std.specs.Prelude.{◌≡◌, ℕ, zero, suc, List, [], ◌∷◌, ◌++◌, map, slice_get, nat_lt, count_by, Bool, true, false, not, ◌&&◌, ◌||◌, Option, Some, None, option_map, if◌then◌else◌}
+use Rattle.std.specs.Prelude.{◌≡◌, ℕ, zero, suc, List, [], ◌∷◌, ◌++◌, map, slice_get, nat_lt, count_by, Bool, true, false, not, ◌&&◌, ◌||◌, Option, Some, None, option_map, Result, Ok, Err, if◌then◌else◌}
 use Rattle.std.specs.List.{list_any}
 use Rattle.cjc_bytes.specs.declared.fault.MemberId.{MemberId}
 use Rattle.cjc_classfile.specs.declared.tree.ClassTree.{ClassTree}
 use Rattle.cjc_world.specs.declared.found.Found.{Found}
-use Rattle.cjc_world.specs.Classes.{Member, Class, declared, method_of_class}
+use Rattle.cjc_world.specs.Files.{Files}
+use Rattle.cjc_world.specs.Rules.{IsFirst}
+use Rattle.cjc_world.specs.Classes.{Member, Class, all_classes, declared, method_of_class}
 use Rattle.cjc_world.specs.Kin.{Kin, kin}
 use Rattle.cjc_world.specs.Interfaces.{gathered, known}
 use Rattle.cjc_world.specs.Added.{methods_of, own_methods}
@@ -16,8 +18,8 @@ use Rattle.cjc_tokens.specs.Lines.{Line, line_at}
 use Rattle.cjc_tokens.specs.Slots.{Slots, slots, hidden_slots, row, hidden_row, meant_by, token, own, got, new_in, with_new}
 use Rattle.cjc_tokens.specs.Fields.{is_open_static}
 use Rattle.cjc_tokens.specs.Methods.{is_open_bound, virtual_token}
-use Rattle.cjc_tokens.specs.Tokens.{OfClass, is_exported, of_class}
-use Rattle.cjc_tokens.specs.Rules.{has_high_token, is_above}
+use Rattle.cjc_tokens.specs.Tokens.{OfClass, classes_from, is_exported, of_class}
+use Rattle.cjc_tokens.specs.Rules.{at_class, file_of, has_high_token, is_above, token_breaks}
 
 abbrev pub signature_in : Slot → Signature
 signature_in s = record { name = s.name.now; desc = s.desc.now }
@@ -134,3 +136,8 @@ is_high_interface exported methods c = nat_lt 128 methods || (exported && nat_lt
 abbrev pub AreTokensOf : List Class → (applets : Bool) → (exported_before number : ℕ) → ClassTree → Option OfClass → Type 0
 AreTokensOf w applets before n c None = has_high_token w (is_exported w applets (declared n c)) n c ≡ true
 AreTokensOf w applets before n c (Some t) = (has_high_token w (is_exported w applets (declared n c)) n c ≡ false) × (t ≡ of_class w applets before n c)
+
+-- The tokens of all classes of the package where none breaks 413, else the number of the first that does.
+abbrev pub AreAllTokens : (applets : Bool) → Files → Result (List OfClass) ℕ → Type 0
+AreAllTokens applets files (Ok rows) = (token_breaks applets files ≡ []) × (rows ≡ classes_from (all_classes files) applets 0 0 files.classes)
+AreAllTokens applets files (Err n) = (c : ClassTree) × (slice_get files.classes n ≡ Some c) × IsFirst (at_class (file_of 0 files.lines n) c.name) (token_breaks applets files)

@@ -2,15 +2,17 @@
 
 ghost use Rattle.std.specs.Prelude.{◌≡◌, ◌⊎◌, ◌≤◌, ◌<◌, [], length, nat_lt, slice_get, All, true, false, None, Some, IfOk, IfErr, OnOk};
 ghost use Rattle.cjc_bytes.specs.declared.fault.Fault.TheVariants as faults;
+ghost use Rattle.std.specs.List.{list_all};
 ghost use Rattle.cjc_world.specs.Classes.{all_classes, declared};
 ghost use Rattle.cjc_world.specs.Kin.{IsAcyclic};
 ghost use Rattle.cjc_world.specs.Rules.{IsFirstRefusal};
 ghost use Rattle.cjc_tokens.specs.Fields.{instance_cells};
-ghost use Rattle.cjc_tokens.specs.Rules.{at_class, FewCells, FewExported, file_of, has_high_token, token_breaks};
-ghost use Rattle.cjc_tokens.specs.Tokens.{assigned, classes_from, is_exported, of_class};
-ghost use Rattle.cjc_tokens.specs.Working.{AreTokensOf, IsKept};
+ghost use Rattle.cjc_tokens.specs.Rules.{FewCells, FewExported, has_few_cells, has_few_exported, is_few, IsFirstHigh, token_breaks};
+ghost use Rattle.cjc_tokens.specs.Tokens.{assigned, is_exported};
+ghost use Rattle.cjc_tokens.specs.Working.{AreAllTokens, AreTokensOf, IsKept};
 
 use crate::class::{class_tokens, interface_tokens, is_exported};
+use crate::fields::has_few_cells;
 use crate::imports::import_tokens;
 use crate::line::{added_to, keep};
 use crate::refusal::refused;
@@ -30,6 +32,30 @@ fn class_count(world: &World<'_>) -> Result<u32, NoMemory>
     } else {
         Ok(count as u32)
     }
+}
+
+/// Whether at most 255 classes are exported.
+fn few_exported(world: &World<'_>, applets: bool, count: u32) -> bool
+    requires { count ≡ length world.now.classes }
+    ensures { result ≡ has_few_exported applets world.now }
+{
+    let mut exported = 0u32;
+    for number in 0..count {
+        let class = &world.classes().items()[number as usize];
+        if is_exported(world, applets, number, class) {
+            exported += 1;
+        }
+    }
+    exported <= 255
+}
+
+/// Whether each class declares at most 255 cells of instance fields.
+fn few_cells(classes: &[ClassTree<'_>]) -> bool
+    ensures { result ≡ list_all has_few_cells classes.now }
+{
+    classes
+        .iter()
+        .all(|class| has_few_cells(class.fields.items()))
 }
 
 /// No rows yet, for so many classes.
@@ -114,59 +140,34 @@ fn tokens_at<'w>(
     }
 }
 
-/// The tokens of a class of the package, or its refusal.
-fn next_tokens<'w>(
-    alloc: Global,
-    world: &'w World<'_>,
-    applets: bool,
-    kept: &[Option<Rows<'w>>],
-    before: u32,
-    number: u32,
-    class: &'w ClassTree<'_>,
-) -> Result<ClassTokens, Fault>
-    requires acyclic { IsAcyclic (all_classes world.now) }
-    requires kept { IsKept (all_classes world.now) world.now.classes kept.now }
-    requires number { number < length world.now.classes }
-    requires class { slice_get world.now.classes number ≡ Some class.now }
-    requires cells { instance_cells class.now.fields ≤ 255 }
-    requires before { is_exported (all_classes world.now) applets (declared number class.now) ≡ true → before < 255 }
-    ensures unbroken { OnOk result (has_high_token (all_classes world.now) (is_exported (all_classes world.now) applets (declared number class.now)) number class.now ≡ false) }
-    ensures tokens { IfOk result (λ t. t ≡ of_class (all_classes world.now) applets before number class.now) }
-    ensures refused { IfErr result (λ e. (e ≡ faults.NoMemory) ⊎ ((has_high_token (all_classes world.now) (is_exported (all_classes world.now) applets (declared number class.now)) number class.now ≡ true) × (e ≡ faults.Refused (at_class (file_of 0 world.now.lines number) class.now.name).refusal))) }
-{
-    match tokens_at(alloc, world, applets, kept, before, number, class)? {
-        Some(tokens) => Ok(tokens),
-        None => Err(refused(alloc, world.lines().items(), number, class.name.items())),
-    }
-}
-
-/// The tokens of the classes of the package, in list order.
+/// The tokens of the classes of the package, in list order, or the number of the first that breaks 413.
 fn declared_tokens<'w>(
     alloc: Global,
     world: &'w World<'_>,
     applets: bool,
     kept: &[Option<Rows<'w>>],
     count: u32,
-) -> Result<Row<ClassTokens>, Fault>
+) -> Result<Result<Row<ClassTokens>, u32>, NoMemory>
     requires acyclic { IsAcyclic (all_classes world.now) }
     requires exported { FewExported applets world.now }
     requires cells { FewCells world.now }
     requires kept { IsKept (all_classes world.now) world.now.classes kept.now }
     requires count { count ≡ length world.now.classes }
-    ensures unbroken { OnOk result (token_breaks applets world.now ≡ []) }
-    ensures tokens { IfOk result (λ t. t ≡ classes_from (all_classes world.now) applets 0 0 world.now.classes) }
-    ensures refused { IfErr result (IsFirstRefusal (token_breaks applets world.now)) }
+    ensures { IfOk result (AreAllTokens applets world.now) }
 {
     let mut rows = Row::new(alloc);
     let mut before = 0;
     for number in 0..count {
         let class = &world.classes().items()[number as usize];
-        rows.push(next_tokens(alloc, world, applets, kept, before, number, class)?)?;
+        match tokens_at(alloc, world, applets, kept, before, number, class)? {
+            None => return Ok(Err(number)),
+            Some(tokens) => rows.push(tokens)?,
+        }
         if is_exported(world, applets, number, class) {
             before += 1;
         }
     }
-    Ok(rows)
+    Ok(Ok(rows))
 }
 
 /// The tokens of a package that exports no more than 255 classes and has no class with more than 255 cells of
@@ -182,7 +183,48 @@ pub fn assign(alloc: Global, world: &World<'_>, settings: &Settings) -> Result<T
     let applets = settings.applets.items().len() > 0;
     let count = class_count(world)?;
     let kept = all_rows(alloc, world, count)?;
-    let classes = declared_tokens(alloc, world, applets, &kept, count)?;
-    let imports = import_tokens(alloc, world.exports().items())?;
-    Ok(Tokens::of(classes, imports))
+    match declared_tokens(alloc, world, applets, &kept, count)? {
+        Err(number) => {
+            let class = &world.classes().items()[number as usize];
+            let lines = world.lines().items();
+            Err(refused(alloc, lines, number, class.name.items()))
+        }
+        Ok(classes) => {
+            let imports = import_tokens(alloc, world.exports().items())?;
+            Ok(Tokens::of(classes, imports))
+        }
+    }
+}
+
+/// Whether 401 and 406 are kept, on which tokens stand.
+pub fn few(world: &World<'_>, settings: &Settings) -> Result<bool, NoMemory>
+    ensures whether { IfOk result (λ b. b ≡ is_few (nat_lt 0 (length settings.now.applets)) world.now) }
+    ensures exported { IfOk result (λ b. b ≡ true → FewExported (nat_lt 0 (length settings.now.applets)) world.now) }
+    ensures cells { IfOk result (λ b. b ≡ true → FewCells world.now) }
+{
+    let applets = settings.applets.items().len() > 0;
+    let count = class_count(world)?;
+    Ok(few_exported(world, applets, count) && few_cells(world.classes().items()))
+}
+
+/// The number of the first class that breaks 413, for whoever orders it among other rules. None where 401 or 406 is
+/// broken, on which tokens stand.
+pub fn first_high(
+    alloc: Global,
+    world: &World<'_>,
+    settings: &Settings,
+) -> Result<Option<u32>, NoMemory>
+    requires acyclic { IsAcyclic (all_classes world.now) }
+    ensures { IfOk result (IsFirstHigh (nat_lt 0 (length settings.now.applets)) world.now) }
+{
+    if !few(world, settings)? {
+        return Ok(None);
+    }
+    let applets = settings.applets.items().len() > 0;
+    let count = class_count(world)?;
+    let kept = all_rows(alloc, world, count)?;
+    match declared_tokens(alloc, world, applets, &kept, count)? {
+        Err(number) => Ok(Some(number)),
+        Ok(_) => Ok(None),
+    }
 }

@@ -1,6 +1,6 @@
 //! Tokens of the fields of a class.
 
-ghost use Rattle.std.specs.Prelude.{◌≡◌, ◌≤◌, ◌+◌, ◌==◌, ◌&&◌, ◌<◌, nat_lt, length, take, true, count_by, IfOk};
+ghost use Rattle.std.specs.Prelude.{◌≡◌, ◌≤◌, ◌+◌, ◌==◌, ◌&&◌, ◌<◌, nat_le, nat_lt, length, take, true, count_by, IfOk};
 ghost use Rattle.cjc_tokens.specs.Fields.{cells, cells_of, field_token, field_tokens, group, instance_cells, instance_field_token, instance_token, instance_tokens, is_constant, is_constant_type, is_instance, is_open_static, is_reference};
 
 use crate::slot::{has, is_exposed};
@@ -87,8 +87,23 @@ pub(crate) fn open_statics(fields: &[FieldTree]) -> usize
     fields.iter().filter(|field| is_open_static(field)).count()
 }
 
-/// The cells of the groups before one.
+/// Whether the instance fields take at most 255 cells.
+pub(crate) fn has_few_cells(fields: &[FieldTree]) -> bool
+    ensures { result ≡ nat_le (instance_cells fields.now) 255 }
+{
+    let mut sum = 0u32;
+    for field in fields {
+        if is_instance(field) {
+            sum += cells(field);
+            if sum > 255 {
+                return false;
+            }
+        }
+    }
+    true
+}
 
+/// The cells of the groups before one.
 fn cells_before(fields: &[FieldTree], place: u8) -> u32
     requires { instance_cells fields.now ≤ 255 }
     ensures { result ≡ cells_of (λ g. is_instance g && nat_lt (group g) place) fields.now }
@@ -103,7 +118,6 @@ fn cells_before(fields: &[FieldTree], place: u8) -> u32
 }
 
 /// The cells of one group.
-
 fn cells_within(fields: &[FieldTree], place: u8) -> u32
     requires { instance_cells fields.now ≤ 255 }
     ensures { result ≡ cells_of (λ g. is_instance g && (group g == place)) fields.now }

@@ -13,7 +13,8 @@ mod refusal;
 mod slot;
 mod tokens;
 
-pub use assigning::assign;
+pub use assigning::{assign, few, first_high};
 pub use interfaces::interface_methods;
+pub use refusal::file_of;
 pub use slot::Slot;
 pub use tokens::Tokens;

@@ -7,20 +7,21 @@ ghost use Rattle.cjc_tokens.specs.Rules.{at_class, file_of};
 use cjc_bytes::{Bytes, Fault, FileLine, NoMemory, Place, Refusal, Rule};
 use std::alloc::Global;
 
-/// The name of the file of a class of the package.
-fn file_name(lines: &[FileLine], number: u32) -> &[u8]
-    ensures { result.now ≡ (file_of 0 lines.now number).name }
+/// The file of a class of the package: its place among the files of the list, from 1, and its name.
+pub fn file_of(lines: &[FileLine], number: u32) -> (usize, &[u8])
+    ensures file { result.0 ≡ (file_of 0 lines.now number).file }
+    ensures name { result.1.now ≡ (file_of 0 lines.now number).name }
 {
     let mut left = number;
-    for line in lines {
+    for (place, line) in lines.iter().enumerate() {
         if line.class_file {
             if left == 0 {
-                return line.name.items();
+                return (place + 1, line.name.items());
             }
             left -= 1;
         }
     }
-    b""
+    (lines.len() + 1, b"")
 }
 
 fn refusal(
@@ -31,7 +32,7 @@ fn refusal(
 ) -> Result<Refusal, NoMemory>
     ensures { IfOk result (λ r. r ≡ (at_class (file_of 0 lines.now number) class_name.now).refusal) }
 {
-    let file = Bytes::copy_of(alloc, file_name(lines, number))?;
+    let file = Bytes::copy_of(alloc, file_of(lines, number).1)?;
     let class = Bytes::copy_of(alloc, class_name)?;
     Ok(Refusal {
         rule: Rule(413),

@@ -375,6 +375,60 @@ fn refuses_by_the_world(rt: HostRuntime) -> Result<(), Fail> {
     Ok(())
 }
 
+/// An abstract class p/T with so many public abstract methods, the first with a descriptor of this one letter.
+fn of_methods(alloc: Global, count: u8, first: u8) -> Result<Vec<u8>, Fail> {
+    let mut class = Vec::new(alloc);
+    class.extend_from_slice(b"\xCA\xFE\xBA\xBE\x00\x00\x00\x34\x01\x00")?;
+    class.extend_from_slice(
+        b"\x07\x00\x02\x01\x00\x03p/T\x07\x00\x04\x01\x00\x10java/lang/Object",
+    )?;
+    class.extend_from_slice(b"\x01\x00\x03()V\x01\x00\x04(")?;
+    class.push(first)?;
+    class.extend_from_slice(b")V")?;
+    for number in 7..=255 {
+        let name = [0x01, 0x00, 0x02, b'a' + number / 16, b'a' + number % 16];
+        class.extend_from_slice(&name)?;
+    }
+    class.extend_from_slice(b"\x04\x21\x00\x01\x00\x03\x00\x00\x00\x00\x00")?;
+    class.push(count)?;
+    for number in 0..count {
+        let desc = if number == 0 { 6 } else { 5 };
+        let method = [
+            0x04,
+            0x01,
+            0x00,
+            number.wrapping_add(7),
+            0x00,
+            desc,
+            0x00,
+            0x00,
+        ];
+        class.extend_from_slice(&method)?;
+    }
+    class.extend_from_slice(b"\x00\x00")?;
+    Ok(class)
+}
+
+#[test]
+fn refuses_too_many_methods(rt: HostRuntime) -> Result<(), Fail> {
+    // equals of java/lang/Object has token 0; a char comes before a limit
+    let cases: [(u8, u8, &str); 4] = [
+        (127, b'S', "refused 801 list - - 0\n"),
+        (128, b'S', "refused 413 T.class p/T - 0\n"),
+        (127, b'C', "refused 301 T.class p/T ah(C)V 0\n"),
+        (128, b'C', "refused 301 T.class p/T ah(C)V 0\n"),
+    ];
+    for (count, first, want) in cases {
+        let class = of_methods(rt.alloc(), count, first)?;
+        let mut shelf = package(rt.alloc(), &[], &class)?;
+        let (text, end) = printed(rt.alloc(), &[], &CONVERT, &mut shelf)?;
+        assert_eq!(rt; end.as_str(), want);
+        assert_eq!(rt; text.as_str(), "");
+        assert!(rt; stand_before(&shelf, 0));
+    }
+    Ok(())
+}
+
 #[test]
 fn each_call_of_the_shelf_fails(rt: HostRuntime) -> Result<(), Fail> {
     for (call, want) in FAULTS {

@@ -1,0 +1,8 @@
+//! Small packages, written down by hand, and what the crates between the readers and the conversion answer of them.
+//! There is no code here but tests: a crate with tests of its own is proved twice.
+#![tactic(auto)]
+
+#[cfg(test)]
+mod drafts;
+#[cfg(test)]
+mod tokens;
