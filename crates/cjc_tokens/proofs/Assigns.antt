@@ -165,10 +165,10 @@ module _ (w : List Class) (applets : Bool) (cs : List ClassTree) (k : ℕ) where
         or-later (at_class (file_of 0 lines k) name) a (at_class (file_of 0 lines j) c.name) (breaks_from w applets lines (j + 1) rest) (has_high_token w (is_exported w applets (declared j c)) j c)
         (order (file_of 0 lines k).file (file_of 0 lines j).file (upwards 0 lines k j le)) (not-after name (j + 1) rest (omega arith) a) among
 
-    pub breaks-first : (c : ClassTree) (all : List Break) (e : Fault) → k < length cs → c ≡ get_or cs k c → has_high_token w (is_exported w applets (declared k c)) k c ≡ true
-        → breaks_from w applets lines k (drop k cs) ≡ all → e ≡ faults.Refused (at_class (file_of 0 lines k) c.name).refusal → IsFirstRefusal all e
+    pub breaks-first : (c : ClassTree) (all : List Break) → k < length cs → c ≡ get_or cs k c → has_high_token w (is_exported w applets (declared k c)) k c ≡ true
+        → breaks_from w applets lines k (drop k cs) ≡ all → IsFirst (at_class (file_of 0 lines k) c.name) all
     unfolding breaks_from
-    breaks-first c all e lt is high inv told = inr (b, subst (IsFirst b) whole first, told)
+    breaks-first c all lt is high inv = subst (IsFirst b) whole first
       where
         b : Break
         b = at_class (file_of 0 lines k) c.name

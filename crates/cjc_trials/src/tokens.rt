@@ -90,7 +90,8 @@ fn means(tokens: &Tokens, class: u32, from: u8, wanted: &[Option<Found>]) -> boo
     tokens.virtual_by_token(class, token).is_none()
 }
 
-fn overriding<'a>(alloc: Global) -> Result<World<'a>, Fault>
+/// p/B and p/N extend q/A, and p/C extends p/B.
+pub(crate) fn overriding<'a>(alloc: Global) -> Result<World<'a>, Fault>
     ensures { IfOk result (λ w. IsAcyclic (all_classes w)) }
 {
     let mut draft = Draft::new(alloc);
@@ -128,6 +129,7 @@ fn overriding<'a>(alloc: Global) -> Result<World<'a>, Fault>
             (8, b"<clinit>", b"()V"),
         ],
     )?;
+    draft.class(alloc, 0x20, b"p/N", b"q/A", &[], &[], &[(1, b"<init>", b"()V")])?;
     draft.world(alloc)
 }
 
@@ -140,6 +142,7 @@ fn overriding_methods_keep_their_tokens(rt: HostRuntime) -> Result<(), Fail> {
     assert!(rt; tokens.class_token(0).is_none());
     assert!(rt; tokens.class_token(1) == Some(0));
     assert!(rt; tokens.class_token(2).is_none());
+    assert!(rt; tokens.class_token(3).is_none());
     assert!(rt; has_members(&tokens, false, 0, &[None, Some(1), None, None]));
     assert!(rt;
         has_members(
@@ -170,7 +173,8 @@ fn overriding_methods_keep_their_tokens(rt: HostRuntime) -> Result<(), Fail> {
     Ok(())
 }
 
-fn hiding<'a>(alloc: Global) -> Result<World<'a>, Fault>
+/// p/D extends p/C, and p/E extends a class of an export file with a package-visible method.
+pub(crate) fn hiding<'a>(alloc: Global) -> Result<World<'a>, Fault>
     ensures { IfOk result (λ w. IsAcyclic (all_classes w)) }
 {
     let g: &[Listed<'_>] = &[
@@ -248,7 +252,8 @@ fn package_visible_methods_have_tokens_of_their_own(rt: HostRuntime) -> Result<(
     Ok(())
 }
 
-fn asking<'a>(alloc: Global) -> Result<World<'a>, Fault>
+/// An interface p/I, an abstract class p/P that has it, and p/R below that.
+pub(crate) fn asking<'a>(alloc: Global) -> Result<World<'a>, Fault>
     ensures { IfOk result (λ w. IsAcyclic (all_classes w)) }
 {
     let v: &[Member<'_>] = &[(0x0401, b"v", b"()S")];
