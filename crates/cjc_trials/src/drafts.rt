@@ -22,7 +22,7 @@ pub(crate) const THROWABLE: &[u8] = b"java/lang/Throwable";
 
 pub(crate) const EQUALS: &[u8] = b"(Ljava/lang/Object;)Z";
 
-/// The exceptions that java/lang needs.
+/// The exceptions that java/lang needs, each below Throwable.
 const EXCEPTIONS: [&[u8]; 6] = [
     b"java/lang/ArrayIndexOutOfBoundsException",
     b"java/lang/ArrayStoreException",
@@ -35,7 +35,7 @@ const EXCEPTIONS: [&[u8]; 6] = [
 /// What a world is made of.
 #[derive(Drop)]
 pub(crate) struct Draft<'a> {
-    lines: Row<FileLine>,
+    pub lines: Row<FileLine>,
     classes: Row<ClassTree<'a>>,
     exports: Row<ExportTree>,
 }
@@ -48,15 +48,26 @@ fn copies(alloc: Global, names: &[&[u8]]) -> Result<Row<Bytes>, NoMemory> {
     Ok(row)
 }
 
-/// An imported class or interface.
+/// An imported class or interface. Its fields are constants.
 pub(crate) fn imported(
     alloc: Global,
     flags: u16,
     name: &[u8],
     supers: &[&[u8]],
     interfaces: &[&[u8]],
+    fields: &[Member<'_>],
     methods: &[Listed<'_>],
 ) -> Result<ExportClass, NoMemory> {
+    let mut field_row = Row::new(alloc);
+    for (flags, name, desc) in fields {
+        field_row.push(ExportField {
+            token: 0xFF,
+            flags: *flags,
+            name: Bytes::copy_of(alloc, name)?,
+            desc: Bytes::copy_of(alloc, desc)?,
+            constant: Some(1),
+        })?;
+    }
     let mut row = Row::new(alloc);
     for (token, flags, name, desc) in methods {
         row.push(ExportMethod {
@@ -66,14 +77,13 @@ pub(crate) fn imported(
             desc: Bytes::copy_of(alloc, desc)?,
         })?;
     }
-    let fields: Row<ExportField> = Row::new(alloc);
     Ok(ExportClass {
         token: 0,
         flags,
         name: Bytes::copy_of(alloc, name)?,
         supers: copies(alloc, supers)?,
         interfaces: copies(alloc, interfaces)?,
-        fields,
+        fields: field_row,
         methods: row,
     })
 }
@@ -181,14 +191,20 @@ impl<'a> Draft<'a> {
         })
     }
 
-    /// java/lang: Object with a constructor and equals, Throwable, and the exceptions. Eight classes.
-    pub(crate) fn language(&mut self, alloc: Global) -> Result<(), NoMemory> {
+    /// java/lang: Object with a constructor and equals, Throwable, and the exceptions below a class of this name, but for
+    /// so many at the end. Eight classes in all.
+    pub(crate) fn language(
+        &mut self,
+        alloc: Global,
+        above: &[u8],
+        missing: usize,
+    ) -> Result<(), NoMemory> {
         let object: &[Listed<'_>] = &[(0, 1, b"<init>", b"()V"), (0, 1, b"equals", EQUALS)];
         let mut row = Row::new(alloc);
-        row.push(imported(alloc, 1, OBJECT, &[], &[], object)?)?;
-        row.push(imported(alloc, 1, THROWABLE, &[OBJECT], &[], object)?)?;
-        for name in &EXCEPTIONS {
-            row.push(imported(alloc, 1, name, &[THROWABLE, OBJECT], &[], object)?)?;
+        row.push(imported(alloc, 1, OBJECT, &[], &[], &[], object)?)?;
+        row.push(imported(alloc, 1, THROWABLE, &[OBJECT], &[], &[], object)?)?;
+        for name in &EXCEPTIONS[..6usize.saturating_sub(missing)] {
+            row.push(imported(alloc, 1, name, &[above, OBJECT], &[], &[], object)?)?;
         }
         self.export(alloc, b"java/lang", row)
     }
@@ -203,7 +219,7 @@ impl<'a> Draft<'a> {
             (2, 1, b"b", b"()S"),
         ];
         let mut row = Row::new(alloc);
-        row.push(imported(alloc, 1, b"q/A", &[OBJECT], &[], a)?)?;
+        row.push(imported(alloc, 1, b"q/A", &[OBJECT], &[], &[], a)?)?;
         self.export(alloc, b"q", row)
     }
 

@@ -6,3 +6,5 @@
 mod drafts;
 #[cfg(test)]
 mod tokens;
+#[cfg(test)]
+mod worlds;

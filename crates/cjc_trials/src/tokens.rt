@@ -5,7 +5,7 @@ ghost use Rattle.cjc_world.specs.Classes.{all_classes};
 ghost use Rattle.cjc_world.specs.Kin.{IsAcyclic};
 ghost use Rattle.cjc_tokens.specs.Tokens.{assigned};
 
-use crate::drafts::{Draft, EQUALS, Listed, Member, OBJECT, imported};
+use crate::drafts::{Draft, EQUALS, Listed, Member, OBJECT, THROWABLE, imported};
 use cjc_bytes::{AppletLine, Bytes, Fault, NoMemory, Row, Settings};
 use cjc_classfile::MethodTree;
 use cjc_tokens::{Tokens, assign, few};
@@ -95,7 +95,7 @@ pub(crate) fn overriding<'a>(alloc: Global) -> Result<World<'a>, Fault>
     ensures { IfOk result (λ w. IsAcyclic (all_classes w)) }
 {
     let mut draft = Draft::new(alloc);
-    draft.language(alloc)?;
+    draft.language(alloc, THROWABLE, 0)?;
     draft.other(alloc)?;
     draft.class(
         alloc,
@@ -129,7 +129,15 @@ pub(crate) fn overriding<'a>(alloc: Global) -> Result<World<'a>, Fault>
             (8, b"<clinit>", b"()V"),
         ],
     )?;
-    draft.class(alloc, 0x20, b"p/N", b"q/A", &[], &[], &[(1, b"<init>", b"()V")])?;
+    draft.class(
+        alloc,
+        0x20,
+        b"p/N",
+        b"q/A",
+        &[],
+        &[],
+        &[(1, b"<init>", b"()V")],
+    )?;
     draft.world(alloc)
 }
 
@@ -183,9 +191,9 @@ pub(crate) fn hiding<'a>(alloc: Global) -> Result<World<'a>, Fault>
         (2, 0, b"o", b"()V"),
     ];
     let mut row = Row::new(alloc);
-    row.push(imported(alloc, 1, b"q/G", &[OBJECT], &[], g)?)?;
+    row.push(imported(alloc, 1, b"q/G", &[OBJECT], &[], &[], g)?)?;
     let mut draft = Draft::new(alloc);
-    draft.language(alloc)?;
+    draft.language(alloc, THROWABLE, 0)?;
     draft.export(alloc, b"q", row)?;
     draft.class(
         alloc,
@@ -259,7 +267,7 @@ pub(crate) fn asking<'a>(alloc: Global) -> Result<World<'a>, Fault>
     let v: &[Member<'_>] = &[(0x0401, b"v", b"()S")];
     let i: &[u8] = b"p/I";
     let mut draft = Draft::new(alloc);
-    draft.language(alloc)?;
+    draft.language(alloc, THROWABLE, 0)?;
     draft.class(alloc, 0x0600, i, OBJECT, &[], &[], v)?;
     draft.class(
         alloc,
@@ -314,7 +322,7 @@ pub(crate) fn common<'a>(alloc: Global) -> Result<World<'a>, Fault>
         &[],
         &[(1, b"l", b"()S"), (1, b"n", b"()S")],
     )?;
-    draft.language(alloc)?;
+    draft.language(alloc, THROWABLE, 0)?;
     draft.class(
         alloc,
         0x21,
@@ -387,7 +395,7 @@ fn holding<'a>(alloc: Global) -> Result<World<'a>, Fault>
     ensures { IfOk result (λ w. IsAcyclic (all_classes w)) }
 {
     let mut draft = Draft::new(alloc);
-    draft.language(alloc)?;
+    draft.language(alloc, THROWABLE, 0)?;
     draft.class(
         alloc,
         0x21,
@@ -457,10 +465,10 @@ fn sharing<'a>(alloc: Global, listed: bool) -> Result<World<'a>, Fault>
 {
     let shareable: &[u8] = b"javacard/framework/Shareable";
     let mut draft = Draft::new(alloc);
-    draft.language(alloc)?;
+    draft.language(alloc, THROWABLE, 0)?;
     if listed {
         let mut row = Row::new(alloc);
-        row.push(imported(alloc, 0x0E01, shareable, &[OBJECT], &[], &[])?)?;
+        row.push(imported(alloc, 0x0E01, shareable, &[OBJECT], &[], &[], &[])?)?;
         draft.export(alloc, b"javacard/framework", row)?;
     }
     let above: &[&[u8]] = if listed { &[shareable] } else { &[] };
@@ -517,7 +525,7 @@ fn many<'a>(alloc: Global, flags: u16, count: u16) -> Result<World<'a>, Fault>
     }
     let mut draft = Draft::new(alloc);
     draft.class(alloc, 0x21, b"p/A", OBJECT, &[], &[], &[])?;
-    draft.language(alloc)?;
+    draft.language(alloc, THROWABLE, 0)?;
     draft.tree(alloc, 0x21, b"p/M", OBJECT, &[], Row::new(alloc), methods)?;
     draft.world(alloc)
 }

@@ -23,6 +23,3 @@ pub use found::Found;
 pub use image::{ArrayCell, StaticImage, ValueCell};
 pub use laws::{lookup_laws, subtype_laws};
 pub use world::World;
-
-#[cfg(test)]
-mod tests;

@@ -1,184 +1,10 @@
 //! Look-up, selection and subtypes in one world of package and imported classes, and one broken package a rule.
 
-use crate::{Found, World};
+use crate::drafts::{Draft, EQUALS, Listed, Member, OBJECT, THROWABLE, imported};
 use cjc_bytes::{Bytes, Fault, FileLine, MemberId, NoMemory, Row, Rule};
-use cjc_classfile::{ClassTree, FieldTree, MethodTree};
-use cjc_export::{ExportClass, ExportField, ExportMethod, ExportTree};
+use cjc_world::{Found, World};
 use std::alloc::Global;
 use std::test::*;
-
-/// The flags, the name and the descriptor of a field or method.
-type Member<'t> = (u16, &'t [u8], &'t [u8]);
-
-const OBJECT: &[u8] = b"java/lang/Object";
-
-const THROWABLE: &[u8] = b"java/lang/Throwable";
-
-const EQUALS: &[u8] = b"(Ljava/lang/Object;)Z";
-
-/// The exceptions that java/lang needs, each below Throwable.
-const EXCEPTIONS: [&[u8]; 6] = [
-    b"java/lang/ArrayIndexOutOfBoundsException",
-    b"java/lang/ArrayStoreException",
-    b"java/lang/NegativeArraySizeException",
-    b"java/lang/ArithmeticException",
-    b"java/lang/ClassCastException",
-    b"java/lang/NullPointerException",
-];
-
-/// What a world is made of.
-#[derive(Drop)]
-struct Draft<'a> {
-    lines: Row<FileLine>,
-    classes: Row<ClassTree<'a>>,
-    exports: Row<ExportTree>,
-}
-
-fn copies(alloc: Global, names: &[&[u8]]) -> Result<Row<Bytes>, NoMemory> {
-    let mut row = Row::new(alloc);
-    for name in names {
-        row.push(Bytes::copy_of(alloc, name)?)?;
-    }
-    Ok(row)
-}
-
-/// An imported class or interface. Of its methods one named `first` has token 0, and each other has 1.
-fn imported(
-    alloc: Global,
-    flags: u16,
-    name: &[u8],
-    supers: &[&[u8]],
-    interfaces: &[&[u8]],
-    fields: &[Member<'_>],
-    methods: &[Member<'_>],
-) -> Result<ExportClass, NoMemory> {
-    let mut field_row = Row::new(alloc);
-    for (flags, name, desc) in fields {
-        field_row.push(ExportField {
-            token: 0xFF,
-            flags: *flags,
-            name: Bytes::copy_of(alloc, name)?,
-            desc: Bytes::copy_of(alloc, desc)?,
-            constant: Some(1),
-        })?;
-    }
-    let mut row = Row::new(alloc);
-    for (flags, name, desc) in methods {
-        row.push(ExportMethod {
-            token: if name[..] == b"first"[..] { 0 } else { 1 },
-            flags: *flags,
-            name: Bytes::copy_of(alloc, name)?,
-            desc: Bytes::copy_of(alloc, desc)?,
-        })?;
-    }
-    Ok(ExportClass {
-        token: 0,
-        flags,
-        name: Bytes::copy_of(alloc, name)?,
-        supers: copies(alloc, supers)?,
-        interfaces: copies(alloc, interfaces)?,
-        fields: field_row,
-        methods: row,
-    })
-}
-
-impl<'a> Draft<'a> {
-    fn new(alloc: Global) -> Draft<'a> {
-        Draft {
-            lines: Row::new(alloc),
-            classes: Row::new(alloc),
-            exports: Row::new(alloc),
-        }
-    }
-
-    /// Another class file, named like the class.
-    fn class(
-        &mut self,
-        alloc: Global,
-        flags: u16,
-        name: &[u8],
-        superclass: &[u8],
-        interfaces: &[&[u8]],
-        fields: &[Member<'_>],
-        methods: &[Member<'_>],
-    ) -> Result<(), NoMemory> {
-        let mut field_row = Row::new(alloc);
-        for (flags, name, desc) in fields {
-            field_row.push(FieldTree {
-                flags: *flags,
-                name: Bytes::copy_of(alloc, name)?,
-                desc: Bytes::copy_of(alloc, desc)?,
-                constant: None,
-            })?;
-        }
-        let mut method_row = Row::new(alloc);
-        for (flags, name, desc) in methods {
-            method_row.push(MethodTree {
-                flags: *flags,
-                name: Bytes::copy_of(alloc, name)?,
-                desc: Bytes::copy_of(alloc, desc)?,
-                code: None,
-                attributes: 0,
-            })?;
-        }
-        self.lines.push(FileLine {
-            class_file: true,
-            name: Bytes::copy_of(alloc, name)?,
-        })?;
-        self.classes.push(ClassTree {
-            major: 52,
-            flags,
-            name: Bytes::copy_of(alloc, name)?,
-            superclass: Bytes::copy_of(alloc, superclass)?,
-            interfaces: copies(alloc, interfaces)?,
-            pool: Row::new(alloc),
-            fields: field_row,
-            methods: method_row,
-            attributes: 0,
-        })
-    }
-
-    /// Another export file, named like the package.
-    fn export(
-        &mut self,
-        alloc: Global,
-        name: &[u8],
-        classes: Row<ExportClass>,
-    ) -> Result<(), NoMemory> {
-        self.lines.push(FileLine {
-            class_file: false,
-            name: Bytes::copy_of(alloc, name)?,
-        })?;
-        self.exports.push(ExportTree {
-            name: Bytes::copy_of(alloc, name)?,
-            aid: Bytes::new(alloc),
-            major: 1,
-            minor: 0,
-            library: true,
-            classes,
-        })
-    }
-
-    /// java/lang: Object, Throwable below a class of this name, and the exceptions but for so many at the end.
-    fn language(&mut self, alloc: Global, above: &[u8], missing: usize) -> Result<(), NoMemory> {
-        let mut row = Row::new(alloc);
-        row.push(imported(alloc, 1, OBJECT, &[], &[], &[], &[(1, b"equals", EQUALS)])?)?;
-        row.push(imported(alloc, 1, THROWABLE, &[OBJECT], &[], &[], &[])?)?;
-        for name in &EXCEPTIONS[..6usize.saturating_sub(missing)] {
-            row.push(imported(alloc, 1, name, &[above, OBJECT], &[], &[], &[])?)?;
-        }
-        self.export(alloc, b"java/lang", row)
-    }
-
-    fn world(self, alloc: Global) -> Result<World<'a>, Fault> {
-        let Draft {
-            lines,
-            classes,
-            exports,
-        } = self;
-        World::new(alloc, b"list", b"p", lines, classes, exports)
-    }
-}
 
 /// The world of look-up. Classes of the package: p/K, p/L, p/R, p/A and p/B, at 0 to 4. Classes of q: q/I, q/J,
 /// q/Base, q/Deep and q/Odd, at 8 to 12, behind the eight of java/lang.
@@ -223,7 +49,7 @@ fn mixed<'a>(alloc: Global) -> Result<World<'a>, Fault> {
         &[OBJECT],
         &[],
         &[(0x19, b"c", b"S")],
-        &[(0x0401, b"i", b"()V")],
+        &[(1, 0x0401, b"i", b"()V")],
     )?)?;
     row.push(imported(
         alloc,
@@ -232,7 +58,7 @@ fn mixed<'a>(alloc: Global) -> Result<World<'a>, Fault> {
         &[OBJECT],
         &[i],
         &[],
-        &[(0x0401, b"i", b"()V")],
+        &[(1, 0x0401, b"i", b"()V")],
     )?)?;
     row.push(imported(
         alloc,
@@ -241,7 +67,11 @@ fn mixed<'a>(alloc: Global) -> Result<World<'a>, Fault> {
         &[OBJECT],
         &[j, i],
         &[],
-        &[(1, b"m", b"()V"), (1, b"n", b"()V"), (1, b"equals", EQUALS)],
+        &[
+            (1, 1, b"m", b"()V"),
+            (2, 1, b"n", b"()V"),
+            (0, 1, b"equals", EQUALS),
+        ],
     )?)?;
     row.push(imported(alloc, 1, b"q/Deep", &[base, OBJECT], &[j, i], &[], &[])?)?;
     row.push(imported(alloc, 1, b"q/Odd", &[OBJECT, base], &[j, i], &[], &[])?)?;
@@ -325,8 +155,8 @@ fn methods(rt: HostRuntime) -> Result<(), Fail> {
         (b"q/J", b"i", b"()V", Some((true, 9, 0))),
         (b"p/B", b"equals", EQUALS, Some((true, 10, 2))),
         (b"q/Deep", b"equals", EQUALS, Some((true, 10, 2))),
-        (b"q/Odd", b"equals", EQUALS, Some((true, 0, 0))), // supers in the order of the file
-        (b"p/K", b"equals", EQUALS, Some((true, 0, 0))),
+        (b"q/Odd", b"equals", EQUALS, Some((true, 0, 1))), // supers in the order of the file
+        (b"p/K", b"equals", EQUALS, Some((true, 0, 1))),
         (b"p/B", b"m", b"()S", None),
         (b"p/No", b"equals", EQUALS, None),
     ];
@@ -346,8 +176,8 @@ fn selections(rt: HostRuntime) -> Result<(), Fail> {
         (b"p/B", b"n", b"()V", Some((true, 10, 1))), // past a static method
         (b"p/B", b"o", b"()V", Some((false, 3, 3))),
         (b"p/B", b"k", b"()V", None), // an interface's
-        (b"[S", b"equals", EQUALS, Some((true, 0, 0))),
-        (b"[Lp/A;", b"equals", EQUALS, Some((true, 0, 0))),
+        (b"[S", b"equals", EQUALS, Some((true, 0, 1))),
+        (b"[Lp/A;", b"equals", EQUALS, Some((true, 0, 1))),
         (b"p/No", b"equals", EQUALS, None),
     ];
     for (class, name, desc, place) in cases {
@@ -405,7 +235,7 @@ fn asking<'a>(alloc: Global, draft: &mut Draft<'a>) -> Result<(), NoMemory> {
 
 /// The interface q/K, with a method of this descriptor.
 fn importing<'a>(alloc: Global, draft: &mut Draft<'a>, desc: &[u8]) -> Result<(), NoMemory> {
-    let methods: [Member<'_>; 2] = [(0x0401, b"second", desc), (0x0401, b"first", b"()V")];
+    let methods: [Listed<'_>; 2] = [(1, 0x0401, b"second", desc), (0, 0x0401, b"first", b"()V")];
     let mut row = Row::new(alloc);
     row.push(imported(alloc, 0x0601, b"q/K", &[OBJECT], &[], &[], &methods)?)?;
     draft.export(alloc, b"q", row)
