@@ -18,6 +18,3 @@ pub use broken::{Break, Part, Spot, answer, first};
 pub use checking::{check, first_broken};
 pub use naming::names;
 pub use places::{class_spot, file_of, method_spot};
-
-#[cfg(test)]
-mod tests;

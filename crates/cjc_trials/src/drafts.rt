@@ -40,7 +40,12 @@ pub(crate) struct Draft<'a> {
     exports: Row<ExportTree>,
 }
 
-fn copies(alloc: Global, names: &[&[u8]]) -> Result<Row<Bytes>, NoMemory> {
+/// A static final field has a value.
+fn value(flags: u16) -> Option<i32> {
+    if flags & 0x18 == 0x18 { Some(1) } else { None }
+}
+
+pub(crate) fn copies(alloc: Global, names: &[&[u8]]) -> Result<Row<Bytes>, NoMemory> {
     let mut row = Row::new(alloc);
     for name in names {
         row.push(Bytes::copy_of(alloc, name)?)?;
@@ -48,7 +53,7 @@ fn copies(alloc: Global, names: &[&[u8]]) -> Result<Row<Bytes>, NoMemory> {
     Ok(row)
 }
 
-/// An imported class or interface. Its fields are constants.
+/// An imported class or interface.
 pub(crate) fn imported(
     alloc: Global,
     flags: u16,
@@ -65,7 +70,7 @@ pub(crate) fn imported(
             flags: *flags,
             name: Bytes::copy_of(alloc, name)?,
             desc: Bytes::copy_of(alloc, desc)?,
-            constant: Some(1),
+            constant: value(*flags),
         })?;
     }
     let mut row = Row::new(alloc);
@@ -88,16 +93,31 @@ pub(crate) fn imported(
     })
 }
 
+/// The classes of java/lang: Object with a constructor and equals, Throwable, and the exceptions below a class of this
+/// name, but for so many at the end. Eight classes in all.
+pub(crate) fn language(
+    alloc: Global,
+    above: &[u8],
+    missing: usize,
+) -> Result<Row<ExportClass>, NoMemory> {
+    let object: &[Listed<'_>] = &[(0, 1, b"<init>", b"()V"), (0, 1, b"equals", EQUALS)];
+    let mut row = Row::new(alloc);
+    row.push(imported(alloc, 1, OBJECT, &[], &[], &[], object)?)?;
+    row.push(imported(alloc, 1, THROWABLE, &[OBJECT], &[], &[], object)?)?;
+    for name in &EXCEPTIONS[..6usize.saturating_sub(missing)] {
+        row.push(imported(alloc, 1, name, &[above, OBJECT], &[], &[], object)?)?;
+    }
+    Ok(row)
+}
+
 fn fields_of(alloc: Global, fields: &[Member<'_>]) -> Result<Row<FieldTree>, NoMemory> {
     let mut row = Row::new(alloc);
     for (flags, name, desc) in fields {
-        // a final static one is a constant
-        let constant = if *flags & 0x18 == 0x18 { Some(1) } else { None };
         row.push(FieldTree {
             flags: *flags,
             name: Bytes::copy_of(alloc, name)?,
             desc: Bytes::copy_of(alloc, desc)?,
-            constant,
+            constant: value(*flags),
         })?;
     }
     Ok(row)
@@ -191,21 +211,14 @@ impl<'a> Draft<'a> {
         })
     }
 
-    /// java/lang: Object with a constructor and equals, Throwable, and the exceptions below a class of this name, but for
-    /// so many at the end. Eight classes in all.
+    /// java/lang, with these of its classes.
     pub(crate) fn language(
         &mut self,
         alloc: Global,
         above: &[u8],
         missing: usize,
     ) -> Result<(), NoMemory> {
-        let object: &[Listed<'_>] = &[(0, 1, b"<init>", b"()V"), (0, 1, b"equals", EQUALS)];
-        let mut row = Row::new(alloc);
-        row.push(imported(alloc, 1, OBJECT, &[], &[], &[], object)?)?;
-        row.push(imported(alloc, 1, THROWABLE, &[OBJECT], &[], &[], object)?)?;
-        for name in &EXCEPTIONS[..6usize.saturating_sub(missing)] {
-            row.push(imported(alloc, 1, name, &[above, OBJECT], &[], &[], object)?)?;
-        }
+        let row = language(alloc, above, missing)?;
         self.export(alloc, b"java/lang", row)
     }
 

@@ -5,6 +5,8 @@
 #[cfg(test)]
 mod drafts;
 #[cfg(test)]
+mod subsets;
+#[cfg(test)]
 mod tokens;
 #[cfg(test)]
 mod worlds;

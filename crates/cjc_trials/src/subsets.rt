@@ -1,16 +1,14 @@
 //! One package, altered in one place at a time: what is refused, and where.
 
-use crate::{check, names};
+use crate::drafts::{EQUALS, Listed, Member, OBJECT, THROWABLE, copies, imported, language};
 use cjc_bytes::{AppletLine, Bytes, Fault, FileLine, MemberId, NoMemory, Row, Settings};
 use cjc_classfile::{Catch, ClassTree, Code, FieldTree, MethodTree};
 use cjc_code::{Codes, JInsn, JOp, MethodCode};
-use cjc_export::{ExportClass, ExportField, ExportMethod, ExportTree};
+use cjc_export::{ExportClass, ExportTree};
+use cjc_subset::{check, names};
 use cjc_world::World;
 use std::alloc::Global;
 use std::test::*;
-
-/// The flags, the name and the descriptor of a field or method.
-type Member<'t> = (u16, &'t [u8], &'t [u8]);
 
 /// A class, a name and a descriptor.
 type Named<'t> = (&'t [u8], &'t [u8], &'t [u8]);
@@ -59,86 +57,11 @@ enum Edit<'t> {
 /// What is altered, and the rule, the file, the class, the member and the offset that are refused then.
 type Case<'t> = (Edit<'t>, u16, &'t [u8], &'t [u8], &'t [u8], u32);
 
-const OBJECT: &[u8] = b"java/lang/Object";
-
-const THROWABLE: &[u8] = b"java/lang/Throwable";
-
-const EQUALS: &[u8] = b"(Ljava/lang/Object;)Z";
-
-/// The exceptions that java/lang needs.
-const EXCEPTIONS: [&[u8]; 6] = [
-    b"java/lang/ArrayIndexOutOfBoundsException",
-    b"java/lang/ArrayStoreException",
-    b"java/lang/NegativeArraySizeException",
-    b"java/lang/ArithmeticException",
-    b"java/lang/ClassCastException",
-    b"java/lang/NullPointerException",
-];
-
 /// Sixteen interfaces that are in no file.
 const MANY: [&[u8]; 16] = [
     b"q/Ia", b"q/Ib", b"q/Ic", b"q/Id", b"q/Ie", b"q/If", b"q/Ig", b"q/Ih", b"q/Ii", b"q/Ij",
     b"q/Ik", b"q/Il", b"q/Im", b"q/In", b"q/Io", b"q/Ip",
 ];
-
-fn copies(alloc: Global, names: &[&[u8]]) -> Result<Row<Bytes>, NoMemory> {
-    let mut row = Row::new(alloc);
-    for name in names {
-        row.push(Bytes::copy_of(alloc, name)?)?;
-    }
-    Ok(row)
-}
-
-/// An imported class or interface. A field named c is a constant.
-fn imported(
-    alloc: Global,
-    flags: u16,
-    name: &[u8],
-    supers: &[&[u8]],
-    interfaces: &[&[u8]],
-    fields: &[Member<'_>],
-    methods: &[Member<'_>],
-) -> Result<ExportClass, NoMemory> {
-    let mut field_row = Row::new(alloc);
-    for (flags, name, desc) in fields {
-        let c: &[u8] = b"c";
-        field_row.push(ExportField {
-            token: 0xFF,
-            flags: *flags,
-            name: Bytes::copy_of(alloc, name)?,
-            desc: Bytes::copy_of(alloc, desc)?,
-            constant: if *name == c { Some(1) } else { None },
-        })?;
-    }
-    let mut row = Row::new(alloc);
-    for (flags, name, desc) in methods {
-        row.push(ExportMethod {
-            token: 0,
-            flags: *flags,
-            name: Bytes::copy_of(alloc, name)?,
-            desc: Bytes::copy_of(alloc, desc)?,
-        })?;
-    }
-    Ok(ExportClass {
-        token: 0,
-        flags,
-        name: Bytes::copy_of(alloc, name)?,
-        supers: copies(alloc, supers)?,
-        interfaces: copies(alloc, interfaces)?,
-        fields: field_row,
-        methods: row,
-    })
-}
-
-fn language(alloc: Global) -> Result<Row<ExportClass>, NoMemory> {
-    let mut row = Row::new(alloc);
-    row.push(imported(alloc, 1, OBJECT, &[], &[], &[], &[(1, b"equals", EQUALS)])?)?;
-    row.push(imported(alloc, 1, THROWABLE, &[OBJECT], &[], &[], &[])?)?;
-    for name in &EXCEPTIONS {
-        row.push(imported(alloc, 1, name, &[THROWABLE, OBJECT], &[], &[], &[])?)?;
-    }
-    Ok(row)
-}
 
 fn framework(alloc: Global) -> Result<Row<ExportClass>, NoMemory> {
     let mut row = Row::new(alloc);
@@ -156,15 +79,15 @@ fn other(alloc: Global) -> Result<Row<ExportClass>, NoMemory> {
         &[OBJECT],
         &[],
         &[(0x19, b"c", b"S"), (9, b"d", b"S"), (1, b"e", b"S")],
-        &[(4, b"p", b"()V"), (0, b"o", b"()V")],
+        &[(0, 4, b"p", b"()V"), (1, 0, b"o", b"()V")],
     )?)?;
-    let interface: &[Member<'_>] = &[(0x0401, b"i", b"()V")];
+    let interface: &[Listed<'_>] = &[(0, 0x0401, b"i", b"()V")];
     row.push(imported(alloc, 0x0601, b"q/I", &[OBJECT], &[], &[], interface)?)?;
     row.push(imported(alloc, 0x0401, b"q/K", &[OBJECT], &[b"q/I"], &[], &[])?)?;
     row.push(imported(alloc, 1, b"q/Many", &[OBJECT], &MANY, &[], &[])?)?;
-    let chars: &[Member<'_>] = &[(0x0401, b"l", b"(C)V")];
+    let chars: &[Listed<'_>] = &[(0, 0x0401, b"l", b"(C)V")];
     row.push(imported(alloc, 0x0601, b"q/Chars", &[OBJECT], &[], &[], chars)?)?;
-    let ints: &[Member<'_>] = &[(0x0401, b"l", b"(I)V")];
+    let ints: &[Listed<'_>] = &[(0, 0x0401, b"l", b"(I)V")];
     row.push(imported(alloc, 0x0601, b"q/Ints", &[OBJECT], &[], &[], ints)?)?;
     Ok(row)
 }
@@ -447,7 +370,7 @@ fn world<'a>(alloc: Global, edit: Edit<'_>) -> Result<World<'a>, Fault> {
     }
     let mut exports = Row::new(alloc);
     lines.push(line(alloc, false, b"lang")?)?;
-    exports.push(export(alloc, b"java/lang", language(alloc)?)?)?;
+    exports.push(export(alloc, b"java/lang", language(alloc, THROWABLE, 0)?)?)?;
     lines.push(line(alloc, false, b"fw")?)?;
     exports.push(export(alloc, b"javacard/framework", framework(alloc)?)?)?;
     lines.push(line(alloc, false, b"q")?)?;
