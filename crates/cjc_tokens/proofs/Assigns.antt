@@ -10,10 +10,11 @@ use Rattle.cjc_bytes.specs.declared.settings.FileLine.{FileLine}
 use Rattle.cjc_classfile.specs.declared.tree.ClassTree.{ClassTree}
 use Rattle.cjc_export.specs.declared.tree.ExportTree.{ExportTree}
 use Rattle.cjc_world.specs.Classes.{Class, declared}
+use Rattle.cjc_world.specs.Files.{Files}
 use Rattle.cjc_world.specs.Rules.{Break, Among, foremost, after, IsFirst, IsFirstRefusal}
 use Rattle.cjc_tokens.specs.declared.slot.Rows.{Rows}
 use Rattle.cjc_tokens.specs.Tokens.{OfClass, is_exported, of_class, one_more, classes_from, of_import, imports_of}
-use Rattle.cjc_tokens.specs.Rules.{count_exported, has_high_token, FilePlace, file_of, at_class, breaks_where, breaks_from}
+use Rattle.cjc_tokens.specs.Rules.{count_exported, has_high_token, FilePlace, file_of, at_class, breaks_where, breaks_from, is_few, tested_breaks, token_breaks}
 use Rattle.cjc_tokens.specs.Working.{IsKept}
 use Rattle.cjc_tokens.proofs.Walks.{drop-next, drop-past}
 
@@ -184,3 +185,13 @@ module _ (w : List Class) (applets : Bool) (cs : List ClassTree) (k : ℕ) where
           among = foremost;
           least = λ a. or-later b a b rest true (order (file_of 0 lines k).file (file_of 0 lines k).file (omega arith)) (not-after c.name (k + 1) (drop (k + 1) cs) (omega arith) a);
         }
+
+-- ---- where 401 or 406 is broken, 413 is not tested
+
+pub tested-few : (applets : Bool) (files : Files) → is_few applets files ≡ true → tested_breaks applets files ≡ token_breaks applets files
+unfolding tested_breaks
+tested-few applets files e = ap (λ b. if b then token_breaks applets files else []) e
+
+pub tested-many : (applets : Bool) (files : Files) → is_few applets files ≡ false → tested_breaks applets files ≡ []
+unfolding tested_breaks
+tested-many applets files e = ap (λ b. if b then token_breaks applets files else []) e
