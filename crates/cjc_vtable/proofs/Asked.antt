@@ -27,7 +27,7 @@ pub data Among (c : Class) : List Class → Type 0 where
   at_head : {cs : List Class} → Among c (c ∷ cs)
   further : {d : Class} {cs : List Class} → Among c cs → Among c (d ∷ cs)
 
-among-split : (c : Class) (a b : List Class) → Among c (a ++ b) → Among c a ⊎ Among c b
+pub among-split : (c : Class) (a b : List Class) → Among c (a ++ b) → Among c a ⊎ Among c b
 among-split c [] b i = inr i
 among-split c (d ∷ a) b at_head = inl at_head
 among-split c (d ∷ a) b (further i) = ⊎_elim (λ j. inl (further j)) (λ j. inr j) (among-split c a b i)
@@ -40,7 +40,7 @@ named-among (j ∷ is) name i e = by (bytes_eq j.name name) e (named-among is na
     by true e rest = let is' : j ≡ i = cc in subst (λ (q : Class). Among i (q ∷ is)) (sym is') at_head
     by false e rest = further (rest e)
 
-among-one : (i c : Class) → Among i (c ∷ []) → i ≡ c
+pub among-one : (i c : Class) → Among i (c ∷ []) → i ≡ c
 among-one i c at_head = refl
 among-one i c (further a) = elim a [ ]
 
@@ -63,7 +63,7 @@ once-among before (j ∷ is) c i = by (is_among before j.name) i (once-among bef
     by true k old fresh = behind j.class (old k)
     by false k old fresh = front j.class k fresh
 
-known-append : (is js : List Interface) → known (is ++ js) ≡ known is ++ known js
+pub known-append : (is js : List Interface) → known (is ++ js) ≡ known is ++ known js
 unfolding known
 known-append [] js = refl
 known-append (i ∷ is) js = by i.class (known-append is js)

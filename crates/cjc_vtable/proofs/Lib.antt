@@ -6,3 +6,9 @@ pub mod Once
 pub mod Sent
 pub mod Asked
 pub mod Worlds
+pub mod Filed
+pub mod Ruled
+pub mod Clean
+pub mod Stood
+pub mod Selected
+pub mod Keeping

@@ -64,7 +64,7 @@ wider c p r m i = In-either m c.methods (all_methods (upwards p)) (c.methods ++ 
     i
 
 -- selection's own method of a class
-first-selects : (classes : List Class) (s : Signature) → first (own_method true s.name s.desc) classes ≡ first (own selects s) classes
+pub first-selects : (classes : List Class) (s : Signature) → first (own_method true s.name s.desc) classes ≡ first (own selects s) classes
 unfolding first own_method own
 first-selects [] s = refl
 first-selects (c ∷ classes) s = ap (or_else (own_method true s.name s.desc c)) (first-selects classes s)
