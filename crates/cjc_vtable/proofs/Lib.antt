@@ -1,4 +1,4 @@
-pub mod Tables
+pub mod Towers
 pub mod Agrees
 pub mod Calls
 pub mod Given
