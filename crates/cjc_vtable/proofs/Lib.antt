@@ -6,3 +6,7 @@ pub mod Once
 pub mod Sent
 pub mod Asked
 pub mod Worlds
+pub mod Standing
+pub mod Assigned
+pub mod Rows
+pub mod Tabled

@@ -2,8 +2,13 @@
 //! Machine Specification 2.2.2, sections 4.3.7 and 6.8).
 #![tactic(auto)]
 
+mod building;
+mod entries;
 mod laws;
+mod maps;
+mod order;
 mod table;
 
+pub use building::tables;
 pub use laws::{dispatch_laws, token_laws};
 pub use table::{ClassTable, ClassTables, InterfaceMap};
