@@ -10,7 +10,7 @@ use Rattle.cjc_vtable.specs.Dispatch.{dispatched, dispatched_hidden}
 use Rattle.cjc_vtable.specs.Calls.{is_special, selects, passes, selected_in, selects_shown, selects_hidden, IsOneToOne, IsTold, IsProper, Climbs, here, up, over}
 use Rattle.cjc_tokens.proofs.Facts.{same-true, position-cons, position-same, place, chosen-passes, chosen-In, chosen-some, has-chosen, own-none, own-some, got-none}
 use Rattle.cjc_tokens.proofs.Held.{at_front, shown-virtual, has_slot-append, offered-has_slot, here-has_slot, In-slot, token-slot, listed_slot}
-use Rattle.cjc_vtable.proofs.Tables.{tower, dispatched-slot, dispatched-hidden_slot}
+use Rattle.cjc_vtable.proofs.Towers.{tower, dispatched-slot, dispatched-hidden_slot}
 
 -- ---- virtual methods are selectable
 

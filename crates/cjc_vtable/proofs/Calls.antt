@@ -10,7 +10,7 @@ use Rattle.cjc_vtable.specs.Dispatch.{dispatched, dispatched_hidden}
 use Rattle.cjc_vtable.specs.Calls.{is_special, selects, any_method, passes, selected_in, selects_shown, selects_hidden, finds_shown, finds_hidden, IsTold, IsProper, methods_of_line, is_clash, KeepsAccess, Climbs, here, up, over}
 use Rattle.cjc_tokens.proofs.Facts.{same-refl, chosen-passes, chosen-In, chosen-some, has-chosen}
 use Rattle.cjc_tokens.proofs.Held.{has_slot-append, offered-has_slot, token-cons, shown-virtual}
-use Rattle.cjc_vtable.proofs.Tables.{tower}
+use Rattle.cjc_vtable.proofs.Towers.{tower}
 use Rattle.cjc_vtable.proofs.Agrees.{virtual_plain, hidden-virtual, shown_selects, hidden_selects, chosen-finer, shown-has_slot, agree_shown, agree_hidden}
 
 -- what has a slot has a token

@@ -1,4 +1,4 @@
-pub mod Tables
+pub mod Towers
 pub mod Agrees
 pub mod Calls
 pub mod Given
@@ -12,3 +12,7 @@ pub mod Clean
 pub mod Stood
 pub mod Selected
 pub mod Keeping
+pub mod Standing
+pub mod Assigned
+pub mod Rows
+pub mod Tabled

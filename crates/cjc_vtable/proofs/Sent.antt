@@ -14,7 +14,7 @@ use Rattle.cjc_vtable.specs.Dispatch.{held, dispatched, own_by_token}
 use Rattle.cjc_vtable.specs.Calls.{is_special, selects, selected_in, IsOneToOne, IsTold, IsProper, methods_of_line, imported_methods, KeepsAccess, KeepsImported, Climbs, here, up, over}
 use Rattle.cjc_tokens.proofs.Facts.{chosen-passes, chosen-In, own-none, got-none}
 use Rattle.cjc_tokens.proofs.Held.{at_front, has_slot-append, here-has_slot, shown-virtual, listed_slot, put-same_at, put-still, reserve-still}
-use Rattle.cjc_vtable.proofs.Tables.{tower, entry_at, by_token, dispatched-slot}
+use Rattle.cjc_vtable.proofs.Towers.{tower, entry_at, by_token, dispatched-slot}
 use Rattle.cjc_vtable.proofs.Agrees.{chosen-coarser, shown_selects, hidden-virtual, virtual_plain, imported-same}
 use Rattle.cjc_vtable.proofs.Calls.{In-behind}
 

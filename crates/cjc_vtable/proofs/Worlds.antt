@@ -15,7 +15,7 @@ use Rattle.cjc_vtable.specs.Dispatch.{Exported, Info, tower_in, tower_of, dispat
 use Rattle.cjc_vtable.specs.Calls.{selects, passes, selected_in, selects_shown, IsOneToOne, IsTold, IsProper, methods_of_line, imported_methods, is_special, KeepsAccess, KeepsImported as KeepsFar, Climbs, here, up, over}
 use Rattle.cjc_vtable.specs.Laws.{Under, itself, below, KeepsRules, KeepsInterfaces, KeepsImported, selection, VirtualCallsAgree, InterfaceCallsAgree, ImportedCallsAgree, TokensAreOnce}
 use Rattle.cjc_tokens.proofs.Facts.{chosen-passes, has-chosen}
-use Rattle.cjc_vtable.proofs.Tables.{tower}
+use Rattle.cjc_vtable.proofs.Towers.{tower}
 use Rattle.cjc_vtable.proofs.Calls.{In-front, In-behind, token-some, open_calls, package_calls}
 use Rattle.cjc_vtable.proofs.Agrees.{chosen-finer, shown_selects, shown-has_slot, agree_shown}
 use Rattle.cjc_vtable.proofs.Given.{proper-line}

@@ -3,3 +3,4 @@ pub mod Dispatch
 pub mod Calls
 pub mod Laws
 pub mod Kept
+pub mod Standing

@@ -3,9 +3,14 @@
 #![tactic(auto)]
 
 mod kept;
+mod building;
+mod entries;
 mod laws;
+mod maps;
+mod order;
 mod table;
 
 pub use kept::package_laws;
+pub use building::tables;
 pub use laws::{dispatch_laws, token_laws};
 pub use table::{ClassTable, ClassTables, InterfaceMap};
