@@ -6,3 +6,5 @@ pub mod Once
 pub mod Sent
 pub mod Asked
 pub mod Worlds
+pub mod Numbers
+pub mod Naming

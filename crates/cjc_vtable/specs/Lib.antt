@@ -2,3 +2,4 @@ pub mod Tables
 pub mod Dispatch
 pub mod Calls
 pub mod Laws
+pub mod Naming

@@ -3,6 +3,8 @@
 #![tactic(auto)]
 
 mod laws;
+mod maps;
+mod naming;
 mod table;
 
 pub use laws::{dispatch_laws, token_laws};
