@@ -7,4 +7,5 @@ pub mod Sent
 pub mod Asked
 pub mod Worlds
 pub mod Numbers
-pub mod Naming
+pub mod SlotNames
+pub mod MapPlaces

@@ -29,10 +29,14 @@ fn own_at<'w>(class: Known<'w, '_>, place: usize) -> Option<Slot<'w>>
 }
 
 /// The methods that are added to the class of a method.
+#[tactic(auto, using(crate::proofs::SlotNames::ids_past))]
 fn ids_at<'w>(world: &'w World<'_>, found: Found) -> &'w [MemberId]
     ensures { result.now ≡ ids_at world.now found }
 {
-    if !found.imported && (found.class as usize) < world.classes().items().len() {
+    if found.imported {
+        return &[];
+    }
+    if (found.class as usize) < world.classes().items().len() {
         world.added(found.class).items()
     } else {
         &[]

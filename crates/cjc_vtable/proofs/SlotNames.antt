@@ -1,7 +1,7 @@
 -- The methods that the tokens of a class mean have the names and descriptors of its slots.
-use Rattle.std.proofs.Common.{◌≡◌, ℕ, zero, suc, ◌+◌, ◌-◌, ◌<◌, ◌≤◌, refl, sym, ap, subst, ◌∙◌, arith, Bool, true, false, List, [], ◌∷◌, ◌++◌, length, map, inl, inr, ⊎_elim}
+use Rattle.std.proofs.Common.{◌≡◌, ℕ, zero, suc, ◌+◌, ◌-◌, ◌<◌, ◌≤◌, refl, sym, ap, subst, ◌∙◌, arith, Bool, true, false, List, [], ◌∷◌, ◌++◌, length, map, get_or, inl, inr, ⊎_elim}
 use Rattle.std.specs.Prelude.{Option, Some, None, if◌then◌else◌, slice_get, option_map, option_and_then, position, nat_lt, ◌&&◌, ◌||◌, ◌⊎◌}
-use Rattle.std.proofs.lemmas.Option.{slice_get-map}
+use Rattle.std.proofs.lemmas.Option.{slice_get-map, slice_get_past}
 use Rattle.cjc_bytes.specs.declared.fault.MemberId.{MemberId}
 use Rattle.cjc_classfile.specs.declared.tree.ClassTree.{ClassTree}
 use Rattle.cjc_world.specs.declared.found.Found.{Found}
@@ -253,6 +253,10 @@ added-none : (w : List Class) (c : Class) → c.is_imported ≡ true → added w
 unfolding added
 added-none w c e = grind arith
 
+pub ids_past : (files : Files) (n : ℕ) → length files.classes ≤ n → added_at files n ≡ []
+unfolding added_at
+ids_past files n le = ap (added_to (all_classes files) n) (slice_get_past files.classes n le)
+
 pub ids-added : (files : Files) (f : Found) (c : Class) → class_at (all_classes files) f.imported f.class ≡ Some c → map signature_by (ids_at files f) ≡ map signature_of (added (all_classes files) c)
 unfolding added_at
 ids-added files f c there = by f.imported refl
@@ -289,3 +293,32 @@ added-place files f c place there le =
     ∙ sym (slice_get-map signature_of (added w c) (place - length c.methods))
     ∙ ap (λ q. slice_get q (place - length c.methods)) (sym (ids-added files f c there))
     ∙ slice_get-map signature_by (ids_at files f) (place - length c.methods)
+
+signature : List ℕ → List ℕ → Signature
+signature n d = record { name = n; desc = d }
+
+-- a class's own method by its name and descriptor
+pub own-member : (ms : List Member) (i : ℕ) (name desc : List ℕ) → i < length ms → ((d : Member) → name ≡ (get_or ms i d).name) → ((d : Member) → desc ≡ (get_or ms i d).desc) → Some (record { name = name; desc = desc }) ≡ option_map signature_of (slice_get ms i)
+unfolding signature
+own-member [] i name desc lt e f = absurd (omega arith)
+own-member (m ∷ ms) zero name desc lt e f = ap (λ n. Some (signature n desc)) (e m) ∙ ap (λ d. Some (signature m.name d)) (f m)
+own-member (m ∷ ms) (suc i) name desc lt e f = own-member ms i name desc (omega arith) (λ d. e d) (λ d. f d)
+
+pub own-past : (ms : List Member) (i : ℕ) → length ms ≤ i → None ≡ option_map signature_of (slice_get ms i)
+own-past ms i le = sym (ap (option_map signature_of) (slice_get_past ms i le))
+
+-- ---- a method is one of its class
+
+pub named-in : (w : List Class) (f : Found) (c : Class) → class_at w f.imported f.class ≡ Some c → named w f ≡ member_named w f.member c
+unfolding named
+named-in w f c e = ap (option_and_then (member_named w f.member)) e
+
+pub named-nowhere : (w : List Class) (f : Found) → class_at w f.imported f.class ≡ None → named w f ≡ None
+unfolding named
+named-nowhere w f e = ap (option_and_then (member_named w f.member)) e
+
+pub named-field : (w : List Class) (member : ℕ) (c : Class) → member < length c.fields → member_named w member c ≡ None
+named-field w member c lt = let is : nat_lt member (length c.fields) ≡ true = grind arith in ap (λ b. if b then None else method_named w c (member - length c.fields)) is
+
+pub named-method : (w : List Class) (member : ℕ) (c : Class) → length c.fields ≤ member → member_named w member c ≡ method_named w c (member - length c.fields)
+named-method w member c le = let is : nat_lt member (length c.fields) ≡ false = grind arith in ap (λ b. if b then None else method_named w c (member - length c.fields)) is
