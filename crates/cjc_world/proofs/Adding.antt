@@ -104,11 +104,11 @@ module _ (w : List Class) (rows : List (Option Above)) (table : IsTable w rows) 
   is-tree : (xs : List (List ℕ)) (k : Kin) → IsKin w xs k → k ≡ kin w xs
   is-tree xs k h = IsKin-one w xs k (kin w xs) h (kin-IsKin w table.acyclic xs)
 
-  line-above : (c : Class) → joined [] (pieces w orders.Line false rows c.supers) ≡ joined [] (places_of w (upwards (kin w c.supers)))
+  pub line-above : (c : Class) → joined [] (pieces w orders.Line false rows c.supers) ≡ joined [] (places_of w (upwards (kin w c.supers)))
   unfolding Alike
   line-above c = let g = grove w rows right c.supers (all-ready c.supers) in g.lines [] ∙ ap (λ k. joined [] (places_of w (upwards k))) (is-tree c.supers g.tree g.is_kin)
 
-  interfaces-of : (c : Class) → (above_at w rows 0 c).interfaces ≡ joined [] (places_of w (known (gathered false (kin w c.supers) ++ gathered true (kin w c.interfaces))))
+  pub interfaces-of : (c : Class) → (above_at w rows 0 c).interfaces ≡ joined [] (places_of w (known (gathered false (kin w c.supers) ++ gathered true (kin w c.interfaces))))
   unfolding Alike above_at
   interfaces-of c =
       let s = grove w rows right c.supers (all-ready c.supers) in

@@ -26,7 +26,7 @@ or-right : (a b : Bool) → b ≡ true → (a || b) ≡ true
 or-right true b e = refl
 or-right false b e = e
 
-same-refl : (q : ℕ) → (q == q) ≡ true
+pub same-refl : (q : ℕ) → (q == q) ≡ true
 same-refl q = grind (arith, nat_tests)
 
 pub same-true : (q p : ℕ) → (q == p) ≡ true → q ≡ p

@@ -25,3 +25,4 @@ pub mod Adding
 pub mod Gets
 pub mod Walked
 pub mod Stepping
+pub mod Once

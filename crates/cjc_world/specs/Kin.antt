@@ -1,6 +1,6 @@
 -- What stands above the classes of a world (Java Virtual Machine Specification, section 5.4): superclasses and
 -- superinterfaces over steps, as a relation and as a tree.
-use Rattle.std.specs.Prelude.{◌≡◌, ℕ, zero, suc, List, [], ◌∷◌, ◌++◌, length, Bool, true, false, ◌||◌, Option, Some, None}
+use Rattle.std.specs.Prelude.{◌≡◌, ℕ, zero, suc, List, [], ◌∷◌, ◌++◌, length, Bool, true, false, ◌||◌, if◌then◌else◌, Option, Some, None}
 use Rattle.std.specs.List.{list_any}
 use Rattle.std.specs.Str.{bytes_eq}
 use Rattle.cjc_world.specs.Classes.{Class, class_named}
@@ -75,6 +75,14 @@ abbrev pub upwards : Kin → List Class
 upwards End = []
 upwards (Unknown name next) = upwards next
 upwards (Known c supers interfaces next) = c ∷ upwards supers ++ upwards next
+
+abbrev pub is_one_named : List Class → List ℕ → Bool
+is_one_named cs name = list_any (λ c. bytes_eq c.name name) cs
+
+-- each class once by its name, where it stands first
+abbrev pub once : List Class → List Class → List Class
+once seen [] = []
+once seen (c ∷ cs) = if is_one_named seen c.name then once seen cs else c ∷ once (seen ++ c ∷ []) cs
 
 -- the class of a name and its superclasses
 unfoldable pub line : List Class → List ℕ → List Class

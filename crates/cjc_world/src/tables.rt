@@ -149,7 +149,7 @@ impl<'a> Roster<'a> {
         &self,
         alloc: Global,
         rows: &[Option<Above>],
-        class: Known<'_, 'a>,
+        class: Known<'_, '_>,
     ) -> Result<Row<u32>, NoMemory>
         ensures { IfOk result (λ places. places ≡ (above_at (all_classes self.now) rows.now 0 (class_of class.entry)).interfaces) }
     {
@@ -170,7 +170,7 @@ impl<'a> Roster<'a> {
         &self,
         alloc: Global,
         rows: &[Option<Above>],
-        class: Known<'_, 'a>,
+        class: Known<'_, '_>,
     ) -> Result<Row<u32>, NoMemory>
         ensures { IfOk result (λ places. places ≡ joined [] (pieces (all_classes self.now) orders.Line false rows.now (class_of class.entry).supers)) }
     {

@@ -1,12 +1,14 @@
 //! The world of a package, and look-up in it. Nothing here takes memory but `new`.
 
-ghost use Rattle.std.specs.Prelude.{◌≡◌, ◌<◌, [], length, option_map, IfSome, IfOk, IfErr, OnOk};
+ghost use Rattle.std.specs.Prelude.{◌≡◌, ◌<◌, [], ◌++◌, true, false, length, slice_get, option_map, IfSome, IfOk, IfErr, OnOk};
 ghost use Rattle.cjc_world.specs.Classes.{all_classes, class_at, class_named};
 ghost use Rattle.cjc_world.specs.Files.{files_of};
 ghost use Rattle.cjc_world.specs.Rules.{breaks, IsFirstRefusal};
 ghost use Rattle.cjc_world.specs.Added.{added_at};
-ghost use Rattle.cjc_world.specs.Kin.{is_below};
+ghost use Rattle.cjc_world.specs.Kin.{is_below, kin, once, upwards};
+ghost use Rattle.cjc_world.specs.Interfaces.{each_once, gathered, known};
 ghost use Rattle.cjc_world.specs.Known.{class_of};
+ghost use Rattle.cjc_world.specs.Places.{at_places};
 ghost use Rattle.cjc_world.specs.Spots.{IsCounted};
 ghost use Rattle.cjc_world.specs.Subtype.{element, inner, is_element, is_subclass, is_subtype, starts};
 ghost use Rattle.cjc_world.specs.Tables.{IsTable};
@@ -17,7 +19,7 @@ use crate::draft::{Draft, Kept, Tables};
 use crate::found::Found;
 use crate::roster::Roster;
 use crate::tables::Above;
-use cjc_bytes::{Fault, FileLine, MemberId, Row};
+use cjc_bytes::{Fault, FileLine, MemberId, NoMemory, Row};
 use cjc_classfile::ClassTree;
 use cjc_export::ExportTree;
 use std::alloc::Global;
@@ -113,6 +115,31 @@ impl<'a> World<'a> {
         ensures counted { IfSome result (λ k. IsCounted (class_of k)) }
     {
         self.roster.class_at(imported, class)
+    }
+
+    /// The class at a place in the order of the list.
+    pub fn class_in(&self, place: u32) -> Option<Known<'_, 'a>>
+        ensures at { option_map class_of result ≡ slice_get (all_classes self.now) place }
+        ensures counted { IfSome result (λ k. IsCounted (class_of k)) }
+    {
+        self.roster.class_in(place)
+    }
+
+    /// The interfaces of a class that some file has, in order, each once, as places in the order of the list.
+    pub fn interfaces(&self, alloc: Global, class: Known<'_, '_>) -> Result<Row<u32>, NoMemory>
+        ensures { IfOk result (λ places. at_places (all_classes self.now) places ≡ known (each_once [] (gathered false (kin (all_classes self.now) (class_of class.entry).supers) ++ gathered true (kin (all_classes self.now) (class_of class.entry).interfaces)))) }
+    {
+        let places = self.roster.interfaces(alloc, self.rows(), class)?;
+        Ok(places)
+    }
+
+    /// The superclasses of a class going upwards, of an imported class the supers that its file lists in the order
+    /// of the file, each once, as places in the order of the list.
+    pub fn superclasses(&self, alloc: Global, class: Known<'_, '_>) -> Result<Row<u32>, NoMemory>
+        ensures { IfOk result (λ places. at_places (all_classes self.now) places ≡ once [] (upwards (kin (all_classes self.now) (class_of class.entry).supers))) }
+    {
+        let places = self.roster.line_above(alloc, self.rows(), class)?;
+        Ok(places)
     }
 
     /// The methods that a class of the package gets from its interfaces, in their order, by the name of that class.
