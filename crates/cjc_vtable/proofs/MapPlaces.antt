@@ -1,31 +1,37 @@
--- The maps of the interfaces at some places.
+-- The maps of the interfaces at some places, and the places of a class's interfaces.
 use Rattle.std.proofs.Common.{◌≡◌, ℕ, suc, ◌+◌, ◌<◌, ◌≤◌, refl, sym, ap, ◌∙◌, arith, List, [], ◌∷◌, ◌++◌, length, map, drop, get_or, add-one, append_assoc, append-nil}
 use Rattle.std.proofs.Math.Seq.{drop-cons}
 use Rattle.std.proofs.lemmas.Grind.{common_steps}
-use Rattle.std.specs.Prelude.{Option, Some, None, slice_get, option_to_list}
+use Rattle.std.proofs.lemmas.List.{map-append}
+use Rattle.std.specs.Prelude.{true, false, slice_get, option_to_list}
 use Rattle.cjc_world.specs.Classes.{Class}
+use Rattle.cjc_world.specs.Interfaces.{each_once, gathered, known}
+use Rattle.cjc_world.specs.Kin.{kin}
 use Rattle.cjc_world.specs.Places.{at_places}
+use Rattle.cjc_tokens.specs.Methods.{interfaces_at}
 use Rattle.cjc_vtable.specs.declared.table.InterfaceMap.{InterfaceMap}
 
 module _ (f : Class → InterfaceMap) (w : List Class) (places : List ℕ) (maps all : List InterfaceMap) where
-  one_place : (i : ℕ) → i < length places → (o : Option Class) → slice_get w (get_or places i 0) ≡ o → at_places w (drop i places) ≡ option_to_list o ++ at_places w (drop (i + 1) places)
+  one_place : (i : ℕ) → i < length places → at_places w (drop i places) ≡ option_to_list (slice_get w (get_or places i 0)) ++ at_places w (drop (i + 1) places)
   unfolding at_places
-  one_place i lt o e =
-      ap (at_places w) (drop-cons places i 0 lt)
-      ∙ ap (λ q. option_to_list q ++ at_places w (drop (suc i) places)) e
-      ∙ ap (λ n. option_to_list o ++ at_places w (drop n places)) (sym (add-one i))
+  one_place i lt = ap (at_places w) (drop-cons places i 0 lt) ∙ ap (λ n. option_to_list (slice_get w (get_or places i 0)) ++ at_places w (drop n places)) (sym (add-one i))
 
-  pub maps-next : (i : ℕ) (c : Class) → i < length places → slice_get w (get_or places i 0) ≡ Some c → maps ++ map f (at_places w (drop i places)) ≡ all → (maps ++ f c ∷ []) ++ map f (at_places w (drop (i + 1) places)) ≡ all
-  maps-next i c lt e inv =
-      append_assoc maps (f c ∷ []) (map f (at_places w (drop (i + 1) places)))
-      ∙ ap (λ q. maps ++ map f q) (sym (one_place i lt (Some c) e))
+  pub maps-next : (i : ℕ) (more : List InterfaceMap) → i < length places → more ≡ maps ++ map f (option_to_list (slice_get w (get_or places i 0))) → maps ++ map f (at_places w (drop i places)) ≡ all → more ++ map f (at_places w (drop (i + 1) places)) ≡ all
+  maps-next i more lt e inv =
+      let here = option_to_list (slice_get w (get_or places i 0)) in
+      let rest = at_places w (drop (i + 1) places) in
+      ap (λ q. q ++ map f rest) e
+      ∙ append_assoc maps (map f here) (map f rest)
+      ∙ ap (λ q. maps ++ q) (sym (map-append f here rest))
+      ∙ ap (λ q. maps ++ map f q) (sym (one_place i lt))
       ∙ inv
-
-  pub maps-passed : (i : ℕ) → i < length places → slice_get w (get_or places i 0) ≡ None → maps ++ map f (at_places w (drop i places)) ≡ all → maps ++ map f (at_places w (drop (i + 1) places)) ≡ all
-  maps-passed i lt e inv = ap (λ q. maps ++ map f q) (sym (one_place i lt None e)) ∙ inv
 
   pub maps-end : (i : ℕ) → length places ≤ i → maps ++ map f (at_places w (drop i places)) ≡ all → maps ≡ all
   unfolding at_places
   maps-end i le inv =
       let past : drop i places ≡ [] = grind (arith, common_steps) in
       sym (append-nil maps) ∙ ap (λ q. maps ++ map f (at_places w q)) (sym past) ∙ inv
+
+pub interfaces-are : (w : List Class) (c : Class) → known (each_once [] (gathered false (kin w c.supers) ++ gathered true (kin w c.interfaces))) ≡ known (interfaces_at w c)
+unfolding interfaces_at
+interfaces-are w c = refl

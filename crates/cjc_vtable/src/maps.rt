@@ -1,6 +1,6 @@
 //! The interface maps of a class (Java Card Virtual Machine Specification 2.2.2, section 6.8).
 
-ghost use Rattle.std.specs.Prelude.{◌≡◌, ◌<◌, ◌×◌, ℕ, Bool, false, length, map, option_map, position, slice_get, IfOk, Some};
+ghost use Rattle.std.specs.Prelude.{◌≡◌, ◌×◌, ◌++◌, Bool, false, map, option_map, option_to_list, position, slice_get, IfOk, OnOk, Some};
 ghost use Rattle.cjc_classfile.specs.declared.tree.ClassTree.{ClassTree as Tree};
 ghost use Rattle.cjc_world.specs.Classes.{all_classes, declared, is_interface};
 ghost use Rattle.cjc_world.specs.Interfaces.{known};
@@ -99,6 +99,26 @@ fn interface_map<'w>(
     Ok(InterfaceMap { interface, index })
 }
 
+/// Puts the map of the interface at a place at the end.
+fn put_map(
+    alloc: Global,
+    world: &World<'_>,
+    row: &[Option<Slot<'_>>],
+    place: u32,
+    maps: &mut Row<InterfaceMap>,
+) -> Result<(), NoMemory>
+    requires { IsAcyclic (all_classes world.now) }
+    ensures { OnOk result (maps.new ≡ maps.old ++ map (interface_map (all_classes world.now) (signs row.now)) (option_to_list (slice_get (all_classes world.now) place))) }
+{
+    match world.class_in(place) {
+        None => Ok(()),
+        Some(interface) => {
+            let map = interface_map(alloc, world, row, interface)?;
+            maps.push(map)
+        }
+    }
+}
+
 /// The maps of the interfaces at these places.
 fn maps_at(
     alloc: Global,
@@ -109,13 +129,11 @@ fn maps_at(
     requires { IsAcyclic (all_classes world.now) }
     ensures { IfOk result (λ maps. maps ≡ map (interface_map (all_classes world.now) (signs row.now)) (at_places (all_classes world.now) places.now)) }
 {
-    let mut maps = Vec::new(alloc);
+    let mut maps = Row::new(alloc);
     for place in places {
-        if let Some(interface) = world.class_in(*place) {
-            maps.push(interface_map(alloc, world, row, interface)?)?;
-        }
+        put_map(alloc, world, row, *place, &mut maps)?;
     }
-    Ok(Row::of(maps))
+    Ok(maps)
 }
 
 /// The slots of a class of the package that is no interface, by token.
@@ -133,10 +151,10 @@ fn slots_of<'w>(
     ensures { IfOk result (λ row. signs row.items ≡ slots (line_at (all_classes world.now) (class_of class.entry))) }
 {
     lookup_laws();
-    if world.class_at(false, number).is_none() {
-        return Err(NoMemory);
+    match world.class_at(false, number) {
+        None => Err(NoMemory),
+        Some(_) => named_row(alloc, world, tokens.public_methods(number)),
     }
-    named_row(alloc, world, tokens.public_methods(number))
 }
 
 /// The interface maps of a class of the package that is no interface, in the order of its interfaces.
@@ -148,7 +166,6 @@ pub(crate) fn interface_maps<'a>(
     number: u32,
 ) -> Result<Row<InterfaceMap>, NoMemory>
     requires acyclic { IsAcyclic (all_classes world.now) }
-    requires number { number < length world.now.classes }
     requires class { (tree : Tree) → slice_get world.now.classes number ≡ Some tree → class_of class ≡ declared number tree }
     requires plain { is_interface (class_of class).flags ≡ false }
     requires tokens { (applets : Bool) × (tokens.now ≡ assigned applets world.now) }
