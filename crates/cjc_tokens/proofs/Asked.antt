@@ -1,12 +1,11 @@
 -- The methods of interfaces, in turn.
 use Rattle.std.proofs.Common.{◌≡◌, ℕ, zero, suc, ◌+◌, ◌-◌, ◌<◌, ◌≤◌, refl, sym, ap, ◌∙◌, Bool, true, false, List, [], ◌∷◌, ◌++◌, append_assoc, append-nil, length, drop, get_or, arith, Bor}
 use Rattle.std.specs.Prelude.{map, Option, Some, None, option_map, option_to_list, position, ◌==◌, if◌then◌else◌}
-use Rattle.std.specs.Str.{bytes_eq}
 use Rattle.cjc_classfile.specs.declared.tree.MethodTree.{MethodTree}
 use Rattle.cjc_export.specs.declared.tree.ExportMethod.{ExportMethod}
-use Rattle.cjc_world.specs.Classes.{Member, Class, class_named, method_of_class, method_of_export}
-use Rattle.cjc_world.specs.Kin.{Kin, End, Unknown, Known, kin, known_as, in_a_row, grown, IsKin, known_here, unknown_here}
-use Rattle.cjc_world.specs.Interfaces.{Interface, where_listed, gathered, known}
+use Rattle.cjc_world.specs.Classes.{Member, Class, method_of_class, method_of_export}
+use Rattle.cjc_world.specs.Kin.{kin}
+use Rattle.cjc_world.specs.Interfaces.{Interface, gathered, known}
 use Rattle.cjc_world.specs.Added.{asked_by, by_token, with_token, methods_of, own_methods, without_initialiser}
 use Rattle.std.proofs.lemmas.List.{length-map}
 use Rattle.cjc_classfile.specs.declared.tree.ClassTree.{ClassTree}
@@ -17,10 +16,10 @@ use Rattle.cjc_world.specs.Known.{class_of}
 use Rattle.cjc_tokens.specs.Methods.{interface_methods}
 use Rattle.cjc_tokens.specs.Members.{Signature, signature_of, is_initialiser}
 use Rattle.cjc_tokens.specs.Slots.{Slots, new_in, with_new}
-use Rattle.cjc_tokens.specs.Working.{above_where, asked, listed_method, own_where}
+use Rattle.cjc_tokens.specs.Working.{above_where, asked, listed_method}
 use Rattle.cjc_tokens.proofs.Facts.{position-cons}
 use Rattle.cjc_tokens.proofs.Offers.{map_append, offer-next, offer-end, with_new-append}
-use Rattle.cjc_tokens.proofs.Walks.{drop-next, drop-past, kin-known}
+use Rattle.cjc_tokens.proofs.Walks.{drop-next, drop-past}
 
 -- ---- one method more
 
@@ -98,7 +97,7 @@ by_token-end all whole ms n t le inv =
 
 -- ---- interfaces in turn
 
-known-append : (is js : List Interface) → known (is ++ js) ≡ known is ++ known js
+pub known-append : (is js : List Interface) → known (is ++ js) ≡ known is ++ known js
 unfolding known
 known-append [] js = refl
 known-append (i ∷ is) js = by i.class (known-append is js)
@@ -113,68 +112,15 @@ methods_of-append [] b = refl
 methods_of-append (c ∷ a) b = ap (λ q. own_methods c ++ q) (methods_of-append a b) ∙ sym (append_assoc (own_methods c) (methods_of a) (methods_of b))
 
 -- of some interfaces
-of : List Interface → List Signature
+unfoldable pub of : List Interface → List Signature
 of is = map signature_of (methods_of (known is))
 
-of-append : (is js : List Interface) → of (is ++ js) ≡ of is ++ of js
+pub of-append : (is js : List Interface) → of (is ++ js) ≡ of is ++ of js
 unfolding of
 of-append is js =
     ap (λ q. map signature_of (methods_of q)) (known-append is js)
     ∙ ap (map signature_of) (methods_of-append (known is) (known js))
     ∙ map_append signature_of (methods_of (known is)) (methods_of (known js))
-
-pub asked-nil : (w : List Class) (listed : Bool) → asked listed (kin w []) ≡ []
-unfolding kin grown gathered known methods_of
-asked-nil w listed = refl
-
-module _ (w : List Class) (is_kin : (xs : List (List ℕ)) → IsKin w xs (kin w xs)) (one_kin : (xs : List (List ℕ)) (j k : Kin) → IsKin w xs j → IsKin w xs k → j ≡ k) where
-  pub kin-row : (x : List ℕ) (xs : List (List ℕ)) (c : Class) → class_named w x ≡ Some c → kin w (x ∷ xs) ≡ Known c (kin w c.supers) (kin w c.interfaces) (kin w xs)
-  kin-row x xs c e = one_kin (x ∷ xs) (kin w (x ∷ xs)) (Known c (kin w c.supers) (kin w c.interfaces) (kin w xs)) (is_kin (x ∷ xs)) (known_here e (is_kin c.supers) (is_kin c.interfaces) (is_kin xs))
-
-  pub kin-row_unknown : (x : List ℕ) (xs : List (List ℕ)) → class_named w x ≡ None → kin w (x ∷ xs) ≡ Unknown x (kin w xs)
-  kin-row_unknown x xs e = one_kin (x ∷ xs) (kin w (x ∷ xs)) (Unknown x (kin w xs)) (is_kin (x ∷ xs)) (unknown_here e (is_kin xs))
-
-  asked-unknown : (listed : Bool) (x : List ℕ) (xs : List (List ℕ)) → class_named w x ≡ None → asked listed (kin w (x ∷ xs)) ≡ asked listed (kin w xs)
-  unfolding gathered known methods_of
-  asked-unknown listed x xs e = ap (asked listed) (kin-row_unknown x xs e) ∙ by listed
-    where
-      by : (l : Bool) → map signature_of (methods_of (known (where_listed l (record { name = x; class = None }) ++ gathered listed (kin w xs)))) ≡ map signature_of (methods_of (known (gathered listed (kin w xs))))
-      by true = refl
-      by false = refl
-
-  asked-known : (listed : Bool) (x : List ℕ) (xs : List (List ℕ)) (c : Class) → class_named w x ≡ Some c → asked listed (kin w (x ∷ xs)) ≡ asked false (kin w c.supers) ++ asked true (kin w c.interfaces) ++ own_where listed c ++ asked listed (kin w xs)
-  unfolding gathered known methods_of of
-  asked-known listed x xs c e =
-      ap (asked listed) (kin-row x xs c e)
-      ∙ of-append (gathered false (kin w c.supers) ++ gathered true (kin w c.interfaces) ++ where_listed listed (record { name = c.name; class = Some c })) (gathered listed (kin w xs))
-      ∙ ap (λ q. q ++ asked listed (kin w xs)) (of-append (gathered false (kin w c.supers) ++ gathered true (kin w c.interfaces)) (where_listed listed (record { name = c.name; class = Some c })))
-      ∙ ap (λ q. q ++ of (where_listed listed (record { name = c.name; class = Some c })) ++ asked listed (kin w xs)) (of-append (gathered false (kin w c.supers)) (gathered true (kin w c.interfaces)))
-      ∙ ap (λ q. asked false (kin w c.supers) ++ asked true (kin w c.interfaces) ++ q ++ asked listed (kin w xs)) (by listed)
-    where
-      by : (l : Bool) → map signature_of (methods_of (known (where_listed l (record { name = c.name; class = Some c })))) ≡ (if l then map signature_of (own_methods c) else [])
-      by true = ap (map signature_of) (append-nil (own_methods c))
-      by false = refl
-
-  pub asked-skip : (listed : Bool) (all whole : Slots) (xs : List (List ℕ)) (i : ℕ) (x : List ℕ) → i < length xs → x ≡ get_or xs i x → class_named w x ≡ None → with_new all (asked listed (kin w (drop i xs))) ≡ whole → with_new all (asked listed (kin w (drop (i + 1) xs))) ≡ whole
-  asked-skip listed all whole xs i x lt is e inv =
-      ap (with_new all) (sym (asked-unknown listed x (drop (i + 1) xs) e)) ∙ ap (λ q. with_new all (asked listed (kin w q))) (sym (drop-next xs i x lt is)) ∙ inv
-
-  pub asked-next : (listed : Bool) (all one two three whole : Slots) (xs : List (List ℕ)) (i : ℕ) (x : List ℕ) (c : Class) → i < length xs → x ≡ get_or xs i x → class_named w x ≡ Some c
-      → one ≡ with_new all (asked false (kin w c.supers)) → two ≡ with_new one (asked true (kin w c.interfaces)) → three ≡ with_new two (own_where listed c)
-      → with_new all (asked listed (kin w (drop i xs))) ≡ whole → with_new three (asked listed (kin w (drop (i + 1) xs))) ≡ whole
-  asked-next listed all one two three whole xs i x c lt is e p q r inv =
-      let rest = asked listed (kin w (drop (i + 1) xs)) in
-      let A = asked false (kin w c.supers) in
-      let B = asked true (kin w c.interfaces) in
-      let O = own_where listed c in
-      offer-next two three whole O rest r
-      (offer-next one two whole B (O ++ rest) q
-      (offer-next all one whole A (B ++ (O ++ rest)) p
-      (ap (with_new all) (sym (append_assoc A B (O ++ rest)) ∙ sym (append_assoc (A ++ B) O rest) ∙ sym (asked-known listed x (drop (i + 1) xs) c e))
-      ∙ ap (λ q. with_new all (asked listed (kin w q))) (sym (drop-next xs i x lt is)) ∙ inv)))
-
-  pub asked-end : (listed : Bool) (all whole : Slots) (xs : List (List ℕ)) (i : ℕ) → length xs ≤ i → with_new all (asked listed (kin w (drop i xs))) ≡ whole → all ≡ whole
-  asked-end listed all whole xs i le inv = sym (offer-end all) ∙ ap (with_new all) (sym (asked-nil w listed)) ∙ ap (λ q. with_new all (asked listed (kin w q))) (sym (drop-past xs i le)) ∙ inv
 
 -- the method of a token
 pub token-asked : (ms : List ExportMethod) (t i : ℕ) (m : ExportMethod) (name desc : List ℕ) → position (λ n. n.token == t) ms ≡ Some i → m ≡ get_or ms i m → name ≡ m.name → desc ≡ m.desc → listed_method name desc ≡ map signature_of (without_initialiser (with_token t (map method_of_export ms)))

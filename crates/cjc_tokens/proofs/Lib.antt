@@ -9,6 +9,7 @@ pub mod Supers
 pub mod Sums
 pub mod Counts
 pub mod Asked
+pub mod Once
 pub mod Classes
 pub mod Signs
 pub mod Assigns

@@ -1,6 +1,6 @@
 -- The line of a superclass.
 use Rattle.std.proofs.Common.{◌≡◌, ℕ, ◌+◌, refl, sym, ap, subst, ◌∙◌, Bool, true, false, List, [], ◌∷◌, ◌++◌, inl, inr, ⊎_elim, set}
-use Rattle.std.specs.Prelude.{map, Option, Some, None, ◌⊎◌, if◌then◌else◌, slice_get}
+use Rattle.std.specs.Prelude.{Option, Some, None, ◌⊎◌, if◌then◌else◌, slice_get}
 use Rattle.std.specs.Str.{bytes_eq}
 use Rattle.cjc_bytes.specs.declared.settings.FileLine.{FileLine}
 use Rattle.cjc_classfile.specs.declared.tree.ClassTree.{ClassTree}
@@ -8,13 +8,12 @@ use Rattle.cjc_export.specs.declared.tree.ExportClass.{ExportClass}
 use Rattle.cjc_export.specs.declared.tree.ExportTree.{ExportTree}
 use Rattle.cjc_world.specs.Files.{Files}
 use Rattle.cjc_world.specs.Classes.{Class, declared, imported, numbered, size, of_class_file, of_export_file, classes_from, all_classes, class_named}
-use Rattle.cjc_world.specs.Kin.{Kin, End, Known, kin, IsKin, upwards}
+use Rattle.cjc_world.specs.Kin.{Kin, kin, IsKin, upwards}
 use Rattle.cjc_world.specs.Added.{added}
 use Rattle.cjc_tokens.specs.declared.slot.Rows.{Rows}
-use Rattle.cjc_tokens.specs.Lines.{Line, Nowhere, Imported, Declared, line_in, line_at, line_of}
-use Rattle.cjc_tokens.specs.Slots.{slots, hidden_slots, row, hidden_row}
+use Rattle.cjc_tokens.specs.Lines.{Line, Imported, Declared, line_in, line_at}
 use Rattle.cjc_tokens.specs.Working.{AreRowsOf, IsKept, SameRows, methods_in, signs}
-use Rattle.cjc_tokens.proofs.Walks.{slice_get-set, kin-known, kin-unknown, upwards-known}
+use Rattle.cjc_tokens.proofs.Walks.{slice_get-set, kin-known, kin-unknown}
 
 -- ---- a class of the package is the tree at its number
 
@@ -102,11 +101,10 @@ module _ (files : Files) (is_kin : (xs : List (List ℕ)) → IsKin (all_classes
       let a = class_at-number files x (declared n t) e refl in
       subst (λ (q : Line). AreRowsOf q s) (sym (line-known x (declared n t) e ∙ ap (line_at (all_classes files)) a.2)) (same-rows (line_at (all_classes files) (declared n a.0)) r s (k n a.0 r a.1 g) same)
 
-  pub super-imported : (x : List ℕ) (d : Class) (classes : List Class) (s : Rows) → class_named (all_classes files) x ≡ Some d → d.is_imported ≡ true → classes ≡ upwards (kin (all_classes files) (x ∷ [])) → AreRowsOf (Imported classes) s → AreRowsOf (line_in (all_classes files) (kin (all_classes files) (x ∷ []))) s
-  super-imported x d classes s e im is a =
+  pub super-imported : (x : List ℕ) (d : Class) (s : Rows) → class_named (all_classes files) x ≡ Some d → d.is_imported ≡ true → AreRowsOf (Imported (d ∷ upwards (kin (all_classes files) d.supers))) s → AreRowsOf (line_in (all_classes files) (kin (all_classes files) (x ∷ []))) s
+  super-imported x d s e im a =
       subst (λ (q : Line). AreRowsOf q s)
-      (ap (λ q. Imported q) (is ∙ upwards-known (all_classes files) is_kin one_kin x d e)
-      ∙ sym (line-known x d e ∙ ap (λ b. if b then Imported (d ∷ upwards (kin (all_classes files) d.supers)) else Declared d (added (all_classes files) d) (line_in (all_classes files) (kin (all_classes files) d.supers))) im)) a
+      (sym (line-known x d e ∙ ap (λ b. if b then Imported (d ∷ upwards (kin (all_classes files) d.supers)) else Declared d (added (all_classes files) d) (line_in (all_classes files) (kin (all_classes files) d.supers))) im)) a
 
 -- one class more has its rows
 pub kept-set : (w : List Class) (trees : List ClassTree) (kept : List (Option Rows)) (i : ℕ) (r : Rows) → IsKept w trees kept → ((c : ClassTree) → slice_get trees i ≡ Some c → AreRowsOf (line_at w (declared i c)) r) → IsKept w trees (set kept i (Some r))

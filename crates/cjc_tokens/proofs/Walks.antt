@@ -1,12 +1,12 @@
 -- Walks over classes, one further.
-use Rattle.std.proofs.Common.{◌≡◌, ℕ, zero, suc, ◌+◌, ◌<◌, ◌≤◌, refl, sym, ap, ◌∙◌, inl, inr, ⊎_elim, set, List, [], ◌∷◌, ◌++◌, length, drop, get_or, add-one, arith, append_assoc, append-nil}
+use Rattle.std.proofs.Common.{◌≡◌, ℕ, zero, suc, ◌+◌, ◌<◌, ◌≤◌, refl, sym, ap, ◌∙◌, inl, inr, ⊎_elim, set, List, [], ◌∷◌, length, drop, get_or, add-one, arith}
 use Rattle.std.proofs.Math.Seq.{drop-cons}
 use Rattle.std.proofs.lemmas.Grind.{common_steps}
 use Rattle.std.specs.Prelude.{map, slice_get, ◌⊎◌, Option, Some, None}
 use Rattle.cjc_world.specs.declared.found.Found.{Found}
 use Rattle.cjc_world.specs.declared.class.Known.{Known as AnyClass}
 use Rattle.cjc_world.specs.Classes.{Class, class_named}
-use Rattle.cjc_world.specs.Kin.{Kin, End, Unknown, Known, kin, known_as, in_a_row, grown, IsKin, ends, unknown_here, known_here, upwards}
+use Rattle.cjc_world.specs.Kin.{Kin, End, Unknown, Known, kin, IsKin, ends, unknown_here, known_here}
 use Rattle.cjc_world.specs.Known.{class_of}
 use Rattle.cjc_world.specs.Lookup.{first, or_else}
 
@@ -32,23 +32,7 @@ pub first-ended : (f : Class → Option Found) (cs : List AnyClass) (i : ℕ) �
 unfolding first
 first-ended f cs i le inv = sym (ap (λ q. first f (map class_of q)) (drop-past cs i le)) ∙ inv
 
--- ---- going upwards from some names: from the first, then from the others
-
-pub upwards-row : (w : List Class) (x : List ℕ) (xs : List (List ℕ)) → upwards (kin w (x ∷ xs)) ≡ upwards (kin w (x ∷ [])) ++ upwards (kin w xs)
-unfolding kin grown
-upwards-row w x xs = by (class_named w x)
-  where
-    by : (o : Option Class) → upwards (known_as (grown w (length w)) x o (in_a_row w (grown w (length w)) xs)) ≡ upwards (known_as (grown w (length w)) x o End) ++ upwards (in_a_row w (grown w (length w)) xs)
-    by None = refl
-    by (Some c) = ap (λ q. c ∷ q ++ upwards (in_a_row w (grown w (length w)) xs)) (sym (append-nil (upwards (grown w (length w) c.supers))))
-
-pub upwards-none : (w : List Class) → upwards (kin w []) ≡ []
-unfolding kin grown
-upwards-none w = refl
-
-pub upwards-unknown : (w : List Class) (x : List ℕ) → class_named w x ≡ None → upwards (kin w (x ∷ [])) ≡ []
-unfolding kin grown
-upwards-unknown w x e = ap (λ o. upwards (known_as (grown w (length w)) x o End)) e
+-- ---- the tree of a name
 
 module _ (w : List Class) (is_kin : (xs : List (List ℕ)) → IsKin w xs (kin w xs)) (one_kin : (xs : List (List ℕ)) (j k : Kin) → IsKin w xs j → IsKin w xs k → j ≡ k) where
   pub kin-known : (x : List ℕ) (c : Class) → class_named w x ≡ Some c → kin w (x ∷ []) ≡ Known c (kin w c.supers) (kin w c.interfaces) End
@@ -56,22 +40,6 @@ module _ (w : List Class) (is_kin : (xs : List (List ℕ)) → IsKin w xs (kin w
 
   pub kin-unknown : (x : List ℕ) → class_named w x ≡ None → kin w (x ∷ []) ≡ Unknown x End
   kin-unknown x e = one_kin (x ∷ []) (kin w (x ∷ [])) (Unknown x End) (is_kin (x ∷ [])) (unknown_here e ends)
-
-  pub upwards-known : (x : List ℕ) (c : Class) → class_named w x ≡ Some c → upwards (kin w (x ∷ [])) ≡ c ∷ upwards (kin w c.supers)
-  upwards-known x c e = ap upwards (kin-known x c e) ∙ append-nil (c ∷ upwards (kin w c.supers))
-
--- one of the names is done
-pub upwards-next : (w : List Class) (done more all : List Class) (xs : List (List ℕ)) (i : ℕ) (x : List ℕ) → i < length xs → x ≡ get_or xs i x → more ≡ done ++ upwards (kin w (x ∷ [])) → done ++ upwards (kin w (drop i xs)) ≡ all → more ++ upwards (kin w (drop (i + 1) xs)) ≡ all
-upwards-next w done more all xs i x lt is e inv =
-    ap (λ q. q ++ upwards (kin w (drop (i + 1) xs))) e
-    ∙ append_assoc done (upwards (kin w (x ∷ []))) (upwards (kin w (drop (i + 1) xs)))
-    ∙ ap (λ q. done ++ q) (sym (upwards-row w x (drop (i + 1) xs)))
-    ∙ ap (λ q. done ++ upwards (kin w q)) (sym (drop-next xs i x lt is))
-    ∙ inv
-
-pub upwards-end : (w : List Class) (done all : List Class) (xs : List (List ℕ)) (i : ℕ) → length xs ≤ i → done ++ upwards (kin w (drop i xs)) ≡ all → done ≡ all
-upwards-end w done all xs i le inv =
-    sym (append-nil done) ∙ ap (λ q. done ++ q) (sym (upwards-none w)) ∙ ap (λ q. done ++ upwards (kin w q)) (sym (drop-past xs i le)) ∙ inv
 
 -- ---- the item at a place
 

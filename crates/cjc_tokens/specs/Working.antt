@@ -7,7 +7,7 @@ use Rattle.cjc_world.specs.declared.found.Found.{Found}
 use Rattle.cjc_world.specs.Classes.{Member, Class, declared, method_of_class}
 use Rattle.cjc_world.specs.Kin.{Kin, kin}
 use Rattle.cjc_world.specs.Interfaces.{gathered, known}
-use Rattle.cjc_world.specs.Added.{methods_of, own_methods}
+use Rattle.cjc_world.specs.Added.{methods_of}
 use Rattle.cjc_world.specs.Lookup.{or_else}
 use Rattle.cjc_tokens.specs.declared.slot.Slot.{Slot}
 use Rattle.cjc_tokens.specs.declared.slot.Rows.{Rows}
@@ -110,10 +110,6 @@ listed_method name desc = if is_initialiser name then [] else record { name = na
 -- the methods of the interfaces of some classes
 abbrev pub asked : (listed : Bool) → Kin → List Signature
 asked listed k = map signature_of (methods_of (known (gathered listed k)))
-
--- a class's own methods, where it is listed as an interface
-abbrev pub own_where : (listed : Bool) → Class → List Signature
-own_where listed c = if listed then map signature_of (own_methods c) else []
 
 -- what stands before its own: an export file lists all
 abbrev pub above_where : List Class → Class → List Signature

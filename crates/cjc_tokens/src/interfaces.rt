@@ -5,15 +5,15 @@ ghost use Rattle.cjc_world.specs.Classes.{all_classes, method_of_class, method_o
 ghost use Rattle.cjc_world.specs.Kin.{IsAcyclic, kin};
 ghost use Rattle.cjc_world.specs.Known.{class_of};
 ghost use Rattle.cjc_world.specs.Interfaces.{gathered, known};
+ghost use Rattle.cjc_world.specs.Places.{at_places};
 ghost use Rattle.cjc_world.specs.Added.{by_token, methods_of, own_methods, with_token, without_initialiser};
 ghost use Rattle.cjc_tokens.specs.Members.{is_initialiser, signature_of};
 ghost use Rattle.cjc_tokens.specs.Methods.{interface_methods};
 ghost use Rattle.cjc_tokens.specs.Slots.{new_in, with_new};
-ghost use Rattle.cjc_tokens.specs.Working.{above_where, asked, listed_method, own_where, signs};
+ghost use Rattle.cjc_tokens.specs.Working.{above_where, asked, listed_method, signs};
 
-use crate::line::STEPS;
 use crate::slot::{Slot, is_initialiser, put_name};
-use cjc_bytes::{Bytes, NoMemory};
+use cjc_bytes::NoMemory;
 use cjc_classfile::MethodTree;
 use cjc_export::ExportMethod;
 use cjc_world::{Known, World, lookup_laws};
@@ -100,43 +100,25 @@ fn put_own<'w>(row: &mut Vec<Option<Slot<'w>>>, class: Known<'w, '_>) -> Result<
     }
 }
 
-fn put_own_where<'w>(
-    row: &mut Vec<Option<Slot<'w>>>,
-    listed: bool,
-    class: Known<'w, '_>,
-) -> Result<(), NoMemory>
-    ensures { OnOk result (signs row.new.items ≡ with_new (signs row.old.items) (own_where listed (class_of class.entry))) }
-{
-    if listed { put_own(row, class) } else { Ok(()) }
-}
-
-/// Puts the methods of the interfaces of some classes, each interface's superinterfaces before it; where the classes
-/// are listed as interfaces themselves, each one's own behind those. No way up has so many steps.
-fn put_asked<'w>(
+/// Puts the methods of the classes at some places.
+fn put_places<'w>(
     world: &'w World<'_>,
-    listed: bool,
-    names: &[Bytes],
-    steps: usize,
+    places: &[u32],
     row: &mut Vec<Option<Slot<'w>>>,
 ) -> Result<(), NoMemory>
-    requires { IsAcyclic (all_classes world.now) }
-    ensures { OnOk result (signs row.new.items ≡ with_new (signs row.old.items) (asked listed (kin (all_classes world.now) names.now))) }
+    ensures { OnOk result (signs row.new.items ≡ with_new (signs row.old.items) (map signature_of (methods_of (at_places (all_classes world.now) places.now)))) }
 {
-    if steps == 0 {
-        return Err(NoMemory);
-    }
-    lookup_laws();
-    for name in names {
-        if let Some(class) = world.class_named(name.items()) {
-            put_asked(world, false, class.supers(), steps - 1, row)?;
-            put_asked(world, true, class.interfaces(), steps - 1, row)?;
-            put_own_where(row, listed, class)?;
+    for place in places {
+        if let Some(class) = world.class_in(*place) {
+            put_own(row, class)?;
         }
     }
     Ok(())
 }
 
+/// Puts the methods of the interfaces of a class, each interface's superinterfaces before it.
 fn put_above<'w>(
+    alloc: Global,
     world: &'w World<'_>,
     class: Known<'w, '_>,
     row: &mut Vec<Option<Slot<'w>>>,
@@ -144,11 +126,14 @@ fn put_above<'w>(
     requires { IsAcyclic (all_classes world.now) }
     ensures { OnOk result (signs row.new.items ≡ with_new (signs row.old.items) (asked false (kin (all_classes world.now) (class_of class.entry).supers) ++ asked true (kin (all_classes world.now) (class_of class.entry).interfaces))) }
 {
-    put_asked(world, false, class.supers(), STEPS, row)?;
-    put_asked(world, true, class.interfaces(), STEPS, row)
+    lookup_laws();
+    let places = world.interfaces(alloc, class)?;
+    put_places(world, places.items(), row)?;
+    Ok(())
 }
 
 fn put_above_where<'w>(
+    alloc: Global,
     world: &'w World<'_>,
     class: Known<'w, '_>,
     row: &mut Vec<Option<Slot<'w>>>,
@@ -159,7 +144,7 @@ fn put_above_where<'w>(
     if class.is_imported() {
         Ok(())
     } else {
-        put_above(world, class, row)
+        put_above(alloc, world, class, row)
     }
 }
 
@@ -173,7 +158,7 @@ pub fn interface_methods<'w>(
     ensures { IfOk result (λ row. signs row.items ≡ map Some (interface_methods (all_classes world.now) (class_of class.entry))) }
 {
     let mut row = Vec::new(alloc);
-    put_above_where(world, class, &mut row)?;
+    put_above_where(alloc, world, class, &mut row)?;
     put_own(&mut row, class)?;
     Ok(row)
 }

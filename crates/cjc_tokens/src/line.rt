@@ -10,15 +10,12 @@ ghost use Rattle.cjc_classfile.specs.declared.tree.ClassTree.{ClassTree as Tree}
 ghost use Rattle.cjc_tokens.specs.declared.slot.Rows.{Rows as KeptRows};
 ghost use Rattle.cjc_tokens.specs.Working.{AreRowsOf, IsKept, SameRows};
 
-use crate::listed::{put_upwards, rows_of};
+use crate::listed::{rows_of, with_supers};
 use crate::slot::{Rows, offer_added, offer_methods, renewed};
 use cjc_bytes::{MemberId, NoMemory};
 use cjc_classfile::ClassTree;
 use cjc_world::{Known, World, lookup_laws};
 use std::alloc::Global;
-
-/// More than there can be classes, so that no way up has as many steps.
-pub(crate) const STEPS: usize = 0x1_0000_0000;
 
 /// The rows of a class of the package, from those of its superclass.
 pub(crate) fn below<'w>(
@@ -65,9 +62,8 @@ fn rows_above<'w>(
             hidden: Vec::new(alloc),
         }),
         Some(Known::Declared(number, _)) => kept_rows(alloc, kept, number),
-        Some(Known::Imported(..)) => {
-            let mut classes = Vec::new(alloc);
-            put_upwards(world, class.superclass.items(), STEPS, &mut classes)?;
+        Some(Known::Imported(number, imported)) => {
+            let classes = with_supers(alloc, world, Known::Imported(number, imported))?;
             rows_of(alloc, &classes)
         }
     }

@@ -4,9 +4,10 @@ ghost use Rattle.std.specs.Prelude.{◌≡◌, ◌+◌, ◌<◌, ◌&&◌, ◌++
 ghost use Rattle.std.specs.Str.{bytes_eq};
 ghost use Rattle.cjc_world.specs.declared.class.Known.{Known as AnyClass};
 ghost use Rattle.cjc_world.specs.Classes.{Member, all_classes, method_of_class, method_of_export};
-ghost use Rattle.cjc_world.specs.Kin.{IsAcyclic, kin, upwards};
+ghost use Rattle.cjc_world.specs.Kin.{kin, once, upwards};
 ghost use Rattle.cjc_world.specs.Known.{class_of};
 ghost use Rattle.cjc_world.specs.Lookup.{first, is_called};
+ghost use Rattle.cjc_world.specs.Places.{at_places};
 ghost use Rattle.cjc_tokens.specs.Lines.{Imported};
 ghost use Rattle.cjc_tokens.specs.Members.{all_methods, is_virtual, is_virtual_by};
 ghost use Rattle.cjc_tokens.specs.Slots.{listed_slots, meant_by, own};
@@ -16,30 +17,38 @@ use crate::slot::{Rows, Slot, is_exposed, is_virtual};
 use cjc_bytes::NoMemory;
 use cjc_classfile::MethodTree;
 use cjc_export::ExportMethod;
-use cjc_world::{Found, Known, World, lookup_laws};
+use cjc_world::{Found, Known, World};
 use std::alloc::Global;
 
-/// Puts the class of a name and its supers going upwards at the end. No way up has so many steps: it would be a cycle.
-pub(crate) fn put_upwards<'w, 'a>(
+/// Puts the classes at some places at the end.
+fn put_places<'w, 'a>(
     world: &'w World<'a>,
-    name: &[u8],
-    steps: usize,
+    places: &[u32],
     classes: &mut Vec<Known<'w, 'a>>,
 ) -> Result<(), NoMemory>
-    requires { IsAcyclic (all_classes world.now) }
-    ensures { OnOk result (map class_of classes.new.items ≡ map class_of classes.old.items ++ upwards (kin (all_classes world.now) (name.now ∷ []))) }
+    ensures { OnOk result (map class_of classes.new.items ≡ map class_of classes.old.items ++ at_places (all_classes world.now) places.now) }
 {
-    if steps == 0 {
-        return Err(NoMemory);
-    }
-    lookup_laws();
-    if let Some(class) = world.class_named(name) {
-        classes.push(class)?;
-        for above in class.supers() {
-            put_upwards(world, above.items(), steps - 1, classes)?;
+    for place in places {
+        if let Some(class) = world.class_in(*place) {
+            classes.push(class)?;
         }
     }
     Ok(())
+}
+
+/// A class and its supers going upwards, each once.
+pub(crate) fn with_supers<'w, 'a>(
+    alloc: Global,
+    world: &'w World<'a>,
+    class: Known<'w, 'a>,
+) -> Result<Vec<Known<'w, 'a>>, NoMemory>
+    ensures { IfOk result (λ classes. map class_of classes.items ≡ class_of class.entry ∷ once [] (upwards (kin (all_classes world.now) (class_of class.entry).supers))) }
+{
+    let places = world.superclasses(alloc, class)?;
+    let mut classes = Vec::new(alloc);
+    classes.push(class)?;
+    put_places(world, places.items(), &mut classes)?;
+    Ok(classes)
 }
 
 /// Fills the slot of a token where nothing nearer has it.
