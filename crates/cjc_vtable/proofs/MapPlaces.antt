@@ -1,14 +1,18 @@
 -- The maps of the interfaces at some places, and the places of a class's interfaces.
-use Rattle.std.proofs.Common.{◌≡◌, ℕ, suc, ◌+◌, ◌<◌, ◌≤◌, refl, sym, ap, ◌∙◌, arith, List, [], ◌∷◌, ◌++◌, length, map, drop, get_or, add-one, append_assoc, append-nil}
+use Rattle.std.proofs.Common.{◌≡◌, ℕ, ◌+◌, ◌<◌, ◌≤◌, refl, sym, ap, ◌∙◌, arith, List, [], ◌∷◌, ◌++◌, length, map, drop, get_or, add-one, append_assoc, append-nil}
 use Rattle.std.proofs.Math.Seq.{drop-cons}
 use Rattle.std.proofs.lemmas.Grind.{common_steps}
 use Rattle.std.proofs.lemmas.List.{map-append}
-use Rattle.std.specs.Prelude.{true, false, slice_get, option_to_list}
+use Rattle.std.specs.Prelude.{true, false, Some, slice_get, option_to_list}
 use Rattle.cjc_world.specs.Classes.{Class}
 use Rattle.cjc_world.specs.Interfaces.{each_once, gathered, known}
 use Rattle.cjc_world.specs.Kin.{kin}
 use Rattle.cjc_world.specs.Places.{at_places}
-use Rattle.cjc_tokens.specs.Methods.{interfaces_at}
+use Rattle.cjc_tokens.specs.Members.{Signature}
+use Rattle.cjc_tokens.specs.Methods.{interfaces_at, interface_methods}
+use Rattle.cjc_tokens.specs.Slots.{Slots, token}
+use Rattle.cjc_vtable.specs.Tables.{interface_map, or_zero}
+use Rattle.cjc_vtable.specs.Naming.{index_of}
 use Rattle.cjc_vtable.specs.declared.table.InterfaceMap.{InterfaceMap}
 
 module _ (f : Class → InterfaceMap) (w : List Class) (places : List ℕ) (maps all : List InterfaceMap) where
@@ -35,3 +39,17 @@ module _ (f : Class → InterfaceMap) (w : List Class) (places : List ℕ) (maps
 pub interfaces-are : (w : List Class) (c : Class) → known (each_once [] (gathered false (kin w c.supers) ++ gathered true (kin w c.interfaces))) ≡ known (interfaces_at w c)
 unfolding interfaces_at
 interfaces-are w c = refl
+
+-- ---- one map
+
+some-indices : (all : Slots) (ss : List Signature) → map (index_of all) (map Some ss) ≡ map (λ s. or_zero (token all s)) ss
+some-indices all [] = refl
+some-indices all (s ∷ ss) = ap (λ q. or_zero (token all s) ∷ q) (some-indices all ss)
+
+made : List ℕ → List ℕ → InterfaceMap
+made name index = record { interface = name; index = index }
+
+pub map-is : (w : List Class) (all ms : Slots) (i : Class) (name index : List ℕ) → name ≡ i.name → index ≡ map (index_of all) ms → ms ≡ map Some (interface_methods w i) → record { interface = name; index = index } ≡ interface_map w all i
+unfolding made
+map-is w all ms i name index e f g =
+    ap (λ q. made q index) e ∙ ap (made i.name) (f ∙ ap (map (index_of all)) g ∙ some-indices all (interface_methods w i))

@@ -2,18 +2,17 @@
 use Rattle.std.proofs.Common.{◌≡◌, ℕ, zero, suc, ◌+◌, ◌-◌, ◌<◌, ◌≤◌, refl, sym, ap, subst, ◌∙◌, arith, Bool, true, false, List, [], ◌∷◌, ◌++◌, length, map, get_or, inl, inr, ⊎_elim}
 use Rattle.std.specs.Prelude.{Option, Some, None, if◌then◌else◌, slice_get, option_map, option_and_then, position, nat_lt, ◌&&◌, ◌||◌, ◌⊎◌}
 use Rattle.std.proofs.lemmas.Option.{slice_get-map, slice_get_past}
-use Rattle.cjc_bytes.specs.declared.fault.MemberId.{MemberId}
 use Rattle.cjc_classfile.specs.declared.tree.ClassTree.{ClassTree}
 use Rattle.cjc_world.specs.declared.found.Found.{Found}
 use Rattle.cjc_world.specs.Files.{Files}
 use Rattle.cjc_world.specs.Classes.{Member, Class, declared, all_classes, class_named, class_at, is_interface}
-use Rattle.cjc_world.specs.Kin.{Kin, End, Unknown, Known, kin, IsKin, ends, unknown_here, known_here, upwards}
+use Rattle.cjc_world.specs.Kin.{Kin, kin, IsKin, ends, unknown_here, known_here, upwards}
 use Rattle.cjc_world.specs.Lookup.{first, is_called, member_at, or_else}
-use Rattle.cjc_world.specs.Added.{added, added_at, added_to, named_by, takes_added}
+use Rattle.cjc_world.specs.Added.{added, added_at, added_to, named_by}
 use Rattle.cjc_tokens.specs.Members.{Signature, signature_of, same, has, signatures, is_shown, is_virtual, all_methods, In, first_of, later}
 use Rattle.cjc_tokens.specs.Lines.{Line, Nowhere, Imported, Declared, line_in, line_at}
-use Rattle.cjc_tokens.specs.Slots.{Slots, has_slot, new_in, with_new, listed_slots, slots, own, got, implementing, meant_by, row}
-use Rattle.cjc_tokens.specs.Tokens.{OfClass, of_class, one_more, is_exported, classes_from, assigned, public_in, public_methods_of}
+use Rattle.cjc_tokens.specs.Slots.{Slots, new_in, with_new, slots, own, got, implementing, meant_by, row}
+use Rattle.cjc_tokens.specs.Tokens.{of_class, one_more, is_exported, classes_from, assigned, public_in, public_methods_of}
 use Rattle.cjc_vtable.specs.Naming.{method_named, member_named, named, named_where, signature_by, ids_at}
 use Rattle.cjc_tokens.proofs.Facts.{same-true, same-refl, position-cons, has-own_none, has-got_none}
 use Rattle.cjc_tokens.proofs.Held.{at_front, at_either, new-offered, listed_slot, shown-virtual}

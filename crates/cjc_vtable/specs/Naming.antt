@@ -1,5 +1,5 @@
 -- The name and the descriptor that a method has which a look-up or a token means.
-use Rattle.std.specs.Prelude.{ℕ, ◌-◌, List, [], ◌++◌, map, length, nat_lt, Option, Some, None, option_map, option_and_then, slice_get, if◌then◌else◌}
+use Rattle.std.specs.Prelude.{ℕ, ◌-◌, List, [], ◌++◌, length, nat_lt, Option, Some, None, option_map, option_and_then, slice_get, if◌then◌else◌}
 use Rattle.cjc_bytes.specs.declared.fault.MemberId.{MemberId}
 use Rattle.cjc_world.specs.declared.found.Found.{Found}
 use Rattle.cjc_world.specs.Files.{Files}

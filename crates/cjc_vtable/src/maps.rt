@@ -1,6 +1,6 @@
 //! The interface maps of a class (Java Card Virtual Machine Specification 2.2.2, section 6.8).
 
-ghost use Rattle.std.specs.Prelude.{◌≡◌, ◌×◌, ◌++◌, Bool, false, map, option_map, option_to_list, position, slice_get, IfOk, OnOk, Some};
+ghost use Rattle.std.specs.Prelude.{◌≡◌, ◌++◌, Bool, false, map, option_map, option_to_list, position, slice_get, IfOk, OnOk, Some};
 ghost use Rattle.cjc_classfile.specs.declared.tree.ClassTree.{ClassTree as Tree};
 ghost use Rattle.cjc_world.specs.Classes.{all_classes, declared, is_interface};
 ghost use Rattle.cjc_world.specs.Interfaces.{known};
