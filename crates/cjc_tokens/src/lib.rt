@@ -16,5 +16,5 @@ mod tokens;
 pub use assigning::{assign, few, first_high};
 pub use interfaces::interface_methods;
 pub use refusal::file_of;
-pub use slot::Slot;
+pub use slot::{Slot, token};
 pub use tokens::Tokens;

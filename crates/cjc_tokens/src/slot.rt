@@ -104,7 +104,7 @@ fn slot_place(row: &[Option<Slot<'_>>], name: &[u8], desc: &[u8]) -> Option<usiz
 }
 
 /// The place of the slot of a name and descriptor.
-pub(crate) fn token(row: &[Option<Slot<'_>>], name: &[u8], desc: &[u8]) -> Option<usize>
+pub fn token(row: &[Option<Slot<'_>>], name: &[u8], desc: &[u8]) -> Option<usize>
     ensures { result ≡ token (signs row.now) (record { name = name.now; desc = desc.now }) }
 {
     slot_place(row, name, desc)

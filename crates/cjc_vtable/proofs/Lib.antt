@@ -16,3 +16,6 @@ pub mod Standing
 pub mod Assigned
 pub mod Rows
 pub mod Tabled
+pub mod Numbers
+pub mod SlotNames
+pub mod MapPlaces

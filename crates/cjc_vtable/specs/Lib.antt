@@ -4,3 +4,4 @@ pub mod Calls
 pub mod Laws
 pub mod Kept
 pub mod Standing
+pub mod Naming

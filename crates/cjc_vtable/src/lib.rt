@@ -2,15 +2,16 @@
 //! Machine Specification 2.2.2, sections 4.3.7 and 6.8).
 #![tactic(auto)]
 
-mod kept;
 mod building;
 mod entries;
+mod kept;
 mod laws;
 mod maps;
+mod naming;
 mod order;
 mod table;
 
-pub use kept::package_laws;
 pub use building::tables;
+pub use kept::package_laws;
 pub use laws::{dispatch_laws, token_laws};
 pub use table::{ClassTable, ClassTables, InterfaceMap};

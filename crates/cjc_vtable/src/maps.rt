@@ -1,23 +1,141 @@
-//! The interface maps of a class.
+//! The interface maps of a class (Java Card Virtual Machine Specification 2.2.2, section 6.8).
 
-ghost use Rattle.std.specs.Prelude.{◌≡◌, ◌<◌, length, map, slice_get, Bool, false, IfOk, Some};
-ghost use Rattle.cjc_world.specs.Classes.{all_classes, declared, is_interface};
+ghost use Rattle.std.specs.Prelude.{◌≡◌, ◌++◌, Bool, false, map, option_map, option_to_list, slice_get, IfOk, OnOk, Some};
 ghost use Rattle.cjc_classfile.specs.declared.tree.ClassTree.{ClassTree as Tree};
+ghost use Rattle.cjc_world.specs.Classes.{all_classes, declared, is_interface};
 ghost use Rattle.cjc_world.specs.Interfaces.{known};
 ghost use Rattle.cjc_world.specs.Kin.{IsAcyclic};
 ghost use Rattle.cjc_world.specs.Known.{class_of};
+ghost use Rattle.cjc_world.specs.Places.{at_places};
 ghost use Rattle.cjc_tokens.specs.Lines.{line_at};
 ghost use Rattle.cjc_tokens.specs.Methods.{interfaces_at};
 ghost use Rattle.cjc_tokens.specs.Slots.{slots};
 ghost use Rattle.cjc_tokens.specs.Tokens.{assigned};
+ghost use Rattle.cjc_tokens.specs.Working.{signature_in, signs};
+ghost use Rattle.cjc_vtable.specs.Naming.{index_of};
 ghost use Rattle.cjc_vtable.specs.Tables.{interface_map};
 
+use crate::naming::named_row;
 use crate::table::InterfaceMap;
-use cjc_bytes::{NoMemory, Row};
-use cjc_tokens::Tokens;
-use cjc_world::{Known, World};
+use cjc_bytes::{Bytes, NoMemory, Row};
+use cjc_tokens::{Slot, Tokens, interface_methods, token};
+use cjc_world::{Known, World, lookup_laws};
 use std::alloc::Global;
 
+/// A token as it stands in a component.
+fn as_byte(token: usize) -> Result<u8, NoMemory>
+    ensures { IfOk result (λ t. t ≡ token) }
+{
+    if token < 256 {
+        Ok(token as u8)
+    } else {
+        Err(NoMemory)
+    }
+}
+
+/// The token of an interface's method in a class; 0 where it has none.
+fn index_of(row: &[Option<Slot<'_>>], method: &Option<Slot<'_>>) -> Result<u8, NoMemory>
+    ensures { IfOk result (λ t. t ≡ index_of (signs row.now) (option_map signature_in method.now)) }
+{
+    match method {
+        None => Ok(0),
+        Some(method) => match token(row, method.name, method.desc) {
+            None => Ok(0),
+            Some(token) => as_byte(token),
+        },
+    }
+}
+
+/// The tokens of an interface's methods in a class.
+fn index(
+    alloc: Global,
+    row: &[Option<Slot<'_>>],
+    methods: &[Option<Slot<'_>>],
+) -> Result<Row<u8>, NoMemory>
+    ensures { IfOk result (λ index. index ≡ map (index_of (signs row.now)) (signs methods.now)) }
+{
+    let mut index = Vec::new(alloc);
+    for method in methods {
+        index.push(index_of(row, method)?)?;
+    }
+    Ok(Row::of(index))
+}
+
+/// The map of an interface.
+fn interface_map<'w>(
+    alloc: Global,
+    world: &'w World<'_>,
+    row: &[Option<Slot<'_>>],
+    interface: Known<'w, '_>,
+) -> Result<InterfaceMap, NoMemory>
+    requires { IsAcyclic (all_classes world.now) }
+    ensures { IfOk result (λ m. m ≡ interface_map (all_classes world.now) (signs row.now) (class_of interface.entry)) }
+{
+    let methods = interface_methods(alloc, world, interface)?;
+    let index = index(alloc, row, &methods)?;
+    let interface = Bytes::copy_of(alloc, interface.name())?;
+    Ok(InterfaceMap { interface, index })
+}
+
+/// Puts the map of the interface at a place at the end.
+fn put_map(
+    alloc: Global,
+    world: &World<'_>,
+    row: &[Option<Slot<'_>>],
+    place: u32,
+    maps: &mut Row<InterfaceMap>,
+) -> Result<(), NoMemory>
+    requires { IsAcyclic (all_classes world.now) }
+    ensures { OnOk result (maps.new ≡ maps.old ++ map (interface_map (all_classes world.now) (signs row.now)) (option_to_list (slice_get (all_classes world.now) place))) }
+{
+    match world.class_in(place) {
+        None => Ok(()),
+        Some(interface) => {
+            let map = interface_map(alloc, world, row, interface)?;
+            maps.push(map)
+        }
+    }
+}
+
+/// The maps of the interfaces at these places.
+fn maps_at(
+    alloc: Global,
+    world: &World<'_>,
+    row: &[Option<Slot<'_>>],
+    places: &[u32],
+) -> Result<Row<InterfaceMap>, NoMemory>
+    requires { IsAcyclic (all_classes world.now) }
+    ensures { IfOk result (λ maps. maps ≡ map (interface_map (all_classes world.now) (signs row.now)) (at_places (all_classes world.now) places.now)) }
+{
+    let mut maps = Row::new(alloc);
+    for place in places {
+        put_map(alloc, world, row, *place, &mut maps)?;
+    }
+    Ok(maps)
+}
+
+/// The slots of a class of the package that is no interface, by token.
+fn slots_of<'w>(
+    alloc: Global,
+    world: &'w World<'_>,
+    tokens: &Tokens,
+    class: Known<'_, '_>,
+    number: u32,
+) -> Result<Vec<Option<Slot<'w>>>, NoMemory>
+    requires acyclic { IsAcyclic (all_classes world.now) }
+    requires class { (tree : Tree) → slice_get world.now.classes number ≡ Some tree → class_of class ≡ declared number tree }
+    requires plain { is_interface (class_of class).flags ≡ false }
+    requires tokens { (applets : Bool) × (tokens.now ≡ assigned applets world.now) }
+    ensures { IfOk result (λ row. signs row.items ≡ slots (line_at (all_classes world.now) (class_of class.entry))) }
+{
+    lookup_laws();
+    match world.class_at(false, number) {
+        None => Err(NoMemory),
+        Some(_) => named_row(alloc, world, tokens.public_methods(number)),
+    }
+}
+
+/// The interface maps of a class of the package that is no interface, in the order of its interfaces.
 pub(crate) fn interface_maps<'a>(
     alloc: Global,
     world: &World<'a>,
@@ -26,11 +144,12 @@ pub(crate) fn interface_maps<'a>(
     number: u32,
 ) -> Result<Row<InterfaceMap>, NoMemory>
     requires acyclic { IsAcyclic (all_classes world.now) }
-    requires number { number < length world.now.classes }
     requires class { (tree : Tree) → slice_get world.now.classes number ≡ Some tree → class_of class ≡ declared number tree }
     requires plain { is_interface (class_of class).flags ≡ false }
     requires tokens { (applets : Bool) × (tokens.now ≡ assigned applets world.now) }
     ensures { IfOk result (λ maps. maps ≡ map (interface_map (all_classes world.now) (slots (line_at (all_classes world.now) (class_of class.entry)))) (known (interfaces_at (all_classes world.now) (class_of class.entry)))) }
 {
-    Err(NoMemory)
+    let row = slots_of(alloc, world, tokens, class, number)?;
+    let places = world.interfaces(alloc, class)?;
+    maps_at(alloc, world, &row, places.items())
 }

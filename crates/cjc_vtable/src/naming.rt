@@ -1,0 +1,111 @@
+//! The name and the descriptor of a method that a look-up or a token means.
+
+ghost use Rattle.std.specs.Prelude.{◌≡◌, map, option_map, slice_get, IfOk, Some};
+ghost use Rattle.cjc_world.specs.Classes.{all_classes, class_at};
+ghost use Rattle.cjc_world.specs.Known.{class_of};
+ghost use Rattle.cjc_tokens.specs.Members.{signature_of};
+ghost use Rattle.cjc_tokens.specs.Working.{signature_in, signs};
+ghost use Rattle.cjc_vtable.specs.Naming.{ids_at, method_named, named, named_where, signature_by};
+
+use cjc_bytes::{MemberId, NoMemory};
+use cjc_tokens::Slot;
+use cjc_world::{Found, Known, World};
+use std::alloc::Global;
+
+/// A class's own method.
+fn own_at<'w>(class: Known<'w, '_>, place: usize) -> Option<Slot<'w>>
+    ensures { option_map signature_in result ≡ option_map signature_of (slice_get (class_of class.entry).methods place) }
+{
+    if place < class.member_count(false) {
+        let (name, desc) = class.member_at(false, place);
+        Some(Slot {
+            name,
+            desc,
+            method: None,
+        })
+    } else {
+        None
+    }
+}
+
+/// The methods that are added to the class of a method.
+#[tactic(auto, using(crate::proofs::SlotNames::ids_past))]
+fn ids_at<'w>(world: &'w World<'_>, found: Found) -> &'w [MemberId]
+    ensures { result.now ≡ ids_at world.now found }
+{
+    if found.imported {
+        return &[];
+    }
+    if (found.class as usize) < world.classes().items().len() {
+        world.added(found.class).items()
+    } else {
+        &[]
+    }
+}
+
+fn id_at<'w>(ids: &'w [MemberId], place: usize) -> Option<Slot<'w>>
+    ensures { option_map signature_in result ≡ option_map signature_by (slice_get ids.now place) }
+{
+    let id = ids.get(place)?;
+    Some(Slot {
+        name: id.name.items(),
+        desc: id.desc.items(),
+        method: None,
+    })
+}
+
+/// The method at a place of a class.
+fn method_at<'w>(
+    world: &'w World<'_>,
+    found: Found,
+    class: Known<'w, '_>,
+    place: usize,
+) -> Option<Slot<'w>>
+    requires { class_at (all_classes world.now) found.imported found.class ≡ Some (class_of class) }
+    ensures { option_map signature_in result ≡ method_named (all_classes world.now) (class_of class.entry) place }
+{
+    let count = class.member_count(false);
+    if place < count {
+        own_at(class, place)
+    } else {
+        id_at(ids_at(world, found), place - count)
+    }
+}
+
+/// The name and the descriptor of a method.
+pub(crate) fn named<'w>(world: &'w World<'_>, found: Found) -> Option<Slot<'w>>
+    ensures { option_map signature_in result ≡ named (all_classes world.now) found }
+{
+    let class = world.class_at(found.imported, found.class)?;
+    let fields = class.field_count();
+    let member = found.member as usize;
+    if member < fields {
+        None
+    } else {
+        method_at(world, found, class, member - fields)
+    }
+}
+
+fn named_where<'w>(world: &'w World<'_>, method: &Option<Found>) -> Option<Slot<'w>>
+    ensures { option_map signature_in result ≡ named_where (all_classes world.now) method.now }
+{
+    match method {
+        None => None,
+        Some(found) => named(world, *found),
+    }
+}
+
+/// The names and the descriptors of methods by their tokens.
+pub(crate) fn named_row<'w>(
+    alloc: Global,
+    world: &'w World<'_>,
+    methods: &[Option<Found>],
+) -> Result<Vec<Option<Slot<'w>>>, NoMemory>
+    ensures { IfOk result (λ row. signs row.items ≡ map (named_where (all_classes world.now)) methods.now) }
+{
+    let mut row = Vec::new(alloc);
+    for method in methods {
+        row.push(named_where(world, method))?;
+    }
+    Ok(row)
+}
