@@ -10,7 +10,7 @@ use Rattle.cjc_world.specs.declared.found.Found.{Found}
 use Rattle.cjc_world.specs.Places.{is_in, joined, first_place}
 use Rattle.cjc_world.specs.Lookup.{or_else}
 
-or-false : (b : Bool) → (b || false) ≡ b
+pub or-false : (b : Bool) → (b || false) ≡ b
 or-false true = refl
 or-false false = refl
 
@@ -79,6 +79,10 @@ joined-old ps q e = joined-one-in ps q [] e
 pub joined-nil : (ps : List ℕ) → joined ps [] ≡ ps
 unfolding joined
 joined-nil ps = refl
+
+pub joined_first : (p : ℕ) → joined [] (p ∷ []) ≡ p ∷ []
+unfolding joined
+joined_first p = refl
 
 pub join-step : (ps now next xs : List ℕ) (i d q : ℕ) → i < length xs → q ≡ get_or xs i d → next ≡ joined now (q ∷ []) → joined now (drop i xs) ≡ joined ps xs → joined next (drop (i + 1) xs) ≡ joined ps xs
 join-step ps now next xs i d q l is e kept =

@@ -16,6 +16,7 @@ pub mod Joined
 pub mod ByPlace
 pub mod Trees
 pub mod Filling
+pub mod Marking
 pub mod Piecing
 pub mod Noted
 pub mod Mapped

@@ -7,7 +7,7 @@ use Rattle.cjc_world.specs.declared.tables.Order.TheVariants as orders
 use Rattle.cjc_world.specs.Classes.{Class}
 use Rattle.cjc_world.specs.Kin.{Kin, End, Unknown, Known, IsKin, IsAcyclic, kin, upwards}
 use Rattle.cjc_world.specs.Interfaces.{gathered, known}
-use Rattle.cjc_world.specs.Places.{place_named, places_of, joined}
+use Rattle.cjc_world.specs.Places.{place_named, places_of, is_in, joined}
 
 -- The classes in which a field is looked up, in order: each, then those of its interfaces, then those of its supers.
 abbrev pub in_field_order : Kin → List Class
@@ -77,6 +77,10 @@ are_ready w rows c = list_all (λ x. is_ready w rows x) c.supers && list_all (λ
 -- each row that is there is right
 abbrev pub AreRight : List Class → List (Option Above) → Type 0
 AreRight w rows = (x : List ℕ) (p : ℕ) (a : Above) → place_named w x ≡ Some p → slice_get rows p ≡ Some (Some a) → (tree : Kin) × IsKin w (x ∷ []) tree × (a ≡ told w tree)
+
+-- Where there is a mark for a place, it says whether the place is among these.
+abbrev pub AreMarked : List Bool → List ℕ → Type 0
+AreMarked marks places = (p : ℕ) (mark : Bool) → slice_get marks p ≡ Some mark → mark ≡ is_in p places
 
 -- One pass over these places: rows stay, and each class has one that was ready for it.
 pub record Closer (w : List Class) (old new : List (Option Above)) (from to : ℕ) : Type 0 where

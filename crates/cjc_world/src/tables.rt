@@ -6,13 +6,14 @@ ghost use Rattle.cjc_world.specs.Classes.{all_classes};
 ghost use Rattle.cjc_world.specs.Kin.{IsAcyclic};
 ghost use Rattle.cjc_world.specs.declared.tables.Order.TheVariants as orders;
 ghost use Rattle.cjc_world.specs.Known.{class_of};
-ghost use Rattle.cjc_world.specs.Places.{joined};
+ghost use Rattle.cjc_world.specs.Places.{is_in, joined};
 ghost use Rattle.cjc_world.specs.Tables.{above_at, are_ready, Closer, is_ready, is_ready_at, is_row, IsTable, piece, pieces, row_at, row_in};
 
 use crate::class::Known;
 use crate::roster::Roster;
 use cjc_bytes::{Bytes, NoMemory, Row};
 use std::alloc::Global;
+use std::marker::Model;
 
 /// What stands above a class, as places of classes in the order of the list, each once.
 #[derive(Drop)]
@@ -55,25 +56,73 @@ pub(crate) fn row_at(rows: &[Option<Above>], order: Order, place: u32) -> &[u32]
     }
 }
 
-/// Puts a place at the end, if it is not there yet.
-fn put(places: &mut Vec<u32>, place: u32) -> Result<(), NoMemory>
-    ensures { OnOk result (places.new.items ≡ joined places.old.items (place ∷ [])) }
-{
-    if places.contains(&place) {
-        return Ok(());
-    }
-    places.push(place)?;
-    Ok(())
+/// Places of classes in the order in which they were put, each once, with a mark for each class.
+#[derive(Drop)]
+struct Places {
+    places: Vec<u32>,
+    marks: Vec<bool>,
 }
 
-/// Puts those places at the end that are not there yet.
-fn join(places: &mut Vec<u32>, more: &[u32]) -> Result<(), NoMemory>
-    ensures { OnOk result (places.new.items ≡ joined places.old.items more.now) }
-{
-    for place in more {
-        put(places, *place)?;
+impl Model for Places {
+    ghost use Rattle.std.specs.Prelude.{ℕ, List};
+    ghost use Rattle.cjc_world.specs.Tables.{AreMarked};
+
+    ghost Value = { List ℕ };
+
+    ghost view = { λ p. p.places.items };
+
+    ghost invariant = { λ p. AreMarked p.marks.items p.places.items };
+}
+
+impl Places {
+    /// None yet, of so many classes.
+    fn new(alloc: Global, count: u32) -> Result<Places, NoMemory>
+        ensures { IfOk result (λ places. places ≡ []) }
+    {
+        Ok(Places {
+            places: Vec::new(alloc),
+            marks: vec![in alloc; false; count as usize]?,
+        })
     }
-    Ok(())
+
+    fn has(&self, place: u32) -> bool
+        ensures { result ≡ is_in place self.now }
+    {
+        match self.marks.get(place as usize) {
+            Some(mark) => *mark,
+            None => self.places.contains(&place),
+        }
+    }
+
+    /// Puts a place at the end, if it is not there yet.
+    fn put(&mut self, place: u32) -> Result<(), NoMemory>
+        ensures { OnOk result (self.new ≡ joined self.old (place ∷ [])) }
+    {
+        if self.has(place) {
+            return Ok(());
+        }
+        self.places.push(place)?;
+        if (place as usize) < self.marks.len() {
+            self.marks[place as usize] = true;
+        }
+        Ok(())
+    }
+
+    /// Puts those places at the end that are not there yet.
+    fn join(&mut self, more: &[u32]) -> Result<(), NoMemory>
+        ensures { OnOk result (self.new ≡ joined self.old more.now) }
+    {
+        for place in more {
+            self.put(*place)?;
+        }
+        Ok(())
+    }
+
+    fn into_row(self) -> Row<u32>
+        ensures { result ≡ self }
+    {
+        Row::of(self.places)
+    }
 }
 
 /// Puts what the class at a place adds at the end: its list, and then itself where it is a listed interface.
@@ -82,14 +131,14 @@ fn put_piece(
     order: Order,
     listed: bool,
     place: Option<u32>,
-    places: &mut Vec<u32>,
+    places: &mut Places,
 ) -> Result<(), NoMemory>
-    ensures { OnOk result (places.new.items ≡ joined places.old.items (piece order listed rows.now place)) }
+    ensures { OnOk result (places.new ≡ joined places.old (piece order listed rows.now place)) }
 {
     if let Some(place) = place {
-        join(places, row_at(rows, order, place))?;
+        places.join(row_at(rows, order, place))?;
         if listed {
-            put(places, place)?;
+            places.put(place)?;
         }
     }
     Ok(())
@@ -127,15 +176,15 @@ impl<'a> Roster<'a> {
     }
 
     /// Puts what the classes of some names add at the end, each place once.
-    pub(crate) fn put_pieces(
+    fn put_pieces(
         &self,
         rows: &[Option<Above>],
         order: Order,
         listed: bool,
         names: &[Bytes],
-        places: &mut Vec<u32>,
+        places: &mut Places,
     ) -> Result<(), NoMemory>
-        ensures { OnOk result (places.new.items ≡ joined places.old.items (pieces (all_classes self.now) order listed rows.now names.now)) }
+        ensures { OnOk result (places.new ≡ joined places.old (pieces (all_classes self.now) order listed rows.now names.now)) }
     {
         for name in names {
             put_piece(rows, order, listed, self.place_named(name.items()), places)?;
@@ -153,7 +202,7 @@ impl<'a> Roster<'a> {
     ) -> Result<Row<u32>, NoMemory>
         ensures { IfOk result (λ places. places ≡ (above_at (all_classes self.now) rows.now 0 (class_of class.entry)).interfaces) }
     {
-        let mut places = Vec::new(alloc);
+        let mut places = Places::new(alloc, self.count())?;
         self.put_pieces(rows, Order::Interfaces, false, class.supers(), &mut places)?;
         self.put_pieces(
             rows,
@@ -162,7 +211,7 @@ impl<'a> Roster<'a> {
             class.interfaces(),
             &mut places,
         )?;
-        Ok(Row::of(places))
+        Ok(places.into_row())
     }
 
     /// The superclasses of a class going upwards.
@@ -174,13 +223,13 @@ impl<'a> Roster<'a> {
     ) -> Result<Row<u32>, NoMemory>
         ensures { IfOk result (λ places. places ≡ joined [] (pieces (all_classes self.now) orders.Line false rows.now (class_of class.entry).supers)) }
     {
-        let mut places = Vec::new(alloc);
+        let mut places = Places::new(alloc, self.count())?;
         self.put_pieces(rows, Order::Line, false, class.supers(), &mut places)?;
-        Ok(Row::of(places))
+        Ok(places.into_row())
     }
 
     /// What stands above the class at a place, where the rows of all that it lists are there.
-    #[tactic(auto, unfolding(crate::specs::Tables::above_at))]
+    #[tactic(auto, using(crate::proofs::Joined::joined_first), unfolding(crate::specs::Tables::above_at))]
     fn above(
         &self,
         alloc: Global,
@@ -190,18 +239,18 @@ impl<'a> Roster<'a> {
     ) -> Result<Above, NoMemory>
         ensures { IfOk result (λ above. above ≡ above_at (all_classes self.now) rows.now place (class_of class.entry)) }
     {
-        let mut line = Vec::new(alloc);
-        line.push(place)?;
+        let mut line = Places::new(alloc, self.count())?;
+        line.put(place)?;
         self.put_pieces(rows, Order::Line, false, class.supers(), &mut line)?;
         let interfaces = self.interfaces(alloc, rows, class)?;
-        let mut fields = Vec::new(alloc);
-        fields.push(place)?;
+        let mut fields = Places::new(alloc, self.count())?;
+        fields.put(place)?;
         self.put_pieces(rows, Order::Fields, false, class.interfaces(), &mut fields)?;
         self.put_pieces(rows, Order::Fields, false, class.supers(), &mut fields)?;
         Ok(Above {
-            line: Row::of(line),
+            line: line.into_row(),
             interfaces,
-            fields: Row::of(fields),
+            fields: fields.into_row(),
         })
     }
 
@@ -247,6 +296,9 @@ impl<'a> Roster<'a> {
         let count = self.count();
         let mut rows = no_rows(alloc, count)?;
         for _step in 0..count as u64 + 2 {
+            if all_there(&rows) {
+                return Ok(Some(Row::of(rows)));
+            }
             self.pass(alloc, &mut rows, count)?;
         }
         if all_there(&rows) {

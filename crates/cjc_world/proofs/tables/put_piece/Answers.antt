@@ -7,7 +7,7 @@ use Rattle.cjc_world.proofs.tables.put_piece.Goals as goal
 
 pub returns-in_ok-put : goal.returns-in_ok-put
 returns-in_ok-put c =
-    let old = c.args.places.now.items in
+    let old = c.args.places.now in
     let p = c.in-Some.place in
     let row = row_at c.args.order (slice_get c.args.rows.now p) in
     c.in_ok-put.ensures ∙ ap (λ v. joined v (p ∷ [])) (c.in_ok-join.ensures ∙ ap (joined old) c.row_at.ensures)
@@ -16,4 +16,4 @@ returns-in_ok-put c =
     ∙ ap (λ o. joined old (piece c.args.order c.args.listed c.args.rows.now o)) (sym c.in-Some.is)
 
 pub returns-in_default : goal.returns-in_default
-returns-in_default c = sym (joined-nil c.args.places.now.items) ∙ ap (λ o. joined c.args.places.now.items (piece c.args.order c.args.listed c.args.rows.now o)) (sym c.in_default.is)
+returns-in_default c = sym (joined-nil c.args.places.now) ∙ ap (λ o. joined c.args.places.now (piece c.args.order c.args.listed c.args.rows.now o)) (sym c.in_default.is)

@@ -25,7 +25,12 @@ returns-then-all_there c =
     subst (λ rows. IsTable (all_classes c.args.self.now) rows) (sym c.of.ensures)
     (filled (all_classes c.args.self.now) c.loop-step.rows.items c.loop-step.invariant.right c.loop-step.invariant.count (ap (list_all is_some) (sym c.deref.ensures.value) ∙ sym c.all_there.ensures ∙ c.if-all_there.true))
 
-pub returns-else-all_there : goal.returns-else-all_there
-returns-else-all_there c =
+pub returns-then-all_there-2 : goal.returns-then-all_there-2
+returns-then-all_there-2 c =
+    subst (λ rows. IsTable (all_classes c.args.self.now) rows) (sym c.of-then-all_there-2.ensures)
+    (filled (all_classes c.args.self.now) c.loop-step.rows.items c.loop-step.invariant.right c.loop-step.invariant.count (ap (list_all is_some) (sym c.deref-2.ensures.value) ∙ sym c.all_there-2.ensures ∙ c.if-all_there-2.true))
+
+pub returns-else-all_there-2 : goal.returns-else-all_there-2
+returns-else-all_there-2 c =
     let n = c.count-count.ensures in
-    unfilled (all_classes c.args.self.now) c.loop-step.rows.items c.loop-step._step c.loop-step.invariant.reached (omega arith) c.loop-step.invariant.count (ap (list_all is_some) (sym c.deref.ensures.value) ∙ sym c.all_there.ensures ∙ c.if-all_there.false)
+    unfilled (all_classes c.args.self.now) c.loop-step.rows.items c.loop-step._step c.loop-step.invariant.reached (omega arith) c.loop-step.invariant.count (ap (list_all is_some) (sym c.deref-2.ensures.value) ∙ sym c.all_there-2.ensures ∙ c.if-all_there-2.false)
