@@ -7,6 +7,8 @@ mod drafts;
 #[cfg(test)]
 mod subsets;
 #[cfg(test)]
+mod tables;
+#[cfg(test)]
 mod tokens;
 #[cfg(test)]
 mod worlds;

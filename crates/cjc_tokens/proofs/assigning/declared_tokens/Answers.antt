@@ -53,8 +53,7 @@ unfolding token_breaks
 returns c =
     let w = all_classes c.args.world.now in
     let cs = c.args.world.now.classes in
-    let past : length cs ≤ c.loop-number.number = omega (arith, c.loop-number-test.false, c.requires.count) in
-    (
+    let past : length cs ≤ c.loop-number.number = omega (arith, c.loop-number-test.false, c.requires.count) in (
       breaks-end w c.args.applets cs c.loop-number.number c.args.world.now.lines (breaks_from w c.args.applets c.args.world.now.lines 0 cs) past c.loop-number.invariant.breaks,
       classes-end w c.args.applets cs c.loop-number.number c.loop-number.before c.loop-number.rows (classes_from w c.args.applets 0 0 cs) past c.loop-number.invariant.tokens,
     )
