@@ -10,5 +10,6 @@ pub mod Filed
 pub mod Ruled
 pub mod Clean
 pub mod Stood
+pub mod Read
 pub mod Selected
 pub mod Keeping
