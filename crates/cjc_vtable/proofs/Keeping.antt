@@ -28,6 +28,7 @@ use Rattle.cjc_vtable.proofs.Filed.{Has, at_front, behind, has-get, get-has, of-
 use Rattle.cjc_vtable.proofs.Ruled.{of-package, lists-interfaces, lists-imported}
 use Rattle.cjc_vtable.proofs.Clean.{fit-method, seen-declared, seen-imported, coded-declared, coded-imported}
 use Rattle.cjc_vtable.proofs.Stood.{in-class, in-interface, upwards-stands, gathered-stands, upwards-named, gathered-named, gathered-interface, line-imported}
+use Rattle.cjc_vtable.proofs.Read.{has-code, plain-interface}
 use Rattle.cjc_vtable.proofs.Selected.{hit-selected}
 
 -- ---- lists of members
@@ -341,7 +342,11 @@ module _ (list : List ℕ) (files : Files) (codes : List MethodCode) (settings :
       let off2 : is_unfit_selection true (hit w false (selected w c.name m.name m.desc)) ≡ false = ap (λ (v : Bool). is_unfit_selection v (hit w false (selected w c.name m.name m.desc))) (sym is.1) ∙ fit in
       let h = fit-selection (hit w false (selected w c.name m.name m.desc)) off2 in
       let at_x : receiver c.name ≡ x = receiver-itself c.name (no-array x c e) ∙ class_named-name w x c e in
-      let r = hit-selected w (line w x) (signature_of m) h.0 (λ g j. at-number files g.name g (upwards-named w (x ∷ []) (kin w (x ∷ [])) g (is_kin (x ∷ [])) j)) (ap (λ q. hit w false (first (own_method true m.name m.desc) (line w q))) (sym at_x) ∙ h.1) in
+      let named = λ (g : Class) (j : Among g (upwards (kin (all_classes files) (x ∷ [])))). at-number files g.name g (upwards-named (all_classes files) (x ∷ []) (kin (all_classes files) (x ∷ [])) g (is_kin (x ∷ [])) j) in
+      let told : hit (all_classes files) false (first (own_method true m.name m.desc) (upwards (kin (all_classes files) (x ∷ [])))) ≡ Some h.0 =
+      ap (λ q. hit (all_classes files) false (first (own_method true m.name m.desc) (upwards (kin (all_classes files) (q ∷ []))))) (sym at_x) ∙ h.1
+      in
+      let r = hit-selected (all_classes files) (upwards (kin (all_classes files) (x ∷ []))) (signature_of m) h.0 named told in
       (r.0, r.1, ap (λ v. is_public v) (sym r.2) ∙ h.2)
     where
       asked : (a i f n : Bool) {u : Bool} → i ≡ true → n ≡ false → (((a || i) && not (not f && n)) && u) ≡ false → u ≡ false
@@ -359,11 +364,10 @@ module _ (list : List ℕ) (files : Files) (codes : List MethodCode) (settings :
   no-constructor c (in_class_file k t g) m i initial inter =
       let r = in-mapped method_of_class t.methods m i in
       let off = fit-method list files codes settings kept.unbroken.flags t r.0 (get-has t files.classes k g) r.1 in
-      let at = has-get r.0 t.methods r.1 in
       ap (λ (v : Member). is_constructor v.name) r.2
       ∙ fit-name (is_abstract r.0.flags) (is_constructor r.0.name) (is_initialiser r.0.name) (is_static r.0.flags) (is_interface t.flags) (is_some r.0.code) (is_unfit_method_kind r.0.flags)
       (ap (λ (v : Member). is_initialiser v.name) (sym r.2) ∙ initial) inter off
-      (λ kind abstract. kept.read.code k at.0 t r.0 g at.1 abstract (native (has r.0.flags 0x0100) (has r.0.flags 0x0020) (has r.0.flags 0x0800) (has_two_accesses r.0.flags) (is_abstract r.0.flags && (is_static r.0.flags || is_private r.0.flags)) kind))
+      (λ kind abstract. let spelt = kept.read.classes k t g in has-code t spelt.0 r.0 spelt.1 r.1 abstract (native (has r.0.flags 0x0100) (has r.0.flags 0x0020) (has r.0.flags 0x0800) (has_two_accesses r.0.flags) (is_abstract r.0.flags && (is_static r.0.flags || is_private r.0.flags)) kind))
     where
       native : (a b c d e : Bool) → (a || b || c || d || e) ≡ false → a ≡ false
       native true b c d e f = cc
@@ -372,9 +376,7 @@ module _ (list : List ℕ) (files : Files) (codes : List MethodCode) (settings :
       let r = in-mapped method_of_export d.methods m i in
       let s = of-imports d files.exports (get-has d (imports files.exports) k g) in
       let e = has-get s.0 files.exports s.1 in
-      let n = has-get d s.0.classes s.2 in
-      let at = has-get r.0 d.methods r.1 in
-      ap (λ (v : Member). is_constructor v.name) r.2 ∙ kept.read.plain e.0 n.0 at.0 s.0 d r.0 e.1 n.1 at.1 inter
+      ap (λ (v : Member). is_constructor v.name) r.2 ∙ plain-interface s.0 d r.0 (kept.read.exports e.0 s.0 e.1) s.2 r.1 inter
 
   -- ---- all
 

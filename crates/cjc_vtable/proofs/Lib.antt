@@ -10,6 +10,7 @@ pub mod Filed
 pub mod Ruled
 pub mod Clean
 pub mod Stood
+pub mod Read
 pub mod Selected
 pub mod Keeping
 pub mod Standing

@@ -1,19 +1,19 @@
 -- What a package keeps that dispatch by class tables rests on, said by the rules that it does not break.
-use Rattle.std.specs.Prelude.{◌≡◌, ℕ, List, [], ◌++◌, true, false, slice_get, Some, is_some}
+use Rattle.std.specs.Prelude.{◌≡◌, ℕ, List, [], ◌++◌, true, false, slice_get, Some}
 use Rattle.cjc_bytes.specs.declared.settings.Settings.{Settings}
+use Rattle.cjc_bytes.specs.Format.{FileSpells}
 use Rattle.cjc_classfile.specs.declared.tree.ClassTree.{ClassTree}
-use Rattle.cjc_classfile.specs.declared.tree.MethodTree.{MethodTree}
+use Rattle.cjc_classfile.specs.ClassFile.{class_file}
 use Rattle.cjc_code.specs.declared.method_code.MethodCode.{MethodCode}
-use Rattle.cjc_export.specs.declared.tree.ExportClass.{ExportClass}
-use Rattle.cjc_export.specs.declared.tree.ExportMethod.{ExportMethod}
 use Rattle.cjc_export.specs.declared.tree.ExportTree.{ExportTree}
-use Rattle.cjc_world.specs.Classes.{Class, has, all_classes, class_named, is_abstract, is_interface}
+use Rattle.cjc_export.specs.Writable.{IsWritable}
+use Rattle.cjc_world.specs.Classes.{Class, all_classes, class_named}
 use Rattle.cjc_world.specs.Files.{Files}
 use Rattle.cjc_world.specs.Kin.{kin, upwards}
 use Rattle.cjc_world.specs.Rules.{Break, Among, breaks}
 use Rattle.cjc_world.specs.Subtype.{starts}
 use Rattle.cjc_subset.specs.Checks.{check_breaks}
-use Rattle.cjc_tokens.specs.Members.{all_methods, is_constructor}
+use Rattle.cjc_tokens.specs.Members.{all_methods}
 use Rattle.cjc_vtable.specs.Calls.{IsOneToOne}
 use Rattle.cjc_vtable.specs.Laws.{KeepsRules, KeepsInterfaces, KeepsImported, VirtualCallsAgree, InterfaceCallsAgree, ImportedCallsAgree, TokensAreOnce}
 
@@ -21,7 +21,7 @@ use Rattle.cjc_vtable.specs.Laws.{KeepsRules, KeepsInterfaces, KeepsImported, Vi
 abbrev pub IsUnbroken : (rule : ℕ) → List Break → Type 0
 IsUnbroken rule bs = (b : Break) → Among b bs → b.rank.rule ≡ rule → ⊥
 
--- The package breaks none of the rules that dispatch rests on.
+-- The package breaks none of the rules that dispatch rests on. The list's name is that of its file.
 pub record BreaksNone (list : List ℕ) (files : Files) (codes : List MethodCode) (settings : Settings) : Type 0 where
   -- 201 to 204, 207 and 208
   pub world : breaks list files ≡ []
@@ -32,24 +32,22 @@ pub record BreaksNone (list : List ℕ) (files : Files) (codes : List MethodCode
   -- methods for those of interfaces
   pub code : IsUnbroken 307 (check_breaks list files codes settings)
 
--- What each file that is read keeps by itself.
+-- The files are read ones, in a package whose name is no array's: 91 is [, with which that of an array begins.
 pub record AreRead (files : Files) : Type 0 where
-  -- the package's name is no array's
   pub package_name : starts 91 files.package_name ≡ false
-  -- a method of a class file that is neither abstract nor native has code
-  pub code : (n i : ℕ) (c : ClassTree) (m : MethodTree) → slice_get files.classes n ≡ Some c → slice_get c.methods i ≡ Some m → is_abstract m.flags ≡ false → has m.flags 0x0100 ≡ false → is_some m.code ≡ true
-  -- no method of an interface of an export file is named like a constructor
-  pub plain : (e n i : ℕ) (t : ExportTree) (c : ExportClass) (m : ExportMethod) → slice_get files.exports e ≡ Some t → slice_get t.classes n ≡ Some c → slice_get c.methods i ≡ Some m → is_interface c.flags ≡ true → is_constructor m.name ≡ false
+  -- each class file and each export file is one that some bytes spell
+  pub classes : (n : ℕ) (c : ClassTree) → slice_get files.classes n ≡ Some c → (bytes : List ℕ) × FileSpells class_file c bytes
+  pub exports : (e : ℕ) (t : ExportTree) → slice_get files.exports e ≡ Some t → IsWritable t
 
 -- Export files don't contradict one another.
 pub record ExportsAgree (w : List Class) : Type 0 where
   -- Along an imported class and its supers, package-visible methods included, one name and descriptor has one virtual
   -- token, and one virtual token has one name and descriptor.
   pub told : (x : List ℕ) (c : Class) → class_named w x ≡ Some c → c.is_imported ≡ true → IsOneToOne (c.methods ++ all_methods (upwards (kin w c.supers)))
-  -- no class has the name of an array
+  -- No class has the name of an array. Rules 305 and 307 pass over such a super, since it counts as an array.
   pub names : (x : List ℕ) (c : Class) → class_named w x ≡ Some c → c.is_imported ≡ true → starts 91 x ≡ false
 
--- a package that `convert` may be asked for, as far as dispatch rests on it
+-- A package of read files that breaks none of these rules, and whose export files don't contradict one another.
 pub record IsKept (list : List ℕ) (files : Files) (codes : List MethodCode) (settings : Settings) : Type 0 where
   pub unbroken : BreaksNone list files codes settings
   pub read : AreRead files
