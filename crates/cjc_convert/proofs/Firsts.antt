@@ -19,7 +19,10 @@ use Rattle.cjc_convert.specs.Trees.{FileIs, AllSpelt}
 use Rattle.cjc_subset.specs.Names.{name_breaks}
 use Rattle.cjc_convert.specs.Codes.{all_codes, all_foreigns}
 use Rattle.cjc_subset.specs.Checks.{check_breaks}
+use Rattle.cjc_subset.specs.Places.{Spot, broken_at}
+use Rattle.cjc_subset.specs.Places.at_class as at_spot
 use Rattle.cjc_tokens.specs.Rules.{tested_breaks}
+use Rattle.cjc_tokens.specs.Rules as tokens
 use Rattle.cjc_convert.proofs.Families.{IsLanguage, names_second, foreigns_third, checks_language, tokens_fourth, type_fifth}
 use Rattle.cjc_convert.proofs.Files.{files_fine}
 
@@ -319,27 +322,27 @@ module _ (list : ListTree) (files : List (List ℕ)) (trees : List FileTree) (al
       of_checks_here a (us, world, among) =
           subst (λ (ts : List FileTree). Among a (check_breaks list.name (files_spelt list ts) (all_codes (classes_of ts)) (settings_of list))) (spelt_once us world.0) among
 
-      abbrev tokens : List Break
-      tokens = tested_breaks (has_applets list) (files_spelt list trees)
+      abbrev highs : List Break
+      highs = tested_breaks (has_applets list) (files_spelt list trees)
 
-      of_tokens_here : (a : Break) → BreaksTokens list files a → Among a tokens
+      of_tokens_here : (a : Break) → BreaksTokens list files a → Among a highs
       of_tokens_here a (us, world, among) = subst (λ (ts : List FileTree). Among a (tested_breaks (has_applets list) (files_spelt list ts))) (spelt_once us world.0) among
 
       past_names : {r : Refusal} → IsFirstRefused (Behind list files) r → IsFirstBroken list files r
       past_names {r} f = first_broken list files r (first_after (files_fine list.lines files trees all) (first_after world_fine (first_after names_fine f)))
 
       abbrev language : List Break
-      language = foreigns ++ checks ++ tokens
+      language = foreigns ++ checks ++ highs
 
       -- each of the three lists in the whole
       of_foreigns : (a : Break) → BreaksForeign list files a → Among a language
-      of_foreigns a h = among_left a (foreigns ++ checks) tokens (among_left a foreigns checks (of_foreigns_here a h))
+      of_foreigns a h = among_left a (foreigns ++ checks) highs (among_left a foreigns checks (of_foreigns_here a h))
 
       of_checks : (a : Break) → BreaksSubset list files a → Among a language
-      of_checks a h = among_left a (foreigns ++ checks) tokens (among_right a foreigns checks (of_checks_here a h))
+      of_checks a h = among_left a (foreigns ++ checks) highs (among_right a foreigns checks (of_checks_here a h))
 
       of_tokens_in : (a : Break) → BreaksTokens list files a → Among a language
-      of_tokens_in a h = among_right a (foreigns ++ checks) tokens (of_tokens_here a h)
+      of_tokens_in a h = among_right a (foreigns ++ checks) highs (of_tokens_here a h)
 
       -- a rule of the third or fourth hundred
       pub language_stops : (b : Break) → IsFirst b language → IsFirstBroken list files b.refusal
@@ -349,12 +352,12 @@ module _ (list : ListTree) (files : List (List ℕ)) (trees : List FileTree) (al
           of_some (inl i) = (inl (trees, all_spell list.lines files trees all, i), (let three = (foreigns_third (files_spelt list trees) (all_foreigns (classes_of trees))).family b i in omega (arith, three)))
           of_some (inr i) = (inr (inl (trees, (all_spell list.lines files trees all, unbroken), i)), ((checks_language list.name (files_spelt list trees) (all_codes (classes_of trees)) (settings_of list)).family b i).1)
 
-          of_split : Among b (foreigns ++ checks) ⊎ Among b tokens → Behind list files b × (b.rank.family ≤ 4)
+          of_split : Among b (foreigns ++ checks) ⊎ Among b highs → Behind list files b × (b.rank.family ≤ 4)
           of_split (inl i) = of_some (among_split b foreigns checks i)
           of_split (inr i) = (inr (inr (inl (trees, (all_spell list.lines files trees all, unbroken), i))), (let four = (tokens_fourth (has_applets list) (files_spelt list trees)).family b i in omega (arith, four)))
 
           of_any : Among b language → Behind list files b × (b.rank.family ≤ 4)
-          of_any i = of_split (among_split b (foreigns ++ checks) tokens i)
+          of_any i = of_split (among_split b (foreigns ++ checks) highs i)
 
           least : (a : Break) → Behind list files a → NotAfter b.rank a.rank
           least a (inl h) = f.least a (of_foreigns a h)
@@ -395,3 +398,9 @@ module _ (list : ListTree) (files : List (List ℕ)) (trees : List FileTree) (al
         none_broken none b (of_subset h) = none b (of_types_here b (language_fine b (inr (inl h))))
         none_broken none b (of_tokens h) = none b (of_types_here b (language_fine b (inr (inr (inl h)))))
         none_broken none b (of_types h) = none b (of_types_here b h)
+
+-- ---- 413 at the class of its file
+
+pub high_at : (bs : List Break) (f : tokens.FilePlace) (file : ℕ) (name : List ℕ) (c : ClassTree) (s : Spot) → file ≡ f.file → name ≡ f.name → s ≡ at_spot (record { place = file; name = name }) c
+    → IsFirst (tokens.at_class f c.name) bs → IsFirst (broken_at s 413) bs
+high_at bs f file name c s e n is h = subst (λ (b : Break). IsFirst b bs) (sym (ap (λ (q : Spot). broken_at q 413) is ∙ ap (λ q. broken_at (at_spot (record { place = q; name = name }) c) 413) e ∙ ap (λ q. broken_at (at_spot (record { place = f.file; name = q }) c) 413) n)) h
