@@ -1,5 +1,5 @@
 -- Rules 305, 306 and 307: methods and the methods that they inherit. A class inherits from all that stands above it:
--- every other class or interface of which it is a subtype.
+-- every other class or interface that it or its supers list, over steps.
 use Rattle.std.specs.Prelude.{ℕ, List, [], ◌++◌, Bool, true, false, not, ◌&&◌, ◌||◌, if◌then◌else◌, Option, Some, None}
 use Rattle.std.specs.List.{list_any}
 use Rattle.std.specs.Str.{bytes_eq}
@@ -9,12 +9,12 @@ use Rattle.cjc_world.specs.Classes.{Class, Member, all_classes, declared, import
 use Rattle.cjc_world.specs.Files.{Files}
 use Rattle.cjc_world.specs.Lookup.{is_called, selected}
 use Rattle.cjc_world.specs.Rules.{Break}
-use Rattle.cjc_world.specs.Subtype.{is_subtype}
+use Rattle.cjc_world.specs.Subtype.{is_subclass}
 use Rattle.cjc_subset.specs.Members.{Hit, hit, is_constructor, is_initialiser}
 use Rattle.cjc_subset.specs.Places.{FilePlace, at, at_class, at_method, each}
 
 abbrev pub is_above : List Class → ClassTree → Class → Bool
-is_above w c d = is_subtype w c.name d.name && not (bytes_eq c.name d.name)
+is_above w c d = is_subclass w c.name d.name && not (bytes_eq c.name d.name)
 
 -- constructors and <clinit> inherit nothing
 abbrev pub is_special : List ℕ → Bool

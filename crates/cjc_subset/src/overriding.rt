@@ -256,7 +256,7 @@ pub(crate) fn is_above(world: &World<'_>, class: &ClassTree<'_>, known: Known<'_
     ensures { result ≡ is_above (all_classes world.now) class.now (class_of known.entry) }
 {
     let name = class.name.items();
-    world.subtype(name, known.name()) && name != known.name()
+    world.is_subclass(name, known.name()) && name != known.name()
 }
 
 /// The first rule that a class breaks against another, where that stands above.

@@ -12,7 +12,7 @@ use Rattle.cjc_world.specs.Interfaces.{gathered, known}
 use Rattle.cjc_world.specs.Lookup.{first, own_method, is_called, receiver, selected}
 use Rattle.cjc_world.specs.Added.{without_initialiser, with_token, by_token, own_methods, asked_by}
 use Rattle.cjc_world.specs.Rules.{is_of_package, is_part, is_slash_part}
-use Rattle.cjc_world.specs.Subtype.{starts, is_subclass, array_is, element, is_element, is_subtype}
+use Rattle.cjc_world.specs.Subtype.{starts, is_subclass}
 use Rattle.cjc_world.proofs.Settled.{bytes-true, lists-front, lists-behind}
 use Rattle.cjc_world.proofs.Cycles.{class_named-name, tree-above, From}
 use Rattle.cjc_subset.specs.Flags.{has_two_accesses, is_unfit_method_kind}
@@ -219,12 +219,8 @@ fit-name false true false S true false false e f off code = let no = code refl r
 
 module _ (list : List ℕ) (files : Files) (codes : List MethodCode) (settings : Settings) (kept : IsKept list files codes settings) (acyclic : IsAcyclic (all_classes files))
     (is_kin : (xs : List (List ℕ)) → IsKin (all_classes files) xs (kin (all_classes files) xs)) (one_kin : (xs : List (List ℕ)) (j k : Kin) → IsKin (all_classes files) xs j → IsKin (all_classes files) xs k → j ≡ k) where
-  no-array : (x : List ℕ) (c : Class) → class_named (all_classes files) x ≡ Some c → starts 91 c.name ≡ false
-  no-array x c e = by c.is_imported refl
-    where
-      by : (b : Bool) → c.is_imported ≡ b → starts 91 c.name ≡ false
-      by true im = ap (starts 91) (class_named-name (all_classes files) x c e) ∙ kept.agree.names x c e im
-      by false im = no_array files.package_name c.name kept.read.package_name (of-package list files kept.unbroken.world x c e im)
+  no-array : (x : List ℕ) (c : Class) → class_named (all_classes files) x ≡ Some c → c.is_imported ≡ false → starts 91 c.name ≡ false
+  no-array x c e im = no_array files.package_name c.name kept.read.package_name (of-package list files kept.unbroken.world x c e im)
 
   itself : (x : List ℕ) (c : Class) → class_named (all_classes files) x ≡ Some c → class_named (all_classes files) c.name ≡ Some c
   itself x c e = ap (class_named (all_classes files)) (class_named-name (all_classes files) x c e) ∙ e
@@ -250,12 +246,12 @@ module _ (list : List ℕ) (files : Files) (codes : List MethodCode) (settings :
       by false f = f
 
   stands-above : (x : List ℕ) (c d : Class) → class_named (all_classes files) x ≡ Some c → class_named (all_classes files) d.name ≡ Some d
-      → (stands d.name (kin (all_classes files) c.supers) ≡ true) ⊎ (stands d.name (kin (all_classes files) c.interfaces) ≡ true) → (is_subtype (all_classes files) c.name d.name && not (bytes_eq c.name d.name)) ≡ true
-  unfolding is_subtype is_subclass
+      → (stands d.name (kin (all_classes files) c.supers) ≡ true) ⊎ (stands d.name (kin (all_classes files) c.interfaces) ≡ true) → (is_subclass (all_classes files) c.name d.name && not (bytes_eq c.name d.name)) ≡ true
+  unfolding is_subclass
   stands-above x c d e f way =
       let tree = kin-known (all_classes files) is_kin one_kin c.name c (itself x c e) in
       let in_tree : is_subclass (all_classes files) c.name d.name ≡ true = ap (stands d.name) tree ∙ either (bytes_eq c.name d.name) (stands d.name (kin (all_classes files) c.supers)) (stands d.name (kin (all_classes files) c.interfaces)) way in
-      by (starts 91 c.name) (starts 91 d.name) (bytes_eq c.name d.name) (is_subclass (all_classes files) c.name d.name) (if starts 91 d.name then is_element (all_classes files) (element c.name) (element d.name) else array_is (all_classes files) d.name) (no-array x c e) (no-array d.name d f) (other-name x c d e way) in_tree
+      by (bytes_eq c.name d.name) (is_subclass (all_classes files) c.name d.name) (other-name x c d e way) in_tree
     where
       either : (a b c : Bool) → (b ≡ true) ⊎ (c ≡ true) → (a || b || c || false) ≡ true
       either true b c h = refl
@@ -263,16 +259,14 @@ module _ (list : List ℕ) (files : Files) (codes : List MethodCode) (settings :
       either false false true h = refl
       either false false false h = ⊎_elim (λ g. cc) (λ g. cc) h
 
-      by : (s t u q v : Bool) → s ≡ false → t ≡ false → u ≡ false → q ≡ true → ((if s then v else not t && q) && not u) ≡ true
-      by false false false true v e f g h = refl
-      by false false false false v e f g h = cc
-      by true t u q v e f g h = cc
-      by false true u q v e f g h = cc
-      by false false true q v e f g h = cc
+      by : (u q : Bool) → u ≡ false → q ≡ true → (q && not u) ≡ true
+      by false true g h = refl
+      by false false g h = cc
+      by true q g h = cc
 
   -- ---- 305
 
-  out-of-sight : (c d : Class) → IsFiled files c → IsFiled files d → c.is_imported ≡ false → (is_subtype (all_classes files) c.name d.name && not (bytes_eq c.name d.name)) ≡ true
+  out-of-sight : (c d : Class) → IsFiled files c → IsFiled files d → c.is_imported ≡ false → (is_subclass (all_classes files) c.name d.name && not (bytes_eq c.name d.name)) ≡ true
       → (m n : Member) → In m c.methods → In n d.methods → signature_of m ≡ signature_of n → is_special (signature_of m) ≡ false → is_out_of_sight d.is_imported m.flags n.flags ≡ false
   out-of-sight c d (in_export_file k t g) filed_above im above m n i j one plain = cc
   out-of-sight c d (in_class_file k t g) (in_class_file l u h) im above m n i j one plain =
@@ -294,7 +288,7 @@ module _ (list : List ℕ) (files : Files) (codes : List MethodCode) (settings :
 
   -- ---- 307
 
-  no-code : (c d : Class) → IsFiled files c → IsFiled files d → c.is_imported ≡ false → is_abstract c.flags ≡ false → (is_subtype (all_classes files) c.name d.name && not (bytes_eq c.name d.name)) ≡ true
+  no-code : (c d : Class) → IsFiled files c → IsFiled files d → c.is_imported ≡ false → is_abstract c.flags ≡ false → (is_subclass (all_classes files) c.name d.name && not (bytes_eq c.name d.name)) ≡ true
       → (m : Member) → In m d.methods → (asks_for_code d m && is_unfit_selection (is_interface d.flags) (hit (all_classes files) false (selected (all_classes files) c.name m.name m.desc))) ≡ false
   no-code c d (in_export_file k t g) filed_above im concrete above m j = cc
   no-code c d (in_class_file k t g) (in_class_file l u h) im concrete above m j =
@@ -315,7 +309,7 @@ module _ (list : List ℕ) (files : Files) (codes : List MethodCode) (settings :
 
   -- an interface of the class
   asked-interface : (x : List ℕ) (c d : Class) → class_named (all_classes files) x ≡ Some c → Among d (known (gathered false (kin (all_classes files) c.supers) ++ gathered true (kin (all_classes files) c.interfaces)))
-      → (class_named (all_classes files) d.name ≡ Some d) × (is_interface d.flags ≡ true) × ((is_subtype (all_classes files) c.name d.name && not (bytes_eq c.name d.name)) ≡ true)
+      → (class_named (all_classes files) d.name ≡ Some d) × (is_interface d.flags ≡ true) × ((is_subclass (all_classes files) c.name d.name && not (bytes_eq c.name d.name)) ≡ true)
   asked-interface x c d e a =
       let w = all_classes files in
       let A = gathered false (kin w c.supers) in
@@ -341,7 +335,7 @@ module _ (list : List ℕ) (files : Files) (codes : List MethodCode) (settings :
       let fit = asked (is_abstract m.flags) (is_interface d.flags) d.is_imported (is_initialiser m.name) is.1 own.1 off in
       let off2 : is_unfit_selection true (hit w false (selected w c.name m.name m.desc)) ≡ false = ap (λ (v : Bool). is_unfit_selection v (hit w false (selected w c.name m.name m.desc))) (sym is.1) ∙ fit in
       let h = fit-selection (hit w false (selected w c.name m.name m.desc)) off2 in
-      let at_x : receiver c.name ≡ x = receiver-itself c.name (no-array x c e) ∙ class_named-name w x c e in
+      let at_x : receiver c.name ≡ x = receiver-itself c.name (no-array x c e im) ∙ class_named-name w x c e in
       let named = λ (g : Class) (j : Among g (upwards (kin (all_classes files) (x ∷ [])))). at-number files g.name g (upwards-named (all_classes files) (x ∷ []) (kin (all_classes files) (x ∷ [])) g (is_kin (x ∷ [])) j) in
       let told : hit (all_classes files) false (first (own_method true m.name m.desc) (upwards (kin (all_classes files) (x ∷ [])))) ≡ Some h.0 =
       ap (λ q. hit (all_classes files) false (first (own_method true m.name m.desc) (upwards (kin (all_classes files) (q ∷ []))))) (sym at_x) ∙ h.1
@@ -386,7 +380,7 @@ module _ (list : List ℕ) (files : Files) (codes : List MethodCode) (settings :
       acyclic = acyclic;
       single = λ x c e im. single c (filed files x c e) im;
       apart = lists-imported list files kept.unbroken.world;
-      told = kept.agree.told;
+      told = kept.agree;
       access = λ x c m n e im i j one plain.
           let a = in-class n (upwards (kin (all_classes files) c.supers)) j in
           no-clash m.flags n.flags a.0.is_imported (sight x c a.0 m n e im i a.1 a.2 one plain);

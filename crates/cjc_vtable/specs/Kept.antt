@@ -39,13 +39,10 @@ pub record AreRead (files : Files) : Type 0 where
   pub classes : (n : ℕ) (c : ClassTree) → slice_get files.classes n ≡ Some c → (bytes : List ℕ) × FileSpells class_file c bytes
   pub exports : (e : ℕ) (t : ExportTree) → slice_get files.exports e ≡ Some t → IsWritable t
 
--- Export files don't contradict one another.
-pub record ExportsAgree (w : List Class) : Type 0 where
-  -- Along an imported class and its supers, package-visible methods included, one name and descriptor has one virtual
-  -- token, and one virtual token has one name and descriptor.
-  pub told : (x : List ℕ) (c : Class) → class_named w x ≡ Some c → c.is_imported ≡ true → IsOneToOne (c.methods ++ all_methods (upwards (kin w c.supers)))
-  -- No class has the name of an array. Rules 305 and 307 pass over such a super, since it counts as an array.
-  pub names : (x : List ℕ) (c : Class) → class_named w x ≡ Some c → c.is_imported ≡ true → starts 91 x ≡ false
+-- Export files don't contradict one another: along an imported class and its supers, package-visible methods included,
+-- one name and descriptor has one virtual token, and one virtual token has one name and descriptor.
+abbrev pub ExportsAgree : List Class → Type 0
+ExportsAgree w = (x : List ℕ) (c : Class) → class_named w x ≡ Some c → c.is_imported ≡ true → IsOneToOne (c.methods ++ all_methods (upwards (kin w c.supers)))
 
 -- A package of read files that breaks none of these rules, and whose export files don't contradict one another.
 pub record IsKept (list : List ℕ) (files : Files) (codes : List MethodCode) (settings : Settings) : Type 0 where

@@ -157,8 +157,8 @@ impl<'a> World<'a> {
         self.tables.above.items()
     }
 
-    /// Whether a class is another or stands below it.
-    fn is_subclass(&self, sub: &[u8], sup: &[u8]) -> bool
+    /// Whether a class or interface is another or stands below it, over superclasses and superinterfaces.
+    pub fn is_subclass(&self, sub: &[u8], sup: &[u8]) -> bool
         ensures { result ≡ is_subclass (all_classes self.now) sub.now sup.now }
     {
         self.roster.is_subclass(self.rows(), sub, sup)
