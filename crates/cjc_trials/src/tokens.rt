@@ -1,6 +1,6 @@
 //! The tokens of small packages, and look-up in them both ways.
 
-ghost use Rattle.std.specs.Prelude.{◌≡◌, Bool, IfOk};
+ghost use Rattle.std.specs.Prelude.{◌≡◌, length, nat_lt, IfOk};
 ghost use Rattle.cjc_world.specs.Classes.{all_classes};
 ghost use Rattle.cjc_world.specs.Kin.{IsAcyclic};
 ghost use Rattle.cjc_tokens.specs.Tokens.{assigned};
@@ -34,7 +34,7 @@ pub(crate) fn tokens_of(
     settings: &Settings,
 ) -> Result<Tokens, Fault>
     requires { IsAcyclic (all_classes world.now) }
-    ensures { IfOk result (λ t. (applets : Bool) × (t ≡ assigned applets world.now)) }
+    ensures { IfOk result (λ t. t ≡ assigned (nat_lt 0 (length settings.now.applets)) world.now) }
 {
     if !few(world, settings)? {
         return Err(Fault::NoMemory);
