@@ -1,14 +1,16 @@
 -- A class of the files is the one of its number: numbers of its kind ascend in the order of the list.
-use Rattle.std.proofs.Common.{◌≡◌, ℕ, ◌+◌, ◌<◌, refl, sym, ap, subst, ◌∙◌, arith, Bool, true, false, List, [], ◌∷◌, ◌++◌, length}
-use Rattle.std.specs.Prelude.{Option, Some, None, if◌then◌else◌, slice_get, ◌==◌, ◌&&◌, not}
+use Rattle.std.proofs.Common.{◌≡◌, ℕ, ◌+◌, ◌<◌, ◌≤◌, refl, sym, ap, subst, ◌∙◌, arith, Bool, true, false, List, [], ◌∷◌, ◌++◌, length}
+use Rattle.std.specs.Prelude.{Option, Some, None, if◌then◌else◌, cond, option_map, slice_get, ◌==◌, ◌&&◌, not}
 use Rattle.std.specs.Str.{bytes_eq}
-use Rattle.std.proofs.lemmas.Bool.{eqb-true}
+use Rattle.std.proofs.lemmas.Bool.{eqb-true, eqb-false}
+use Rattle.std.proofs.lemmas.List.Sums.{sum_by-cons}
 use Rattle.cjc_bytes.specs.declared.settings.FileLine.{FileLine}
 use Rattle.cjc_classfile.specs.declared.tree.ClassTree.{ClassTree}
 use Rattle.cjc_export.specs.declared.tree.ExportClass.{ExportClass}
 use Rattle.cjc_export.specs.declared.tree.ExportTree.{ExportTree}
 use Rattle.cjc_world.specs.Files.{Files}
 use Rattle.cjc_world.specs.Classes.{Class, declared, imported, numbered, size, of_class_file, of_export_file, classes_from, all_classes, class_named, class_at, is_at}
+use Rattle.cjc_vtable.specs.Naming.{class_count}
 
 same_number : (n : ℕ) → (n == n) ≡ true
 same_number n = grind arith
@@ -196,3 +198,65 @@ from-tree trees exports c e i (line ∷ lines) n d f = by line.class_file f (fro
 pub at-tree : (files : Files) (n : ℕ) (d : Class) → class_at (all_classes files) false n ≡ Some d → (t : ClassTree) × (slice_get files.classes n ≡ Some t) × (d ≡ declared n t)
 unfolding all_classes Tree
 at-tree files n d e = from-tree files.classes files.exports 0 0 0 files.lines n d e
+
+-- ---- a number below that of the class files which the list names is of the tree at its place, and no other is of a class of the package
+
+class_count-cons : (line : FileLine) (lines : List FileLine) → class_count (line ∷ lines) ≡ cond line.class_file 1 0 + class_count lines
+class_count-cons line lines = sum_by-cons (λ (l : FileLine). cond l.class_file 1 0) line lines
+
+file-other : (c n : ℕ) (o : Option ClassTree) (rest : List Class) → c < n → class_at (of_class_file c o ++ rest) false n ≡ class_at rest false n
+unfolding class_at
+file-other c n None rest lt = refl
+file-other c n (Some t) rest lt = by (c == n) refl
+  where
+    by : (b : Bool) → (c == n) ≡ b → (if b then Some (declared c t) else class_at rest false n) ≡ class_at rest false n
+    by true f = let is = eqb-true c n f in absurd (omega arith)
+    by false f = refl
+
+file-here : (c : ℕ) (o : Option ClassTree) (rest : List Class) → class_at rest false c ≡ None → class_at (of_class_file c o ++ rest) false c ≡ option_map (declared c) o
+unfolding class_at
+file-here c None rest none = none
+file-here c (Some t) rest none = by (c == c) (same_number c)
+  where
+    by : (b : Bool) → b ≡ true → (if b then Some (declared c t) else class_at rest false c) ≡ Some (declared c t)
+    by true f = refl
+    by false f = cc
+
+file-listed : (trees : List ClassTree) (c n : ℕ) (rest : List Class) → c ≤ n → class_at rest false c ≡ None → (c < n → class_at rest false n ≡ option_map (declared n) (slice_get trees n)) → class_at (of_class_file c (slice_get trees c) ++ rest) false n ≡ option_map (declared n) (slice_get trees n)
+file-listed trees c n rest le none later = by (c == n) refl
+  where
+    by : (b : Bool) → (c == n) ≡ b → class_at (of_class_file c (slice_get trees c) ++ rest) false n ≡ option_map (declared n) (slice_get trees n)
+    by true f = subst (λ k. class_at (of_class_file c (slice_get trees c) ++ rest) false k ≡ option_map (declared k) (slice_get trees k)) (eqb-true c n f) (file-here c (slice_get trees c) rest none)
+    by false f = let lt : c < n = omega (arith, eqb-false c n f) in file-other c n (slice_get trees c) rest lt ∙ later lt
+
+from-listed : (trees : List ClassTree) (exports : List ExportTree) (c e i : ℕ) (lines : List FileLine) (n : ℕ) → c ≤ n → n < c + class_count lines → class_at (classes_from trees exports c e i lines) false n ≡ option_map (declared n) (slice_get trees n)
+unfolding classes_from
+from-listed trees exports c e i [] n le lt = absurd (omega arith)
+from-listed trees exports c e i (line ∷ lines) n le lt = by line.class_file (subst (λ q. n < c + q) (class_count-cons line lines) lt) (from-listed trees exports (c + 1) e i lines n) (from-listed trees exports c (e + 1) (i + size (slice_get exports e)) lines n le)
+  where
+    by : (b : Bool) → n < c + (cond b 1 0 + class_count lines)
+        → (c + 1 ≤ n → n < c + 1 + class_count lines → class_at (classes_from trees exports (c + 1) e i lines) false n ≡ option_map (declared n) (slice_get trees n))
+        → (n < c + class_count lines → class_at (classes_from trees exports c (e + 1) (i + size (slice_get exports e)) lines) false n ≡ option_map (declared n) (slice_get trees n))
+        → class_at (if b then of_class_file c (slice_get trees c) ++ classes_from trees exports (c + 1) e i lines else of_export_file i (slice_get exports e) ++ classes_from trees exports c (e + 1) (i + size (slice_get exports e)) lines) false n ≡ option_map (declared n) (slice_get trees n)
+    by true h r s = file-listed trees c n (classes_from trees exports (c + 1) e i lines) le (absent-declared trees exports (c + 1) e i lines c (below_next c)) (λ k. r (omega arith) (omega arith))
+    by false h r s = export-passed i n (slice_get exports e) (classes_from trees exports c (e + 1) (i + size (slice_get exports e)) lines) ∙ s (omega arith)
+
+from-unlisted : (trees : List ClassTree) (exports : List ExportTree) (c e i : ℕ) (lines : List FileLine) (n : ℕ) → c + class_count lines ≤ n → class_at (classes_from trees exports c e i lines) false n ≡ None
+unfolding class_at classes_from
+from-unlisted trees exports c e i [] n le = refl
+from-unlisted trees exports c e i (line ∷ lines) n le = by line.class_file (subst (λ q. c + q ≤ n) (class_count-cons line lines) le) (from-unlisted trees exports (c + 1) e i lines n) (from-unlisted trees exports c (e + 1) (i + size (slice_get exports e)) lines n)
+  where
+    by : (b : Bool) → c + (cond b 1 0 + class_count lines) ≤ n
+        → (c + 1 + class_count lines ≤ n → class_at (classes_from trees exports (c + 1) e i lines) false n ≡ None)
+        → (c + class_count lines ≤ n → class_at (classes_from trees exports c (e + 1) (i + size (slice_get exports e)) lines) false n ≡ None)
+        → class_at (if b then of_class_file c (slice_get trees c) ++ classes_from trees exports (c + 1) e i lines else of_export_file i (slice_get exports e) ++ classes_from trees exports c (e + 1) (i + size (slice_get exports e)) lines) false n ≡ None
+    by true h r s = file-other c n (slice_get trees c) (classes_from trees exports (c + 1) e i lines) (omega arith) ∙ r (omega arith)
+    by false h r s = export-passed i n (slice_get exports e) (classes_from trees exports c (e + 1) (i + size (slice_get exports e)) lines) ∙ s (omega arith)
+
+pub own_listed : (files : Files) (n : ℕ) → n < class_count files.lines → class_at (all_classes files) false n ≡ option_map (declared n) (slice_get files.classes n)
+unfolding all_classes
+own_listed files n lt = from-listed files.classes files.exports 0 0 0 files.lines n (omega arith) (omega arith)
+
+pub own_unlisted : (files : Files) (n : ℕ) → class_count files.lines ≤ n → class_at (all_classes files) false n ≡ None
+unfolding all_classes
+own_unlisted files n le = from-unlisted files.classes files.exports 0 0 0 files.lines n (omega arith)

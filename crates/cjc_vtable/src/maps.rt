@@ -15,7 +15,7 @@ ghost use Rattle.cjc_tokens.specs.Working.{signature_in, signs};
 ghost use Rattle.cjc_vtable.specs.Naming.{index_of};
 ghost use Rattle.cjc_vtable.specs.Tables.{interface_map};
 
-use crate::naming::named_row;
+use crate::naming::{class_count, named_row, own_class};
 use crate::table::InterfaceMap;
 use cjc_bytes::{Bytes, NoMemory, Row};
 use cjc_tokens::{Slot, Tokens, interface_methods, token};
@@ -129,9 +129,10 @@ fn slots_of<'w>(
     ensures { IfOk result (λ row. signs row.items ≡ slots (line_at (all_classes world.now) (class_of class.entry))) }
 {
     lookup_laws();
-    match world.class_at(false, number) {
+    let count = class_count(world);
+    match own_class(world, count, number) {
         None => Err(NoMemory),
-        Some(_) => named_row(alloc, world, tokens.public_methods(number)),
+        Some(_) => named_row(alloc, world, count, tokens.public_methods(number)),
     }
 }
 

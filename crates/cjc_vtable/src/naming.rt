@@ -1,16 +1,58 @@
 //! The name and the descriptor of a method that a look-up or a token means.
 
-ghost use Rattle.std.specs.Prelude.{◌≡◌, map, option_map, slice_get, IfOk, Some};
+ghost use Rattle.std.specs.Prelude.{◌≡◌, false, map, option_map, slice_get, IfOk, Some};
 ghost use Rattle.cjc_world.specs.Classes.{all_classes, class_at};
 ghost use Rattle.cjc_world.specs.Known.{class_of};
 ghost use Rattle.cjc_tokens.specs.Members.{signature_of};
 ghost use Rattle.cjc_tokens.specs.Working.{signature_in, signs};
-ghost use Rattle.cjc_vtable.specs.Naming.{ids_at, method_named, named, named_where, signature_by};
+ghost use Rattle.cjc_vtable.specs.Naming.{class_count, ids_at, method_named, named, named_where, signature_by};
 
 use cjc_bytes::{MemberId, NoMemory};
 use cjc_tokens::Slot;
 use cjc_world::{Found, Known, World};
 use std::alloc::Global;
+
+/// How many class files the list names.
+pub(crate) fn class_count(world: &World<'_>) -> usize
+    ensures { result ≡ class_count world.now.lines }
+{
+    world
+        .lines()
+        .items()
+        .iter()
+        .filter(|line| line.class_file)
+        .count()
+}
+
+/// The class of the package of a number, where the list names so many class files.
+#[tactic(auto, using(crate::proofs::Numbers::own_unlisted))]
+pub(crate) fn own_class<'w, 'a>(
+    world: &'w World<'a>,
+    count: usize,
+    number: u32,
+) -> Option<Known<'w, 'a>>
+    requires { count ≡ class_count world.now.lines }
+    ensures { option_map class_of result ≡ class_at (all_classes world.now) false number }
+{
+    if (number as usize) < count {
+        let class = world.classes().items().get(number as usize)?;
+        Some(Known::Declared(number, class))
+    } else {
+        None
+    }
+}
+
+/// The class that has a method.
+fn class_with<'w, 'a>(world: &'w World<'a>, count: usize, found: Found) -> Option<Known<'w, 'a>>
+    requires { count ≡ class_count world.now.lines }
+    ensures { option_map class_of result ≡ class_at (all_classes world.now) found.imported found.class }
+{
+    if found.imported {
+        world.class_at(true, found.class)
+    } else {
+        own_class(world, count, found.class)
+    }
+}
 
 /// A class's own method.
 fn own_at<'w>(class: Known<'w, '_>, place: usize) -> Option<Slot<'w>>
@@ -73,10 +115,11 @@ fn method_at<'w>(
 }
 
 /// The name and the descriptor of a method.
-pub(crate) fn named<'w>(world: &'w World<'_>, found: Found) -> Option<Slot<'w>>
+fn named<'w>(world: &'w World<'_>, count: usize, found: Found) -> Option<Slot<'w>>
+    requires { count ≡ class_count world.now.lines }
     ensures { option_map signature_in result ≡ named (all_classes world.now) found }
 {
-    let class = world.class_at(found.imported, found.class)?;
+    let class = class_with(world, count, found)?;
     let fields = class.field_count();
     let member = found.member as usize;
     if member < fields {
@@ -86,26 +129,29 @@ pub(crate) fn named<'w>(world: &'w World<'_>, found: Found) -> Option<Slot<'w>>
     }
 }
 
-fn named_where<'w>(world: &'w World<'_>, method: &Option<Found>) -> Option<Slot<'w>>
+fn named_where<'w>(world: &'w World<'_>, count: usize, method: &Option<Found>) -> Option<Slot<'w>>
+    requires { count ≡ class_count world.now.lines }
     ensures { option_map signature_in result ≡ named_where (all_classes world.now) method.now }
 {
     match method {
         None => None,
-        Some(found) => named(world, *found),
+        Some(found) => named(world, count, *found),
     }
 }
 
-/// The names and the descriptors of methods by their tokens.
+/// The names and the descriptors of methods by their tokens, where the list names so many class files.
 pub(crate) fn named_row<'w>(
     alloc: Global,
     world: &'w World<'_>,
+    count: usize,
     methods: &[Option<Found>],
 ) -> Result<Vec<Option<Slot<'w>>>, NoMemory>
+    requires { count ≡ class_count world.now.lines }
     ensures { IfOk result (λ row. signs row.items ≡ map (named_where (all_classes world.now)) methods.now) }
 {
     let mut row = Vec::new(alloc);
     for method in methods {
-        row.push(named_where(world, method))?;
+        row.push(named_where(world, count, method))?;
     }
     Ok(row)
 }

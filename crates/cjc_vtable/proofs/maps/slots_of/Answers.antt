@@ -12,6 +12,6 @@ pub returns-in-Some : goal.returns-in-Some
 returns-in-Some c =
     let w = all_classes c.args.world.now in
     let t = c.requires.tokens in
-    let there : class_at w false c.args.number ≡ Some (class_of c.in-Some.field-0) = sym c.class_at.ensures.at ∙ ap (option_map class_of) c.in-Some.is in
+    let there : class_at w false c.args.number ≡ Some (class_of c.in-Some.field-0) = sym c.own_class.ensures ∙ ap (option_map class_of) c.in-Some.is in
     let named = slots-of c.args.world.now t.0 c.args.number (class_of c.args.class) (class_of c.in-Some.field-0) (c.lookup_laws.ensures.is_kin w c.requires.acyclic) there c.requires.class c.requires.plain in
     subst (λ q. IfOk c.named_row.result (λ row. signs row.items ≡ q)) (ap (map (named_where w)) (c.public_methods.ensures ∙ ap (λ q. public_methods_of q c.args.number) t.1) ∙ named) c.named_row.ensures
