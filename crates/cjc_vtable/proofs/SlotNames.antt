@@ -12,10 +12,11 @@ use Rattle.cjc_world.specs.Added.{added, added_at, added_to, named_by}
 use Rattle.cjc_tokens.specs.Members.{Signature, signature_of, same, has, signatures, is_shown, is_virtual, all_methods, In, first_of, later}
 use Rattle.cjc_tokens.specs.Lines.{Line, Nowhere, Imported, Declared, line_in, line_at}
 use Rattle.cjc_tokens.specs.Slots.{Slots, new_in, with_new, slots, own, got, implementing, meant_by, row}
-use Rattle.cjc_tokens.specs.Tokens.{of_class, one_more, is_exported, classes_from, assigned, public_in, public_methods_of}
+use Rattle.cjc_tokens.specs.Tokens.{assigned, public_methods_of}
 use Rattle.cjc_vtable.specs.Naming.{method_named, member_named, named, named_where, signature_by, ids_at}
 use Rattle.cjc_tokens.proofs.Facts.{same-true, same-refl, position-cons, has-own_none, has-got_none}
 use Rattle.cjc_tokens.proofs.Held.{at_front, at_either, new-offered, listed_slot, shown-virtual}
+use Rattle.cjc_vtable.proofs.Assigned.{public-row}
 use Rattle.cjc_vtable.proofs.Given.{In-split}
 use Rattle.cjc_vtable.proofs.Numbers.{Numbered, at-kind, at-tree, named-number}
 
@@ -204,29 +205,7 @@ module _ (w : List Class) (numbered_ones : (x : List ℕ) (d : Class) → class_
       by true = (there, seen-upwards c.supers (kin w c.supers) tree)
       by false = (there, refl, seen-line c.supers (kin w c.supers) tree)
 
--- ---- the row that tokens keep of a class of the package
-
-tokens-at : (w : List Class) (applets : Bool) (b k : ℕ) (cs : List ClassTree) (n : ℕ) (t : ClassTree) → slice_get cs n ≡ Some t → (before : ℕ) × (slice_get (classes_from w applets b k cs) n ≡ Some (of_class w applets before (k + n) t))
-unfolding classes_from
-tokens-at w applets b k [] n t e = cc
-tokens-at w applets b k (c ∷ cs) zero t e =
-    let is : c ≡ t = cc in
-    let at : k ≡ k + 0 = omega arith in
-    (b, ap (λ (q : ClassTree). Some (of_class w applets b k q)) is ∙ ap (λ j. Some (of_class w applets b j t)) at)
-tokens-at w applets b k (c ∷ cs) (suc n) t e =
-    let r = tokens-at w applets (one_more (is_exported w applets (declared k c)) b) (k + 1) cs n t e in
-    let at : k + 1 + n ≡ k + suc n = omega arith in
-    (r.0, r.1 ∙ ap (λ j. Some (of_class w applets r.0 j t)) at)
-
-pub row-kept : (files : Files) (applets : Bool) (n : ℕ) (t : ClassTree) → slice_get files.classes n ≡ Some t → is_interface t.flags ≡ false → public_methods_of (assigned applets files) n ≡ row (line_at (all_classes files) (declared n t))
-unfolding assigned
-row-kept files applets n t e plain =
-    let w = all_classes files in
-    let r = tokens-at w applets 0 0 files.classes n t e in
-    let at : 0 + n ≡ n = omega arith in
-    ap public_in r.1
-    ∙ ap (λ b. if b then [] else row (line_at w (declared (0 + n) t))) plain
-    ∙ ap (λ j. row (line_at w (declared j t))) at
+-- ---- the names of what tokens keep of a class of the package
 
 pub slots-named : (files : Files) (applets : Bool) (n : ℕ) (d : Class)
     → ((xs : List (List ℕ)) → IsKin (all_classes files) xs (kin (all_classes files) xs))
@@ -239,7 +218,7 @@ slots-named files applets n d trees there plain =
     let k = at-kind w false n d there in
     let numbered_one : Numbered w d = ap (λ q. class_at w q d.number) k.0 ∙ ap (class_at w false) k.1 ∙ there in
     let plain_tree : is_interface t.0.flags ≡ false = ap (λ (q : Class). is_interface q.flags) (sym t.2) ∙ plain in
-    ap (map (named_where w)) (row-kept files applets n t.0 t.1 plain_tree ∙ ap (λ q. row (line_at w q)) (sym t.2))
+    ap (map (named_where w)) (public-row files applets n t.0 t.1 plain_tree (assigned applets files) refl ∙ ap (λ q. row (line_at w q)) (sym t.2))
     ∙ row-named w (line_at w d) (seen-at w (named-number files) d numbered_one (trees d.supers))
 
 -- where the class of the number is this one
