@@ -1,10 +1,11 @@
 -- The order of the classes of a package, from the class files alone.
-use Rattle.std.proofs.Common.{◌≡◌, ℕ, zero, suc, ◌+◌, ◌-◌, ◌<◌, ◌≤◌, refl, sym, ap, subst, ◌∙◌, arith, Bool, true, false, List, [], ◌∷◌, ◌++◌, length, drop, take, add-one, get_or, append_assoc, append-nil, inl, inr, eq-eqb}
+use Rattle.std.proofs.Common.{◌≡◌, ℕ, zero, suc, ◌+◌, ◌-◌, ◌<◌, ◌≤◌, refl, sym, ap, subst, ◌∙◌, arith, Bool, true, false, List, [], ◌∷◌, ◌++◌, length, drop, take, set, replicate, add-one, get_or, append_assoc, append-nil, inl, inr, eq-eqb}
 use Rattle.std.specs.Prelude.{◌&&◌, ◌||◌, ◌==◌, not, if◌then◌else◌, cond, ◌⊎◌, slice_get, map, filter, Option, Some, None, option_map, All}
 use Rattle.std.specs.List.{list_any}
 use Rattle.std.proofs.lemmas.List.Elements.{filter-append, All-append}
 use Rattle.std.proofs.lemmas.List.Folds.{list_any-append}
-use Rattle.std.proofs.lemmas.Option.{slice_get_within, slice_get_cases, get_or_from_slice_get}
+use Rattle.std.proofs.lemmas.Bool.{eqb-true, eqb-false}
+use Rattle.std.proofs.lemmas.Option.{slice_get_within, slice_get_cases, slice_get-map, get_or_from_slice_get}
 use Rattle.std.proofs.Math.Seq.{drop-cons}
 use Rattle.std.proofs.lemmas.Grind.{common_steps}
 use Rattle.std.proofs.lemmas.List.{map-append}
@@ -15,7 +16,7 @@ use Rattle.cjc_export.specs.declared.tree.ExportTree.{ExportTree}
 use Rattle.cjc_world.specs.Files.{Files}
 use Rattle.cjc_world.specs.Classes.{Class, declared, numbered, size, of_class_file, of_export_file, classes_from, all_classes, class_named, is_interface}
 use Rattle.cjc_world.specs.Order.{is_in, is_of_kind, waits, names_waiting, may_stand, next, and_then, lined_up, in_order}
-use Rattle.cjc_vtable.specs.Standing.{numbered_from, class_lines, declared_at, IsBegun, IsClass}
+use Rattle.cjc_vtable.specs.Standing.{numbered_from, class_lines, declared_at, IsBegun, IsClass, own_number, own_numbers, listed_numbers, has_mark, stands_marked, IsMarked}
 
 abbrev is_own : Class → Bool
 is_own c = not c.is_imported
@@ -307,3 +308,71 @@ class-more trees p new n is all one = subst (λ q. All (IsClass trees) q) (sym i
     alone : All (IsClass trees) (n ∷ [])
     alone zero d lt = one
     alone (suc k) d lt = absurd (omega arith)
+
+-- ---- what is marked
+
+or-none : (b : Bool) → (b || false) ≡ b
+or-none true = refl
+or-none false = refl
+
+or-all : (b : Bool) → (b || true) ≡ true
+or-all true = refl
+or-all false = refl
+
+module _ (w : List Class) (placed : List ℕ) (marks : List Bool) (marked : IsMarked placed marks) where
+  number-waits : (o : Option Class) → list_any (λ n. not (has_mark marks n)) (own_number o) ≡ names_waiting false placed o
+  number-waits None = refl
+  number-waits (Some c) = by (not c.is_imported && not (is_interface c.flags)) (is_in placed c.number) (marked c.number)
+    where
+      by : (b p : Bool) → has_mark marks c.number ≡ p → list_any (λ n. not (has_mark marks n)) (if b then c.number ∷ [] else []) ≡ (b && not p)
+      by false p e = refl
+      by true p e = ap (λ q. not q || false) e ∙ or-none (not p)
+
+  numbers-wait : (xs : List (List ℕ)) → list_any (λ n. not (has_mark marks n)) (own_numbers w xs) ≡ list_any (λ x. names_waiting false placed (class_named w x)) xs
+  numbers-wait [] = refl
+  numbers-wait (x ∷ xs) =
+      list_any-append (λ n. not (has_mark marks n)) (own_number (class_named w x)) (own_numbers w xs)
+      ∙ ap (λ b. b || list_any (λ n. not (has_mark marks n)) (own_numbers w xs)) (number-waits (class_named w x))
+      ∙ ap (λ b. names_waiting false placed (class_named w x) || b) (numbers-wait xs)
+
+  pub stands-marked : (k : ℕ) (t : ClassTree) (numbers : List ℕ) → numbers ≡ listed_numbers w t → stands_marked marks (declared k t) numbers ≡ may_stand w false placed (declared k t)
+  unfolding may_stand
+  stands-marked k t numbers is =
+      let g : List ℕ → Bool = λ x. names_waiting false placed (class_named w x) in
+      ap (λ b. not (is_interface t.flags) && not b && not (list_any (λ n. not (has_mark marks n)) numbers)) (marked k)
+      ∙ ap (λ b. not (is_interface t.flags) && not (is_in placed k) && not b)
+      (ap (list_any (λ n. not (has_mark marks n))) is ∙ numbers-wait (t.superclass ∷ t.interfaces) ∙ list_any-append g (t.superclass ∷ []) t.interfaces)
+
+pub row-at : (w : List Class) (trees : List ClassTree) (rows : List (List ℕ)) (k : ℕ) (t : ClassTree) (r : List ℕ) → slice_get trees k ≡ Some t → slice_get rows k ≡ Some r → rows ≡ map (listed_numbers w) trees → r ≡ listed_numbers w t
+row-at w trees rows k t r at there is =
+    let e : Some r ≡ Some (listed_numbers w t) = sym there ∙ ap (λ (q : List (List ℕ)). slice_get q k) is ∙ slice_get-map (listed_numbers w) trees k ∙ ap (option_map (listed_numbers w)) at in
+    cc
+
+-- one mark more
+mark-same : (marks : List Bool) (k : ℕ) → k < length marks → has_mark (set marks k true) k ≡ true
+mark-same [] k lt = absurd (omega arith)
+mark-same (m ∷ ms) zero lt = refl
+mark-same (m ∷ ms) (suc k) lt = mark-same ms k (omega arith)
+
+mark-other : (marks : List Bool) (k n : ℕ) → (k ≡ n → ⊥) → has_mark (set marks k true) n ≡ has_mark marks n
+mark-other [] k n other = refl
+mark-other (m ∷ ms) zero zero other = absurd (other refl)
+mark-other (m ∷ ms) zero (suc n) other = refl
+mark-other (m ∷ ms) (suc k) zero other = refl
+mark-other (m ∷ ms) (suc k) (suc n) other = mark-other ms k n (λ e. other (ap suc e))
+
+mark-set : (marks : List Bool) (k n : ℕ) → k < length marks → has_mark (set marks k true) n ≡ (has_mark marks n || ((k == n) || false))
+mark-set marks k n lt = by (k == n) refl
+  where
+    by : (b : Bool) → (k == n) ≡ b → has_mark (set marks k true) n ≡ (has_mark marks n || (b || false))
+    by true e = subst (λ j. has_mark (set marks k true) j ≡ true) (eqb-true k n e) (mark-same marks k lt) ∙ sym (or-all (has_mark marks n))
+    by false e = mark-other marks k n (eqb-false k n e) ∙ sym (or-none (has_mark marks n))
+
+pub marked-more : (placed new : List ℕ) (marks : List Bool) (k : ℕ) → k < length marks → new ≡ placed ++ k ∷ [] → IsMarked placed marks → IsMarked new (set marks k true)
+marked-more placed new marks k lt is marked n =
+    mark-set marks k n lt ∙ ap (λ b. b || ((k == n) || false)) (marked n) ∙ sym (is_in-more placed k n) ∙ ap (λ (q : List ℕ). is_in q n) (sym is)
+
+pub no-marks : (k n : ℕ) → has_mark (replicate k false) n ≡ false
+no-marks zero n = refl
+no-marks (suc k) zero = refl
+no-marks (suc k) (suc n) = no-marks k n

@@ -1,55 +1,89 @@
 //! The order of the classes of a package that are no interfaces: a superclass stands before its subclasses.
 
-ghost use Rattle.std.specs.Prelude.{◌≡◌, ◌<◌, ◌^◌, length, map, take, All, false, IfOk, MatchOption, None, Some};
+ghost use Rattle.std.specs.Prelude.{◌≡◌, ◌<◌, ◌^◌, ◌++◌, ℕ, List, length, map, take, All, false, not, IfOk, OnOk, MatchOption, None, Some};
 ghost use Rattle.std.specs.List.{list_any};
-ghost use Rattle.cjc_world.specs.Classes.{all_classes, class_named};
+ghost use Rattle.cjc_world.specs.Classes.{Class, all_classes, class_named};
 ghost use Rattle.cjc_world.specs.Known.{class_of};
-ghost use Rattle.cjc_world.specs.Order.{in_order, is_in, may_stand, names_waiting, next, waits};
-ghost use Rattle.cjc_vtable.specs.Standing.{class_lines, declared_at, IsClass, IsNext};
+ghost use Rattle.cjc_world.specs.Order.{in_order, next};
+ghost use Rattle.cjc_vtable.specs.Standing.{class_lines, declared_at, has_mark, IsClass, IsMarked, IsNext, listed_numbers, numbered_from, own_number, own_numbers, stands_marked};
 
-use cjc_bytes::{Bytes, FileLine, NoMemory};
+use cjc_bytes::{Bytes, FileLine, NoMemory, Row};
 use cjc_classfile::ClassTree;
 use cjc_world::{Known, World};
 use std::alloc::Global;
 
-fn is_in(numbers: &[u32], number: u32) -> bool
-    ensures { result ≡ is_in numbers.now number }
+fn push_number(world: &World<'_>, numbers: &mut Row<u32>, name: &[u8]) -> Result<(), NoMemory>
+    ensures { OnOk result (numbers.new ≡ numbers.old ++ own_number (class_named (all_classes world.now) name.now)) }
 {
-    numbers.iter().any(|other| *other == number)
+    if let Some(class) = world.class_named(name) {
+        if !class.is_imported() && !class.is_interface() {
+            numbers.push(class.number())?;
+        }
+    }
+    Ok(())
 }
 
-/// Whether a class of the package that is no interface has no place yet.
-fn waits(placed: &[u32], class: Known<'_, '_>) -> bool
-    ensures { result ≡ waits false placed.now (class_of class.entry) }
+fn push_numbers(world: &World<'_>, numbers: &mut Row<u32>, names: &[Bytes]) -> Result<(), NoMemory>
+    ensures { OnOk result (numbers.new ≡ numbers.old ++ own_numbers (all_classes world.now) names.now) }
 {
-    !class.is_imported() && !class.is_interface() && !is_in(placed, class.number())
+    for name in names {
+        push_number(world, numbers, name.items())?;
+    }
+    Ok(())
 }
 
-fn name_waits(world: &World<'_>, placed: &[u32], name: &[u8]) -> bool
-    ensures { result ≡ names_waiting false placed.now (class_named (all_classes world.now) name.now) }
+/// The numbers of the classes of the package that a class lists and that are no interfaces.
+fn listed_numbers(
+    alloc: Global,
+    world: &World<'_>,
+    class: &ClassTree<'_>,
+) -> Result<Row<u32>, NoMemory>
+    ensures { IfOk result (λ r. r ≡ listed_numbers (all_classes world.now) class.now) }
 {
-    match world.class_named(name) {
+    let mut numbers = Row::new(alloc);
+    push_number(world, &mut numbers, class.superclass.items())?;
+    push_numbers(world, &mut numbers, class.interfaces.items())?;
+    Ok(numbers)
+}
+
+/// Of each class those numbers.
+fn numbers_of_all(
+    alloc: Global,
+    world: &World<'_>,
+    classes: &[ClassTree<'_>],
+) -> Result<Row<Row<u32>>, NoMemory>
+    ensures { IfOk result (λ r. r ≡ map (listed_numbers (all_classes world.now)) classes.now) }
+{
+    let mut rows = Row::new(alloc);
+    for class in classes {
+        rows.push(listed_numbers(alloc, world, class)?)?;
+    }
+    Ok(rows)
+}
+
+fn has_mark(marks: &[bool], number: u32) -> bool
+    ensures { result ≡ has_mark marks.now number }
+{
+    match marks.get(number as usize) {
         None => false,
-        Some(class) => waits(placed, class),
+        Some(mark) => *mark,
     }
 }
 
-fn names_wait(world: &World<'_>, placed: &[u32], names: &[Bytes]) -> bool
-    ensures { result ≡ list_any (λ x. names_waiting false placed.now (class_named (all_classes world.now) x)) names.now }
+fn any_waits(marks: &[bool], numbers: &[u32]) -> bool
+    ensures { result ≡ list_any (λ n. not (has_mark marks.now n)) numbers.now }
 {
-    names
-        .iter()
-        .any(|name| name_waits(world, placed, name.items()))
+    numbers.iter().any(|number| !has_mark(marks, *number))
 }
 
-/// Whether a class waits, and none that it lists does.
-#[tactic(auto, unfolding(cjc_world::specs::Order::may_stand))]
-fn may_stand(world: &World<'_>, placed: &[u32], class: Known<'_, '_>) -> bool
-    ensures { result ≡ may_stand (all_classes world.now) false placed.now (class_of class.entry) }
+/// Whether a class waits, and none of these numbers does.
+fn may_stand(marks: &[bool], class: Known<'_, '_>, listed: &[u32]) -> bool
+    ensures { result ≡ stands_marked marks.now (class_of class.entry) listed.now }
 {
-    waits(placed, class)
-        && !(names_wait(world, placed, class.supers())
-            || names_wait(world, placed, class.interfaces()))
+    !class.is_imported()
+        && !class.is_interface()
+        && !has_mark(marks, class.number())
+        && !any_waits(marks, listed)
 }
 
 fn class_lines(lines: &[FileLine]) -> usize
@@ -74,14 +108,18 @@ fn listed_classes<'w, 'a>(world: &'w World<'a>) -> &'w [ClassTree<'a>]
     &classes[..count]
 }
 
-/// The number of the earliest class that may stand next.
-fn next_class(world: &World<'_>, placed: &[u32], classes: &[ClassTree<'_>]) -> Option<u32>
+/// The number of the earliest class that may stand next, where those that have a place are marked.
+fn next_class(classes: &[ClassTree<'_>], listed: &[Row<u32>], marks: &[bool]) -> Option<u32>
     requires few { length classes.now < 2 ^ 32 }
-    requires classes { classes.now ≡ take (class_lines world.now.lines) world.now.classes }
-    ensures { MatchOption result (next (all_classes world.now) false placed.now (all_classes world.now) ≡ None) (IsNext (all_classes world.now) placed.now classes.now) }
+    requires same { length listed.now ≡ length classes.now }
+    ensures { (w : List Class) (placed : List ℕ) → listed.now ≡ map (listed_numbers w) classes.now → IsMarked placed marks.now → MatchOption result (next w false placed (numbered_from 0 classes.now) ≡ None) (IsNext w placed classes.now) }
 {
     for (number, class) in classes.iter().enumerate() {
-        if may_stand(world, placed, Known::Declared(number as u32, class)) {
+        if may_stand(
+            marks,
+            Known::Declared(number as u32, class),
+            listed[number].items(),
+        ) {
             return Some(number as u32);
         }
     }
@@ -97,11 +135,16 @@ pub(crate) fn class_order(alloc: Global, world: &World<'_>) -> Result<Vec<u32>, 
     if classes.len() > 0xFFFF_FFFF {
         return Err(NoMemory);
     }
+    let listed = numbers_of_all(alloc, world, classes)?;
+    let mut marks = vec![in alloc; false; classes.len()]?;
     let mut order = Vec::new(alloc);
     for _ in 0..classes.len() {
-        match next_class(world, &order, classes) {
+        match next_class(classes, listed.items(), &marks) {
             None => return Ok(order),
-            Some(number) => order.push(number)?,
+            Some(number) => {
+                marks[number as usize] = true;
+                order.push(number)?;
+            }
         }
     }
     Ok(order)
