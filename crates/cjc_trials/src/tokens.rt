@@ -60,32 +60,28 @@ pub(crate) fn listed(class: u32, member: u32) -> Option<Found> {
 
 /// Whether the members of a class have these tokens, in their order.
 fn has_members(tokens: &Tokens, imported: bool, class: u32, wanted: &[Option<u8>]) -> bool {
-    for (place, token) in wanted.iter().enumerate() {
-        let id = Found {
-            imported,
-            class,
-            member: place as u32,
-        };
+    let mut id = Found {
+        imported,
+        class,
+        member: 0,
+    };
+    for token in wanted {
         if tokens.member_token(id) != *token {
             return false;
         }
+        id.member = id.member.wrapping_add(1);
     }
-    let past = Found {
-        imported,
-        class,
-        member: wanted.len() as u32,
-    };
-    tokens.member_token(past).is_none()
+    tokens.member_token(id).is_none()
 }
 
 /// Whether the virtual tokens of a class from one on mean these, and the next none.
 fn means(tokens: &Tokens, class: u32, from: u8, wanted: &[Option<Found>]) -> bool {
     let mut token = from;
     for found in wanted {
-        if tokens.virtual_by_token(class, token) != *found || token == 0xFF {
+        if tokens.virtual_by_token(class, token) != *found {
             return false;
         }
-        token += 1;
+        token = token.wrapping_add(1);
     }
     tokens.virtual_by_token(class, token).is_none()
 }
@@ -454,8 +450,10 @@ fn fields_stand_in_groups(rt: HostRuntime) -> Result<(), Fail> {
         Some(0),
         None,
     ];
-    for (token, place) in places.iter().enumerate() {
-        assert!(rt; tokens.field_by_token(0, token as u8) == *place);
+    let mut token = 0u8;
+    for place in places {
+        assert!(rt; tokens.field_by_token(0, token) == place);
+        token = token.wrapping_add(1);
     }
     Ok(())
 }
@@ -501,8 +499,10 @@ fn a_package_with_applets_exports_shareable_interfaces(rt: HostRuntime) -> Resul
         let world = sharing(alloc, listed).ok().ok_or("a world")?;
         let settings = settings(alloc, applets).ok().ok_or("settings")?;
         let tokens = tokens_of(alloc, &world, &settings).ok().ok_or("tokens")?;
-        for (class, token) in classes.iter().enumerate() {
-            assert!(rt; tokens.class_token(class as u32) == *token);
+        let mut class = 0u32;
+        for token in classes {
+            assert!(rt; tokens.class_token(class) == token);
+            class = class.wrapping_add(1);
         }
     }
     Ok(())
