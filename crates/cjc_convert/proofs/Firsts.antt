@@ -19,8 +19,7 @@ use Rattle.cjc_convert.specs.Trees.{FileIs, AllSpelt}
 use Rattle.cjc_subset.specs.Names.{name_breaks}
 use Rattle.cjc_convert.specs.Codes.{all_codes, all_foreigns}
 use Rattle.cjc_subset.specs.Checks.{check_breaks}
-use Rattle.cjc_subset.specs.Places.{Spot, broken_at}
-use Rattle.cjc_subset.specs.Places.at_class as at_spot
+use Rattle.cjc_subset.specs.Places.{Spot, broken_at, at_class as at_spot}
 use Rattle.cjc_tokens.specs.Rules.{tested_breaks}
 use Rattle.cjc_tokens.specs.Rules as tokens
 use Rattle.cjc_convert.proofs.Families.{IsLanguage, names_second, foreigns_third, checks_language, tokens_fourth, type_fifth}
