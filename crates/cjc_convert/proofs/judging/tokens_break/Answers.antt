@@ -11,14 +11,14 @@ use Rattle.cjc_convert.proofs.Firsts.{high_at}
 use Rattle.cjc_convert.proofs.judging.tokens_break.Goals as goal
 
 pub returns-in-None : goal.returns-in-None
-returns-in-None c = subst (IsFirstHigh (nat_lt 0 (length c.args.settings.now.applets)) c.args.world.now) c.in-None.is c.in_ok.ensures
+returns-in-None c = subst (IsFirstHigh (nat_lt 0 (length c.args.settings.now.applets)) c.args.world.now) c.in-None.is c.in_ok-first_high.ensures
 
-pub returns : goal.returns
-returns c =
+pub returns-in-Some : goal.returns-in-Some
+returns-in-Some c =
     let files = c.args.world.now in
     let n = c.in-Some.number in
     let x = c.index-items-number.result in
-    let high = subst (IsFirstHigh (nat_lt 0 (length c.args.settings.now.applets)) files) c.in-Some.is c.in_ok.ensures in
+    let high = subst (IsFirstHigh (nat_lt 0 (length c.args.settings.now.applets)) files) c.in-Some.is c.in_ok-first_high.ensures in
     let same : x ≡ high.0 = c.index-items-number.is ∙ ap (λ q. get_or q n x) (c.items.ensures ∙ c.classes.ensures) ∙ get_or_from_slice_get files.classes n high.0 x high.1 in
     let lines = c.items-2.ensures ∙ c.lines.ensures in
     high_at (tested_breaks (nat_lt 0 (length c.args.settings.now.applets)) files) (file_of 0 files.lines n) c.file_of-file.result.0 c.file_of-file.result.1.now x (spot_of c.class_spot.result)
