@@ -20,7 +20,7 @@ returns-in-Some c =
     let x = c.index-items-number.result in
     let high = subst (IsFirstHigh (nat_lt 0 (length c.args.settings.now.applets)) files) c.in-Some.is c.in_ok-first_high.ensures in
     let same : x ≡ high.0 = c.index-items-number.is ∙ ap (λ q. get_or q n x) (c.items.ensures ∙ c.classes.ensures) ∙ get_or_from_slice_get files.classes n high.0 x high.1 in
-    let lines = c.items-2.ensures ∙ c.lines.ensures in
+    let lines = c.items-in-Some.ensures ∙ c.lines.ensures in
     high_at (tested_breaks (nat_lt 0 (length c.args.settings.now.applets)) files) (file_of 0 files.lines n) c.file_of-file.result.0 c.file_of-file.result.1.now x (spot_of c.class_spot.result)
     (c.file_of-file.ensures.file ∙ ap (λ (ls : List FileLine). (file_of 0 ls n).file) lines)
     (c.file_of-file.ensures.name ∙ ap (λ (ls : List FileLine). (file_of 0 ls n).name) lines)
