@@ -69,10 +69,11 @@ fn are_tables(tables: &ClassTables, wanted: &[Wanted<'_>]) -> bool {
 fn methods_of_export_files_have_no_entry(rt: HostRuntime) -> Result<(), Fail> {
     let world = overriding(rt.alloc()).ok().ok_or("a world")?;
     let tables = tables_of(rt.alloc(), &world).ok().ok_or("tables")?;
+    let none: &[Map<'_>] = &[];
     let wanted: [Wanted<'_>; 3] = [
-        (0, 1, &[declared(0, 1), None], 0, &[], &[]),
-        (1, 2, &[declared(1, 1), declared(1, 0)], 0, &[], &[]),
-        (2, 3, &[], 0, &[], &[]), // the next free token
+        (0, 1, &[declared(0, 1), None], 0, &[], none),
+        (1, 2, &[declared(1, 1), declared(1, 0)], 0, &[], none),
+        (2, 3, &[], 0, &[], none), // the next free token
     ];
     assert!(rt; are_tables(&tables, &wanted));
     Ok(())
@@ -82,6 +83,7 @@ fn methods_of_export_files_have_no_entry(rt: HostRuntime) -> Result<(), Fail> {
 fn package_visible_methods_have_a_table(rt: HostRuntime) -> Result<(), Fail> {
     let world = hiding(rt.alloc()).ok().ok_or("a world")?;
     let tables = tables_of(rt.alloc(), &world).ok().ok_or("tables")?;
+    let none: &[Map<'_>] = &[];
     let wanted: [Wanted<'_>; 3] = [
         (
             0,
@@ -89,7 +91,7 @@ fn package_visible_methods_have_a_table(rt: HostRuntime) -> Result<(), Fail> {
             &[declared(0, 0), declared(0, 2)],
             0,
             &[declared(0, 1), declared(0, 3)],
-            &[],
+            none,
         ),
         (
             1,
@@ -97,9 +99,9 @@ fn package_visible_methods_have_a_table(rt: HostRuntime) -> Result<(), Fail> {
             &[declared(1, 2)],
             0,
             &[declared(1, 1), declared(0, 3), declared(1, 0)],
-            &[],
+            none,
         ),
-        (2, 3, &[declared(2, 0)], 0, &[declared(2, 1)], &[]),
+        (2, 3, &[declared(2, 0)], 0, &[declared(2, 1)], none),
     ];
     assert!(rt; are_tables(&tables, &wanted));
     Ok(())

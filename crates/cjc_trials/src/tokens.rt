@@ -8,6 +8,7 @@ ghost use Rattle.cjc_tokens.specs.Tokens.{assigned};
 use crate::drafts::{Draft, EQUALS, Listed, Member, OBJECT, THROWABLE, imported};
 use cjc_bytes::{AppletLine, Bytes, Fault, NoMemory, Row, Settings};
 use cjc_classfile::MethodTree;
+use cjc_export::ExportClass;
 use cjc_tokens::{Tokens, assign, few};
 use cjc_world::{Found, World};
 use std::alloc::Global;
@@ -458,18 +459,18 @@ fn fields_stand_in_groups(rt: HostRuntime) -> Result<(), Fail> {
     Ok(())
 }
 
-fn sharing<'a>(alloc: Global, listed: bool) -> Result<World<'a>, Fault>
-    ensures { IfOk result (λ w. IsAcyclic (all_classes w)) }
-{
-    let shareable: &[u8] = b"javacard/framework/Shareable";
+const SHAREABLE: &[u8] = b"javacard/framework/Shareable";
+
+fn framework(alloc: Global) -> Result<Row<ExportClass>, NoMemory> {
+    let mut row = Row::new(alloc);
+    row.push(imported(alloc, 0x0E01, SHAREABLE, &[OBJECT], &[], &[], &[])?)?;
+    Ok(row)
+}
+
+/// A class p/C and interfaces p/I to p/K, of which p/I lists these.
+fn sharing<'a>(alloc: Global, above: &[&[u8]]) -> Result<Draft<'a>, NoMemory> {
     let mut draft = Draft::new(alloc);
     draft.language(alloc, THROWABLE, 0)?;
-    if listed {
-        let mut row = Row::new(alloc);
-        row.push(imported(alloc, 0x0E01, shareable, &[OBJECT], &[], &[], &[])?)?;
-        draft.export(alloc, b"javacard/framework", row)?;
-    }
-    let above: &[&[u8]] = if listed { &[shareable] } else { &[] };
     draft.class(
         alloc,
         0x21,
@@ -482,7 +483,32 @@ fn sharing<'a>(alloc: Global, listed: bool) -> Result<World<'a>, Fault>
     draft.class(alloc, 0x0601, b"p/I", OBJECT, above, &[], &[])?;
     draft.class(alloc, 0x0601, b"p/J", OBJECT, &[b"p/I"], &[], &[])?;
     draft.class(alloc, 0x0600, b"p/K", OBJECT, &[b"p/I"], &[], &[])?;
+    Ok(draft)
+}
+
+fn shared<'a>(alloc: Global) -> Result<World<'a>, Fault>
+    ensures { IfOk result (λ w. IsAcyclic (all_classes w)) }
+{
+    let mut draft = sharing(alloc, &[SHAREABLE])?;
+    draft.export(alloc, b"javacard/framework", framework(alloc)?)?;
     draft.world(alloc)
+}
+
+fn unshared<'a>(alloc: Global) -> Result<World<'a>, Fault>
+    ensures { IfOk result (λ w. IsAcyclic (all_classes w)) }
+{
+    let draft = sharing(alloc, &[])?;
+    draft.world(alloc)
+}
+
+fn shared_where<'a>(alloc: Global, listed: bool) -> Result<World<'a>, Fault>
+    ensures { IfOk result (λ w. IsAcyclic (all_classes w)) }
+{
+    if listed {
+        shared(alloc)
+    } else {
+        unshared(alloc)
+    }
 }
 
 #[test]
@@ -496,7 +522,7 @@ fn a_package_with_applets_exports_shareable_interfaces(rt: HostRuntime) -> Resul
         (true, none, [Some(0), Some(1), Some(2), None]),
     ];
     for (listed, applets, classes) in cases {
-        let world = sharing(alloc, listed).ok().ok_or("a world")?;
+        let world = shared_where(alloc, listed).ok().ok_or("a world")?;
         let settings = settings(alloc, applets).ok().ok_or("settings")?;
         let tokens = tokens_of(alloc, &world, &settings).ok().ok_or("tokens")?;
         let mut class = 0u32;
