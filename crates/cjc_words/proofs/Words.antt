@@ -87,7 +87,7 @@ pub low_word-shl : (x : ℤ) (k : ℕ) → low_word (low_word x *ℤ pos (2 ^ k)
 low_word-shl x k = int_wrap-mul_left w16 x (pos (2 ^ k)) ∙ sym (low_word-wide (x *ℤ pos (2 ^ k)))
 
 -- a fit by its ends
-fits16 : (z : ℤ) → negsuc 32767 ≤ℤ z → z ≤ℤ pos 32767 → FitsSigned w16 z
+pub fits16 : (z : ℤ) → negsuc 32767 ≤ℤ z → z ≤ℤ pos 32767 → FitsSigned w16 z
 fits16 (pos n) a b = record { sfits = omega (arith, ints) }
 fits16 (negsuc n) a b = record { sfits = omega (arith, ints) }
 
