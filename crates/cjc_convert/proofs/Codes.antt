@@ -8,7 +8,7 @@ use Rattle.std.proofs.lemmas.Int.{ints, to_z-of_z}
 use Rattle.std.proofs.lemmas.Nat.{from_be_bytes-to_be_bytes_2}
 use Rattle.cjc_card.specs.Rows.{Fetched, Does, fetch, push, sload, sadd, sreturn}
 use Rattle.cjc_convert.specs.Selected.{sconst, lies_in, constant, load}
-use Rattle.cjc_convert.proofs.Words.{fits16}
+use Rattle.cjc_words.proofs.Words.{fits16}
 
 le_true : (a b : ℤ) → int_le a b ≡ true → a ≤ℤ b
 le_true a b e = grind (arith, ints)

@@ -19,7 +19,7 @@ use Rattle.cjc_subset.specs.Names.{insn_breaks, catch_breaks, catches_of, method
 use Rattle.cjc_subset.specs.Checks as checks
 use Rattle.cjc_subset.specs.Overriding.{is_above, method_against, class_against, kin_breaks, overriding_breaks}
 use Rattle.cjc_tokens.specs.Rules.{breaks_from, breaks_where, has_high_token, is_few, tested_breaks, token_breaks, at_class as token_at_class, file_of as token_file_of}
-use Rattle.cjc_tokens.specs.Tokens.{is_exported}
+use Rattle.cjc_world.specs.Exported.{is_exported}
 use Rattle.cjc_types.specs.declared.state.State.{State}
 use Rattle.cjc_types.specs.Flow.{Body}
 use Rattle.cjc_types.specs.Rules.{Breaks, clash, wrong, off}

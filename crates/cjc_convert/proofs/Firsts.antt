@@ -13,6 +13,7 @@ use Rattle.cjc_list.specs.Listed.{ListTree}
 use Rattle.cjc_world.specs.Classes.{Class, Member, declared, numbered, size, all_classes}
 use Rattle.cjc_world.specs.Files.{Files}
 use Rattle.cjc_world.specs.Rules.{Break, Among, foremost, after, IsFirst, at_class, at_member, told, members_before, members_from, class_breaks, classes_breaks, class_file_breaks, export_file_breaks, breaks_from, breaks}
+use Rattle.cjc_world.proofs.Sorted.{upto_trans}
 use Rattle.cjc_convert.specs.Spelt.{FileTree, of_class, of_export, SpellsTree, SpellTrees, classes_of}
 use Rattle.cjc_convert.specs.Rules.{FileBreach, no_class_file, no_instructions, no_export_file, file_rank, BreaksFile, files_spelt, BreaksWorld, BreaksNames, BreaksForeign, BreaksSubset, BreaksAnyType, BreaksTypes, foreign_breaks, settings_of, Breach, of_file, of_world, of_names, of_foreign, of_subset, of_tokens, of_types, BreaksTokens, has_applets, IsFirstRefused, IsFirstBroken}
 use Rattle.cjc_convert.specs.Trees.{FileIs, AllSpelt}
@@ -46,16 +47,6 @@ first_after {G} {H} none f = record { broken = f.broken; first = record { breaks
     least : (a : Break) → Either G H a → NotAfter f.broken.rank a.rank
     least a (inl g) = absurd (none a g)
     least a (inr h) = f.first.least a h
-
-upto_trans : (xs ys zs : List ℕ) → AreUpTo xs ys → AreUpTo ys zs → AreUpTo xs zs
-upto_trans [] ys zs p q = tt
-upto_trans (x ∷ xs) [] zs p q = absurd p
-upto_trans (x ∷ xs) (y ∷ ys) [] p q = absurd q
-upto_trans (x ∷ xs) (y ∷ ys) (z ∷ zs) p q =
-    ⊎_elim
-    (λ l. ⊎_elim (λ m. inl (omega (arith, l, m))) (λ m. inl (let e = m.0 in omega (arith, l, e))) q)
-    (λ l. ⊎_elim (λ m. inl (let e = l.0 in omega (arith, m, e))) (λ m. inr (l.0 ∙ m.0, upto_trans xs ys zs l.1 m.1)) q)
-    p
 
 -- Of the firsts of two groups, the one that does not stand after the other is the first of both.
 pub first_of_two : {G H : Break → Type 0} {r s : Refusal} (f : IsFirstRefused G r) (g : IsFirstRefused H s) → NotAfter f.broken.rank g.broken.rank → IsFirstRefused (Either G H) r

@@ -4,7 +4,6 @@ pub mod Decoding
 pub mod Files
 pub mod Families
 pub mod Firsts
-mod Words
 mod Codes
 pub mod Lists
 mod Pushes

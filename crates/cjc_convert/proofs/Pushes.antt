@@ -18,7 +18,7 @@ use Rattle.cjc_card.specs.Rows
 use Rattle.cjc_card.specs.ByToken.{cell_of}
 use Rattle.cjc_convert.specs.FirstForm.{is_push}
 use Rattle.cjc_convert.specs.Selected.{selected}
-use Rattle.cjc_convert.proofs.Words.{low_word_same, low_word_ends}
+use Rattle.cjc_words.proofs.Words.{low_word_same, low_word_ends}
 use Rattle.cjc_convert.proofs.Codes.{and_true, lies_true, found, fetch-constant, fetch-load}
 
 -- ---- arguments

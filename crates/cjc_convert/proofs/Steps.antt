@@ -39,7 +39,7 @@ use Rattle.cjc_script.specs.Fits.{all_fit}
 use Rattle.cjc_convert.specs.FirstForm.{is_push, is_iadd, is_i2s, is_ireturn, is_rest, is_sum, ops_of}
 use Rattle.cjc_convert.specs.Selected.{selected, selected_code}
 use Rattle.cjc_convert.specs.Converted.{descriptor_part}
-use Rattle.cjc_convert.proofs.Words.{low_word-add}
+use Rattle.cjc_words.proofs.Words.{low_word-add}
 use Rattle.cjc_convert.proofs.Codes.{and_true, found, fetch-sadd, fetch-sreturn}
 use Rattle.cjc_convert.proofs.Lists.{get_here, next_here, le_test, lt_test, from_next}
 use Rattle.cjc_convert.proofs.Pushes.{op_pushes, param_at, fits_alike}

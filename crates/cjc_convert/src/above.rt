@@ -3,19 +3,13 @@
 ghost use Rattle.std.specs.Prelude.{◌≡◌, ◌++◌, ℕ, OnOk, IfOk, IfSome, IfNone, option_to_list};
 ghost use Rattle.std.specs.Option.{option_copied};
 ghost use Rattle.cjc_export.specs.declared.tree.ExportClass.{ExportClass as Root};
-ghost use Rattle.cjc_export.specs.Words.{has};
 ghost use Rattle.cjc_convert.specs.Above.{root_of as root_of_lem, is_virtual as is_virtual_lem, takes_token as takes_token_lem, free_token as free_token_lem, is_inherited as is_inherited_lem, inherited, with_token as with_token_lem};
 ghost use Rattle.cjc_convert.specs.Conversion.{IsRoot};
 
 use cjc_bytes::{Bytes, NoMemory, Row};
 use cjc_export::{ExportClass, ExportMethod, ExportTree};
+use cjc_world::has;
 use std::alloc::Global;
-
-fn has(flags: u16, flag: u16) -> bool
-    ensures { result ≡ has flags flag }
-{
-    flags & flag > 0
-}
 
 // The class java/lang/Object.
 fn object_in(lang: &ExportTree) -> Option<&ExportClass>

@@ -7,7 +7,6 @@ ghost use Rattle.cjc_subset.specs.Places.{IsFirstOf};
 ghost use Rattle.cjc_types.specs.Tables.{IsOfPackage};
 ghost use Rattle.cjc_tokens.specs.Rules.{tested_breaks};
 ghost use Rattle.cjc_world.specs.Classes.{all_classes};
-ghost use Rattle.cjc_world.specs.Kin.{IsAcyclic};
 ghost use Rattle.cjc_world.specs.Rules.{IsFirstRefusal, breaks, Break as Broken};
 ghost use Rattle.cjc_convert.specs.Rules.{foreign_break, foreign_breaks, language_breaks, settings_of, BreaksType, BreaksAnyType, IsFirstIn, IsFirstFault};
 
@@ -18,7 +17,7 @@ use cjc_list::List;
 use cjc_subset::{Break, answer, class_spot, file_of, first, first_broken, method_spot};
 use cjc_tokens::first_high;
 use cjc_types::infer;
-use cjc_world::{World, lookup_laws};
+use cjc_world::World;
 use std::alloc::Global;
 
 // The applet lines of a list, in memory of their own.
@@ -80,7 +79,6 @@ fn tokens_break<'w>(
     world: &'w World<'_>,
     settings: &Settings,
 ) -> Result<Option<Break<'w>>, NoMemory>
-    requires { IsAcyclic (all_classes world.now) }
     ensures { IfOk result (λ b. IsFirstOf (tested_breaks (nat_lt 0 (length settings.now.applets)) world.now) (option_map break_of b)) }
 {
     match first_high(alloc, world, settings)? {
@@ -104,14 +102,12 @@ pub(crate) fn language(
     codes: &Codes,
     foreigns: &[Foreign],
 ) -> Result<(), Fault>
-    requires { breaks list.now.name world.now ≡ [] }
     ensures unbroken { OnOk result (language_breaks list.now world.now codes.now foreigns.now ≡ []) }
     ensures refused { IfErr result (IsFirstRefusal (language_breaks list.now world.now codes.now foreigns.now)) }
 {
     let settings = settings(alloc, list)?;
     let foreign = foreigns_break(world, foreigns);
     let broken = first_broken(alloc, list.name.items(), world, codes, &settings)?;
-    lookup_laws();
     let tokens = tokens_break(alloc, world, &settings)?;
     answer(alloc, first(first(foreign, broken), tokens))
 }

@@ -13,6 +13,7 @@ mod tree;
 mod writing;
 
 pub use file::{read, readings};
+pub use members::may_be_constant;
 pub use tree::{ExportClass, ExportField, ExportMethod, ExportTree};
 pub use writing::write;
 

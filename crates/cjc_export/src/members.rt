@@ -84,7 +84,9 @@ fn is_constant_type(desc: &[u8]) -> bool
         || desc == b"I".as_slice()
 }
 
-fn may_be_constant(flags: u16, desc: &[u8]) -> bool
+/// Whether a field of these flags and of this descriptor is a constant where it has a ConstantValue: a static final
+/// boolean, byte, short or int.
+pub fn may_be_constant(flags: u16, desc: &[u8]) -> bool
     ensures { result ≡ may_be_constant flags desc.now }
 {
     is_static(flags) && is_final(flags) && is_constant_type(desc)

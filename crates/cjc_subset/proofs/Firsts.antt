@@ -5,6 +5,7 @@ use Rattle.std.proofs.lemmas.Grind.{common_steps}
 use Rattle.std.proofs.lemmas.Bool.Decides.{nat_tests}
 use Rattle.cjc_bytes.specs.Order.{numbers, AreUpTo}
 use Rattle.cjc_world.specs.Rules.{Break, Among, foremost, after, IsFirst}
+use Rattle.cjc_world.proofs.Sorted.{upto_refl, upto_trans}
 use Rattle.cjc_subset.specs.Places.{Spot, broken_at, at, each_from, IsFirstOf, is_up_to}
 
 -- ---- the order of two ranks
@@ -31,20 +32,6 @@ pub not_up_to : (xs ys : List ℕ) → is_up_to xs ys ≡ false → AreUpTo ys x
 not_up_to [] ys e = absurd (cc)
 not_up_to (x ∷ xs) [] e = tt
 not_up_to (x ∷ xs) (y ∷ ys) e = ⊎_elim (λ l. inl l) (λ h. inr (h.0, not_up_to xs ys h.1)) (lt_nor x y (is_up_to xs ys) e)
-
-upto_refl : (xs : List ℕ) → AreUpTo xs xs
-upto_refl [] = tt
-upto_refl (x ∷ xs) = inr (refl, upto_refl xs)
-
-upto_trans : (xs ys zs : List ℕ) → AreUpTo xs ys → AreUpTo ys zs → AreUpTo xs zs
-upto_trans [] ys zs p q = tt
-upto_trans (x ∷ xs) [] zs p q = absurd p
-upto_trans (x ∷ xs) (y ∷ ys) [] p q = absurd q
-upto_trans (x ∷ xs) (y ∷ ys) (z ∷ zs) p q =
-    ⊎_elim
-    (λ l. ⊎_elim (λ m. inl (omega (arith, l, m))) (λ m. inl (let e = m.0 in omega (arith, l, e))) q)
-    (λ l. ⊎_elim (λ m. inl (let e = l.0 in omega (arith, m, e))) (λ m. inr (l.0 ∙ m.0, upto_trans xs ys zs l.1 m.1)) q)
-    p
 
 -- ---- one break
 

@@ -8,28 +8,16 @@ use Rattle.cjc_classfile.specs.declared.tree.FieldTree.{FieldTree}
 use Rattle.cjc_classfile.specs.declared.tree.MethodTree.{MethodTree}
 use Rattle.cjc_classfile.specs.Code.{CodeTree}
 use Rattle.cjc_export.specs.declared.tree.ExportClass.{ExportClass}
-use Rattle.cjc_world.specs.Classes.{Class, all_classes, class_named, declared, imported, is_interface, is_public, is_static}
+use Rattle.cjc_world.specs.Classes.{Class, all_classes, declared, imported, is_interface, is_static}
+use Rattle.cjc_world.specs.Exported.{is_exported}
 use Rattle.cjc_world.specs.Files.{Files}
-use Rattle.cjc_world.specs.Subtype.{is_subtype}
 use Rattle.cjc_subset.specs.Overriding.{is_above}
-use Rattle.cjc_subset.specs.Names.{catches_of, is_imported_class}
+use Rattle.cjc_subset.specs.Names.{catches_of}
 
 -- ---- 401: more than 255 exported classes
 
-abbrev pub shareable : List ℕ
-shareable = codes "javacard/framework/Shareable"
-
--- an interface below the imported interface javacard/framework/Shareable
-abbrev pub is_shareable : List Class → ClassTree → Bool
-is_shareable w c = is_interface c.flags && is_imported_class (class_named w shareable) && is_subtype w c.name shareable
-
--- A class has a token exactly where it is public and the list has no applet line, or it is a public interface that is
--- shareable.
-unfoldable pub is_exported : List Class → Settings → ClassTree → Bool
-is_exported w settings c = is_public c.flags && ((length settings.applets == 0) || is_shareable w c)
-
 unfoldable pub has_many_exported : Files → Settings → Bool
-has_many_exported files settings = nat_lt 255 (count_by (λ c. is_exported (all_classes files) settings c) files.classes)
+has_many_exported files settings = nat_lt 255 (count_by (λ c. is_exported (all_classes files) (nat_lt 0 (length settings.applets)) (declared 0 c)) files.classes)
 
 -- ---- 403: a class has more than 15 interfaces, or an interface more than 14, inherited ones counted and those that
 -- ---- are in no file

@@ -7,6 +7,7 @@ use Rattle.cjc_classfile.specs.declared.tree.FieldTree.{FieldTree}
 use Rattle.cjc_export.specs.declared.tree.ExportClass.{ExportClass}
 use Rattle.cjc_export.specs.declared.tree.ExportField.{ExportField}
 use Rattle.cjc_export.specs.declared.tree.ExportTree.{ExportTree}
+use Rattle.cjc_export.specs.Members.{may_be_constant}
 use Rattle.cjc_world.specs.declared.found.Found.{Found}
 use Rattle.cjc_world.specs.Files.{Files}
 use Rattle.cjc_world.specs.Classes.{Class, has, is_static, class_at}
@@ -47,26 +48,15 @@ unfoldable pub hit : List Class → (field : Bool) → Option Found → Option H
 hit w field None = None
 hit w field (Some f) = hit_of field f (class_at w f.imported f.class)
 
--- ---- constants
-
-abbrev pub is_final : ℕ → Bool
-is_final flags = has flags 0x0010
-
--- boolean, byte, short or int
-abbrev pub is_narrow : List ℕ → Bool
-is_narrow desc = bytes_eq desc (codes "Z") || bytes_eq desc (codes "B") || bytes_eq desc (codes "S") || bytes_eq desc (codes "I")
-
--- a static final field of such a type that has a ConstantValue
-abbrev pub is_constant_with : (flags : ℕ) → (desc : List ℕ) → (has_value : Bool) → Bool
-is_constant_with flags desc has_value = is_static flags && is_final flags && is_narrow desc && has_value
+-- ---- constants: static final fields of type boolean, byte, short or int that have a ConstantValue
 
 abbrev pub is_declared_constant : Option FieldTree → Bool
 is_declared_constant None = false
-is_declared_constant (Some m) = is_constant_with m.flags m.desc (is_some m.constant)
+is_declared_constant (Some m) = may_be_constant m.flags m.desc && is_some m.constant
 
 abbrev pub is_imported_constant : Option ExportField → Bool
 is_imported_constant None = false
-is_imported_constant (Some m) = is_constant_with m.flags m.desc (is_some m.constant)
+is_imported_constant (Some m) = may_be_constant m.flags m.desc && is_some m.constant
 
 -- the classes of all export files, in list order and as they stand in a file
 abbrev pub imports : List ExportTree → List ExportClass

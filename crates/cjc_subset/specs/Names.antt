@@ -12,6 +12,7 @@ use Rattle.cjc_code.specs.declared.method_code.MethodCode.{MethodCode}
 use Rattle.cjc_world.specs.declared.found.Found.{Found}
 use Rattle.cjc_world.specs.Access.{is_accessible}
 use Rattle.cjc_world.specs.Classes.{Class, is_abstract, is_interface, is_private, is_static, all_classes, class_named}
+use Rattle.cjc_world.specs.Exported.{is_imported}
 use Rattle.cjc_world.specs.Files.{Files}
 use Rattle.cjc_world.specs.Kin.{is_below}
 use Rattle.cjc_world.specs.Lookup.{find_field, find_method, selected}
@@ -83,14 +84,9 @@ is_unfit_field files c static put id found (Some h) =
     -- putstatic names a constant
     || (static && put && is_constant_found files found)
 
--- an imported class
-abbrev pub is_imported_class : Option Class → Bool
-is_imported_class None = false
-is_imported_class (Some c) = c.is_imported
-
 -- invokevirtual names an interface, or names an imported class and its method is found in an interface
 abbrev pub is_unfit_virtual : Option Class → Hit → Bool
-is_unfit_virtual named h = is_interface_of named || (is_imported_class named && is_interface h.owner.flags)
+is_unfit_virtual named h = is_interface_of named || (is_imported named && is_interface h.owner.flags)
 
 -- invokeinterface names a class that is no interface, or its method is not found in an interface
 abbrev pub is_unfit_interface : Option Class → Hit → Bool

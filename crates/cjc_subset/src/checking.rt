@@ -18,14 +18,14 @@ use crate::interfaces::has_many_interfaces;
 use crate::limits::{
     has_deep_stack, has_many_cells, has_many_exported, has_many_handlers, has_many_locals,
 };
-use crate::members::{has, is_constant};
+use crate::members::is_constant;
 use crate::overriding::overriding_break;
 use crate::places::{class_spot, field_spot, file_of, list_spot, method_spot};
 use crate::types::{is_foreign_desc, is_int_desc, names_foreign, names_int};
 use cjc_bytes::{Fault, MemberId, NoMemory, Settings};
 use cjc_classfile::{ClassTree, FieldTree, MethodTree};
 use cjc_code::{Codes, JInsn, JOp, MethodCode};
-use cjc_world::{Found, World};
+use cjc_world::{Found, World, has};
 use std::alloc::Global;
 
 // ---- instructions

@@ -4,9 +4,9 @@ ghost use Rattle.std.specs.Prelude.{◌≡◌};
 ghost use Rattle.cjc_subset.specs.Flags.{has_two_accesses, is_unfit_class, is_unfit_field, is_unfit_method, is_unfit_method_kind};
 
 use crate::members::{
-    has, is_abstract, is_constructor, is_initialiser, is_private, is_protected, is_public,
-    is_static,
+    is_abstract, is_constructor, is_initialiser, is_private, is_protected, is_public, is_static,
 };
+use cjc_world::has;
 
 /// More than one of public, private and protected.
 fn has_two_accesses(flags: u16) -> bool

@@ -7,12 +7,11 @@ ghost use Rattle.cjc_world.specs.Classes.{all_classes};
 ghost use Rattle.cjc_world.specs.Known.{class_of};
 ghost use Rattle.cjc_subset.specs.Limits.{has_many_interfaces, listed_above, listed_by_declared, listed_by_imported, listed_names, most_interfaces, noted};
 
-use crate::members::has;
 use crate::overriding::is_above;
 use cjc_bytes::{Bytes, NoMemory, Row};
 use cjc_classfile::ClassTree;
 use cjc_export::{ExportClass, ExportTree};
-use cjc_world::{Known, World};
+use cjc_world::{Known, World, has};
 use std::alloc::Global;
 
 fn is_noted(known: &[Bytes], name: &[u8]) -> bool

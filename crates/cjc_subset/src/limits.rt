@@ -1,17 +1,13 @@
 //! Rules 401 to 409: limits of a package.
 
 ghost use Rattle.std.specs.Prelude.{◌≡◌, sum_by};
-ghost use Rattle.cjc_world.specs.Classes.{all_classes, class_named};
-ghost use Rattle.cjc_subset.specs.Names.{is_imported_class};
-ghost use Rattle.cjc_subset.specs.Limits.{cells, handlers, handlers_of_class, has_deep_stack, has_many_cells, has_many_exported, has_many_handlers, has_many_locals, is_exported, is_shareable, left_of};
+ghost use Rattle.cjc_subset.specs.Limits.{cells, handlers, handlers_of_class, has_deep_stack, has_many_cells, has_many_exported, has_many_handlers, has_many_locals, left_of};
 
-use crate::members::{has, is_public, is_static};
+use crate::members::is_static;
 use crate::naming::catches_of;
 use cjc_bytes::Settings;
 use cjc_classfile::{ClassTree, FieldTree, MethodTree};
-use cjc_world::World;
-
-const SHAREABLE: &[u8] = b"javacard/framework/Shareable";
+use cjc_world::{Known, World};
 
 const INT: &[u8] = b"I";
 
@@ -20,40 +16,16 @@ const MOST: usize = 255;
 
 // ---- 401
 
-fn is_imported(world: &World<'_>, name: &[u8]) -> bool
-    ensures { result ≡ is_imported_class (class_named (all_classes world.now) name.now) }
-{
-    match world.class_named(name) {
-        Some(class) => class.is_imported(),
-        None => false,
-    }
-}
-
-fn is_shareable(world: &World<'_>, class: &ClassTree<'_>) -> bool
-    ensures { result ≡ is_shareable (all_classes world.now) class.now }
-{
-    has(class.flags, 0x0200)
-        && is_imported(world, SHAREABLE)
-        && world.subtype(class.name.items(), SHAREABLE)
-}
-
-/// Whether a class gets a token.
-#[tactic(auto, unfolding(crate::specs::Limits::is_exported))]
-fn is_exported(world: &World<'_>, settings: &Settings, class: &ClassTree<'_>) -> bool
-    ensures { result ≡ is_exported (all_classes world.now) settings.now class.now }
-{
-    is_public(class.flags) && (settings.applets.items().is_empty() || is_shareable(world, class))
-}
-
 /// Whether more than 255 classes get a token.
 #[tactic(auto, unfolding(crate::specs::Limits::has_many_exported))]
 pub(crate) fn has_many_exported(world: &World<'_>, settings: &Settings) -> bool
     ensures { result ≡ has_many_exported world.now settings.now }
 {
+    let applets = settings.applets.items().len() > 0;
     let classes = world.classes().items();
     classes
         .iter()
-        .filter(|class| is_exported(world, settings, class))
+        .filter(|class| world.is_exported(applets, Known::Declared(0, class)))
         .count()
         > MOST
 }

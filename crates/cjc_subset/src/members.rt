@@ -3,29 +3,21 @@
 ghost use Rattle.std.specs.Prelude.{◌≡◌, ◌&&◌, ◌||◌, ◌∷◌, ◌++◌, option_map, slice_get, []};
 ghost use Rattle.std.specs.List.{list_any};
 ghost use Rattle.cjc_world.specs.Access.{is_accessible};
-ghost use Rattle.cjc_world.specs.Classes.{all_classes, class_named, has, is_abstract, is_interface, is_private, is_protected, is_public, is_static};
+ghost use Rattle.cjc_world.specs.Classes.{all_classes, class_named, is_abstract, is_interface, is_private, is_protected, is_public, is_static};
 ghost use Rattle.cjc_world.specs.Known.{class_of};
 ghost use Rattle.cjc_world.specs.Rules.{is_desc_missing, is_element_missing, is_missing, is_type_missing};
 ghost use Rattle.cjc_subset.specs.Hits.{hit_of};
-ghost use Rattle.cjc_subset.specs.Members.{hit, imports, is_array, is_constant, is_constant_with, is_constructor, is_declared_constant, is_descriptor, is_imported_constant, is_initialiser, is_narrow};
+ghost use Rattle.cjc_subset.specs.Members.{hit, imports, is_array, is_constant, is_constructor, is_declared_constant, is_descriptor, is_imported_constant, is_initialiser};
 ghost use Rattle.cjc_subset.specs.Names.{is_name_missing};
 
 use cjc_bytes::Desc;
 use cjc_classfile::ClassTree;
-use cjc_export::{ExportClass, ExportTree};
-use cjc_world::{Found, Known, World};
+use cjc_export::{ExportClass, ExportTree, may_be_constant};
+use cjc_world::{Found, Known, World, has};
 
 const CONSTRUCTOR: &[u8] = b"<init>";
 
 const INITIALISER: &[u8] = b"<clinit>";
-
-const BOOLEAN: &[u8] = b"Z";
-
-const BYTE: &[u8] = b"B";
-
-const SHORT: &[u8] = b"S";
-
-const INT: &[u8] = b"I";
 
 /// A field or method that is found.
 #[derive(Clone, Copy)]
@@ -33,12 +25,6 @@ pub(crate) struct Hit<'w, 'a> {
     /// The class that declares it.
     pub owner: Known<'w, 'a>,
     pub flags: u16,
-}
-
-pub(crate) fn has(flags: u16, flag: u16) -> bool
-    ensures { result ≡ has flags flag }
-{
-    flags & flag > 0
 }
 
 pub(crate) fn is_public(flags: u16) -> bool
@@ -231,18 +217,6 @@ pub(crate) fn is_accessible(
 
 // ---- constants
 
-fn is_narrow(desc: &[u8]) -> bool
-    ensures { result ≡ is_narrow desc.now }
-{
-    desc == BOOLEAN || desc == BYTE || desc == SHORT || desc == INT
-}
-
-fn is_constant_with(flags: u16, desc: &[u8], has_value: bool) -> bool
-    ensures { result ≡ is_constant_with flags desc.now has_value }
-{
-    is_static(flags) && has(flags, 0x0010) && is_narrow(desc) && has_value
-}
-
 /// The class of this number among those of all export files.
 fn import_at(exports: &[ExportTree], number: u32) -> Option<&ExportClass>
     ensures { option_map (λ c. c.now) result ≡ slice_get (imports exports.now) number }
@@ -263,7 +237,7 @@ fn is_imported_constant(class: &ExportClass, place: u32) -> bool
 {
     match class.fields.items().get(place as usize) {
         Some(field) => {
-            is_constant_with(field.flags, field.desc.items(), field.constant.is_some())
+            may_be_constant(field.flags, field.desc.items()) && field.constant.is_some()
         }
         None => false,
     }
@@ -274,7 +248,7 @@ fn is_declared_constant(class: &ClassTree<'_>, place: u32) -> bool
 {
     match class.fields.items().get(place as usize) {
         Some(field) => {
-            is_constant_with(field.flags, field.desc.items(), field.constant.is_some())
+            may_be_constant(field.flags, field.desc.items()) && field.constant.is_some()
         }
         None => false,
     }

@@ -3,13 +3,14 @@
 ghost use Rattle.std.specs.Prelude.{◌≡◌, ℕ, ◌<◌, true, false, [], length, slice_get, Option, option_map, IfErr, OnOk};
 ghost use Rattle.cjc_classfile.specs.declared.tree.MethodTree.{MethodTree as Method};
 ghost use Rattle.cjc_world.specs.Classes.{all_classes, class_named};
+ghost use Rattle.cjc_world.specs.Exported.{is_imported};
 ghost use Rattle.cjc_world.specs.Rules.{IsFirstRefusal, is_class_of, is_interface_of};
 ghost use Rattle.cjc_world.specs.Known.{class_of};
 ghost use Rattle.cjc_subset.specs.Breaks.{break_of, spot_of};
 ghost use Rattle.cjc_subset.specs.Hits.{hit_of};
 ghost use Rattle.cjc_subset.specs.Places.{FilePlace, IsFirstOf, at_class, at_method, each};
 ghost use Rattle.cjc_subset.specs.Members.{hit};
-ghost use Rattle.cjc_subset.specs.Names.{catch_breaks, catches_missing, catches_of, code_breaks, insn_breaks, field_found, is_abstract_of, is_bodiless, is_constant_found, is_imported_class, is_member_missing, is_not_found, is_other_kind, is_unfit_call, is_unfit_class, is_unfit_field, is_unfit_interface, is_unfit_method, is_unfit_new, is_unfit_super, is_unfit_virtual, is_unfound, method_breaks, method_found, name_breaks, names_missing, names_unfit, names_unfound};
+ghost use Rattle.cjc_subset.specs.Names.{catch_breaks, catches_missing, catches_of, code_breaks, insn_breaks, field_found, is_abstract_of, is_bodiless, is_constant_found, is_member_missing, is_not_found, is_other_kind, is_unfit_call, is_unfit_class, is_unfit_field, is_unfit_interface, is_unfit_method, is_unfit_new, is_unfit_super, is_unfit_virtual, is_unfound, method_breaks, method_found, name_breaks, names_missing, names_unfit, names_unfound};
 
 use crate::broken::{Break, Spot, answer, broken, first};
 use crate::members::{
@@ -159,8 +160,8 @@ fn is_class_of(class: Option<Known<'_, '_>>) -> bool
     }
 }
 
-fn is_imported_class(class: Option<Known<'_, '_>>) -> bool
-    ensures { result ≡ is_imported_class (option_map class_of class.entry) }
+fn is_imported(class: Option<Known<'_, '_>>) -> bool
+    ensures { result ≡ is_imported (option_map class_of class.entry) }
 {
     match class {
         Some(class) => class.is_imported(),
@@ -181,7 +182,7 @@ fn is_abstract_of(class: Option<Known<'_, '_>>) -> bool
 fn is_unfit_virtual(named: Option<Known<'_, '_>>, hit: Hit<'_, '_>) -> bool
     ensures { result ≡ is_unfit_virtual (option_map class_of named.entry) (hit_of hit.entry) }
 {
-    is_interface_of(named) || is_imported_class(named) && hit.owner.is_interface()
+    is_interface_of(named) || is_imported(named) && hit.owner.is_interface()
 }
 
 /// Whether invokeinterface can't call a method by this class.

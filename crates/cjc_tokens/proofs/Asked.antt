@@ -13,6 +13,7 @@ use Rattle.cjc_export.specs.declared.tree.ExportClass.{ExportClass}
 use Rattle.cjc_world.specs.declared.class.Known.{Known as AnyClass}
 use Rattle.cjc_world.specs.declared.class.Known.TheVariants as kinds
 use Rattle.cjc_world.specs.Known.{class_of}
+use Rattle.cjc_world.proofs.Rising.{known-append}
 use Rattle.cjc_tokens.specs.Methods.{interface_methods}
 use Rattle.cjc_tokens.specs.Members.{Signature, signature_of, is_initialiser}
 use Rattle.cjc_tokens.specs.Slots.{Slots, new_in, with_new}
@@ -96,15 +97,6 @@ by_token-end all whole ms n t le inv =
     sym (offer-end all) ∙ ap (λ k. with_new all (map signature_of (without_initialiser (by_token k t ms)))) (sym z) ∙ inv
 
 -- ---- interfaces in turn
-
-pub known-append : (is js : List Interface) → known (is ++ js) ≡ known is ++ known js
-unfolding known
-known-append [] js = refl
-known-append (i ∷ is) js = by i.class (known-append is js)
-  where
-    by : (o : Option Class) → known (is ++ js) ≡ known is ++ known js → option_to_list o ++ known (is ++ js) ≡ (option_to_list o ++ known is) ++ known js
-    by None e = e
-    by (Some c) e = ap (λ cs. c ∷ cs) e
 
 methods_of-append : (a b : List Class) → methods_of (a ++ b) ≡ methods_of a ++ methods_of b
 unfolding methods_of

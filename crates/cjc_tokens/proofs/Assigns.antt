@@ -13,7 +13,8 @@ use Rattle.cjc_world.specs.Classes.{Class, declared}
 use Rattle.cjc_world.specs.Files.{Files}
 use Rattle.cjc_world.specs.Rules.{Break, Among, foremost, after, IsFirst, IsFirstRefusal}
 use Rattle.cjc_tokens.specs.declared.slot.Rows.{Rows}
-use Rattle.cjc_tokens.specs.Tokens.{OfClass, is_exported, of_class, one_more, classes_from, of_import, imports_of}
+use Rattle.cjc_world.specs.Exported.{is_exported}
+use Rattle.cjc_tokens.specs.Tokens.{OfClass, of_class, one_more, classes_from, of_import, imports_of}
 use Rattle.cjc_tokens.specs.Rules.{count_exported, has_high_token, FilePlace, file_of, at_class, breaks_where, breaks_from, is_few, tested_breaks, token_breaks}
 use Rattle.cjc_tokens.specs.Working.{IsKept}
 use Rattle.cjc_tokens.proofs.Walks.{drop-next, drop-past}

@@ -14,7 +14,8 @@ use Rattle.cjc_tokens.specs.Lines.{line_at}
 use Rattle.cjc_tokens.specs.Slots.{Slots, slots, hidden_slots, token, row, hidden_row}
 use Rattle.cjc_tokens.specs.Fields.{is_open_static, field_tokens, instance_tokens}
 use Rattle.cjc_tokens.specs.Methods.{interface_methods, interface_token, is_open_bound, virtual_token, class_method_tokens}
-use Rattle.cjc_tokens.specs.Tokens.{OfClass, is_exported, of_class}
+use Rattle.cjc_world.specs.Exported.{is_exported}
+use Rattle.cjc_tokens.specs.Tokens.{OfClass, of_class}
 use Rattle.cjc_tokens.specs.Rules.{has_high_token, is_above, has_high_method}
 use Rattle.cjc_tokens.specs.Working.{AreRowsOf, is_high_class, is_high_interface, member_of, methods_in, signs}
 
@@ -26,9 +27,21 @@ map-map : {A B C : Type 0} (g : B → C) (f : A → B) (xs : List A) → map g (
 map-map g f [] = refl
 map-map g f (x ∷ xs) = ap (λ q. g (f x) ∷ q) (map-map g f xs)
 
+abbrev made : Option ℕ → List (Option ℕ) → List (Option ℕ) → List (Option Found) → List (Option Found) → OfClass
+made a m i p h = record { class = a; members = m; instances = i; public_methods = p; package_methods = h }
+
+same : {a a' : Option ℕ} {m m' i i' : List (Option ℕ)} {p p' h h' : List (Option Found)} → a ≡ a' → m ≡ m' → i ≡ i' → p ≡ p' → h ≡ h' → made a m i p h ≡ made a' m' i' p' h'
+same a m i p h = cc
+
 module _ (w : List Class) (n : ℕ) (c : ClassTree) where
-  d : Class
-  d = declared n c
+  -- the tokens of the class, where it is an interface and where it is none
+  abbrev whole : (applets : Bool) (before : ℕ) (interface : Bool) → OfClass
+  whole applets before b =
+      made (if is_exported w applets (declared n c) then Some before else None)
+      (field_tokens (is_exported w applets (declared n c)) c.fields 0 c.fields ++ (if b then map (interface_token (interface_methods w (declared n c))) (map method_of_class c.methods) else class_method_tokens (is_exported w applets (declared n c)) (slots (line_at w (declared n c))) (hidden_slots (line_at w (declared n c))) (map method_of_class c.methods) 0 (map method_of_class c.methods) ++ map (λ m. token (slots (line_at w (declared n c))) (signature_of m)) (added w (declared n c))))
+      (instance_tokens c.fields 0 c.fields)
+      (if b then [] else row (line_at w (declared n c)))
+      (if b then [] else hidden_row (line_at w (declared n c)))
 
   pub high-class : (exported : Bool) (rows : Rows) (ids : List MemberId) → is_interface c.flags ≡ false → AreRowsOf (line_at w (declared n c)) rows → ids ≡ map (named_by c.name) (added w (declared n c))
       → is_high_class exported (signs rows.shown.items) (signs rows.hidden.items) c ids ≡ has_high_token w exported n c
@@ -50,22 +63,8 @@ module _ (w : List Class) (n : ℕ) (c : ClassTree) where
       → instances ≡ instance_tokens c.fields 0 c.fields → public ≡ methods_in rows.shown.items → hidden ≡ methods_in rows.hidden.items
       → record { class = class; members = members; instances = instances; public_methods = public; package_methods = hidden } ≡ of_class w applets before n c
   tokens-class applets before rows ids class members instances public hidden plain a named k m i p h =
-      ap (λ q. made q members instances public hidden) k
-      ∙ ap (λ q. made (if is_exported w applets (declared n c) then Some before else None) q instances public hidden) (m ∙ more)
-      ∙ ap (λ q. made (if is_exported w applets (declared n c) then Some before else None) all q public hidden) i
-      ∙ ap (λ q. made (if is_exported w applets (declared n c) then Some before else None) all (instance_tokens c.fields 0 c.fields) q hidden) (p ∙ a.shown_methods)
-      ∙ ap (λ q. made (if is_exported w applets (declared n c) then Some before else None) all (instance_tokens c.fields 0 c.fields) (row (line_at w (declared n c))) q) (h ∙ a.hidden_methods)
-      ∙ ap (λ b. record {
-        class = if is_exported w applets (declared n c) then Some before else None;
-        members = F ++ (if b then map (interface_token (interface_methods w (declared n c))) (map method_of_class c.methods) else class_method_tokens (is_exported w applets (declared n c)) (slots (line_at w (declared n c))) (hidden_slots (line_at w (declared n c))) (map method_of_class c.methods) 0 (map method_of_class c.methods) ++ map (λ m. token (slots (line_at w (declared n c))) (signature_of m)) (added w (declared n c)));
-        instances = instance_tokens c.fields 0 c.fields;
-        public_methods = if b then [] else row (line_at w (declared n c));
-        package_methods = if b then [] else hidden_row (line_at w (declared n c));
-      }) (sym plain)
+      same k (m ∙ more) i (p ∙ a.shown_methods) (h ∙ a.hidden_methods) ∙ ap (whole applets before) (sym plain)
     where
-      made : Option ℕ → List (Option ℕ) → List (Option ℕ) → List (Option Found) → List (Option Found) → OfClass
-      made a b c d e = record { class = a; members = b; instances = c; public_methods = d; package_methods = e }
-
       F : List (Option ℕ)
       F = field_tokens (is_exported w applets (declared n c)) c.fields 0 c.fields
 
@@ -92,22 +91,4 @@ module _ (w : List Class) (n : ℕ) (c : ClassTree) where
       → members ≡ field_tokens (is_exported w applets (declared n c)) c.fields 0 c.fields ++ map (interface_token (interface_methods w (declared n c))) (map method_of_class c.methods)
       → instances ≡ instance_tokens c.fields 0 c.fields → public ≡ [] → hidden ≡ []
       → record { class = class; members = members; instances = instances; public_methods = public; package_methods = hidden } ≡ of_class w applets before n c
-  tokens-interface applets before class members instances public hidden plain k m i p h =
-      ap (λ q. made q members instances public hidden) k
-      ∙ ap (λ q. made (if is_exported w applets (declared n c) then Some before else None) q instances public hidden) m
-      ∙ ap (λ q. made (if is_exported w applets (declared n c) then Some before else None) (F ++ map (interface_token (interface_methods w (declared n c))) (map method_of_class c.methods)) q public hidden) i
-      ∙ ap (λ q. made (if is_exported w applets (declared n c) then Some before else None) (F ++ map (interface_token (interface_methods w (declared n c))) (map method_of_class c.methods)) (instance_tokens c.fields 0 c.fields) q hidden) p
-      ∙ ap (λ q. made (if is_exported w applets (declared n c) then Some before else None) (F ++ map (interface_token (interface_methods w (declared n c))) (map method_of_class c.methods)) (instance_tokens c.fields 0 c.fields) [] q) h
-      ∙ ap (λ b. record {
-        class = if is_exported w applets (declared n c) then Some before else None;
-        members = F ++ (if b then map (interface_token (interface_methods w (declared n c))) (map method_of_class c.methods) else class_method_tokens (is_exported w applets (declared n c)) (slots (line_at w (declared n c))) (hidden_slots (line_at w (declared n c))) (map method_of_class c.methods) 0 (map method_of_class c.methods) ++ map (λ m. token (slots (line_at w (declared n c))) (signature_of m)) (added w (declared n c)));
-        instances = instance_tokens c.fields 0 c.fields;
-        public_methods = if b then [] else row (line_at w (declared n c));
-        package_methods = if b then [] else hidden_row (line_at w (declared n c));
-      }) (sym plain)
-    where
-      made : Option ℕ → List (Option ℕ) → List (Option ℕ) → List (Option Found) → List (Option Found) → OfClass
-      made a b c d e = record { class = a; members = b; instances = c; public_methods = d; package_methods = e }
-
-      F : List (Option ℕ)
-      F = field_tokens (is_exported w applets (declared n c)) c.fields 0 c.fields
+  tokens-interface applets before class members instances public hidden plain k m i p h = same k m i p h ∙ ap (whole applets before) (sym plain)

@@ -20,7 +20,8 @@ use Rattle.cjc_tokens.proofs.Facts.{same-refl}
 use Rattle.cjc_tokens.proofs.Held.{has_slot-append, offered-has_slot}
 use Rattle.cjc_tokens.proofs.Offers.{map_append, offer-end, with_new-append}
 use Rattle.cjc_tokens.proofs.Overlays.{listed_slots-append, overlay-assoc, overlay-nil}
-use Rattle.cjc_tokens.proofs.Asked.{known-append, of, of-append}
+use Rattle.cjc_world.proofs.Rising.{known-append}
+use Rattle.cjc_tokens.proofs.Asked.{of, of-append}
 use Rattle.cjc_tokens.proofs.Walks.{drop-past}
 
 -- ---- classes at places, one further

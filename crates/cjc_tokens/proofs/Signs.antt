@@ -6,7 +6,7 @@ use Rattle.cjc_tokens.specs.Members.{Signature, signature_of, same, is_initialis
 use Rattle.cjc_tokens.specs.Slots.{Slots, holds, token}
 use Rattle.cjc_tokens.specs.Methods.{interface_token}
 use Rattle.cjc_tokens.specs.Rules.{is_above}
-use Rattle.cjc_tokens.proofs.Places.{position_of_map, position_within}
+use Rattle.cjc_world.proofs.Places.{position_of_map, position_within}
 
 low-at : (n : ℕ) (o : Option ℕ) → n ≤ 128 → ((t : ℕ) → o ≡ Some t → t < n) → is_above 127 o ≡ false
 low-at n None few within = refl

@@ -15,7 +15,7 @@ use Rattle.cjc_tokens.specs.Working.{AreRowsOf, Offered, Renewed, is_of_kind, me
 use Rattle.cjc_tokens.proofs.Facts.{same-refl, chosen-none, chosen-some, own-none, own-some, got-none, has-got_none}
 use Rattle.cjc_tokens.proofs.Held.{new-offered, new-fresh, offered-has_slot}
 use Rattle.cjc_tokens.proofs.Offers.{map_append}
-use Rattle.cjc_tokens.proofs.Places.{position_of_map}
+use Rattle.cjc_world.proofs.Places.{position_of_map}
 
 -- ---- the superclass's slots, each with the nearest method
 

@@ -1,6 +1,6 @@
 -- Cells and counts of fields.
-use Rattle.std.proofs.Common.{◌≡◌, ℕ, zero, suc, ◌+◌, ◌≤◌, ◌<◌, refl, sym, ap, ◌∙◌, Bool, true, false, List, [], ◌∷◌, ◌++◌, take, drop, length, get_or, arith, cond}
-use Rattle.std.specs.Prelude.{◌&&◌, ◌==◌, nat_lt, if◌then◌else◌, count_by}
+use Rattle.std.proofs.Common.{◌≡◌, ℕ, zero, suc, ◌+◌, ◌≤◌, ◌<◌, refl, sym, ap, subst, ◌^◌, ◌∙◌, Bool, true, false, List, [], ◌∷◌, ◌++◌, take, drop, length, get_or, arith, cond}
+use Rattle.std.specs.Prelude.{Option, ◌&&◌, ◌==◌, nat_lt, if◌then◌else◌, count_by}
 use Rattle.std.proofs.lemmas.List.Sums.{sum_by-cons, sum_by_push}
 use Rattle.std.proofs.lemmas.List.{take_more}
 use Rattle.std.proofs.lemmas.Grind.{common_steps}
@@ -114,3 +114,8 @@ pub instance_tokens-length : (fs : List FieldTree) (i : ℕ) (rest : List FieldT
 unfolding instance_tokens
 instance_tokens-length fs i [] = refl
 instance_tokens-length fs i (f ∷ rest) = ap suc (instance_tokens-length fs (i + 1) rest)
+
+pub few-instances : (read fs : List FieldTree) (kept : List (Option ℕ)) → kept ≡ instance_tokens read 0 read → read ≡ fs → length fs < 2 ^ 32 → length kept < 2 ^ 32
+few-instances read fs kept e is few =
+    let l : length kept ≡ length fs = ap length e ∙ instance_tokens-length read 0 read ∙ ap length is in
+    subst (λ n. n < 2 ^ 32) (sym l) few

@@ -2,16 +2,13 @@
 use Rattle.std.specs.Prelude.{ℕ, ◌+◌, ◌==◌, List, [], ◌∷◌, take, Bool, false, not, ◌&&◌, ◌||◌, nat_lt, sum_by, count_by, is_some, if◌then◌else◌, Option, Some, None, codes}
 use Rattle.std.specs.Str.{bytes_eq}
 use Rattle.cjc_classfile.specs.declared.tree.FieldTree.{FieldTree}
-use Rattle.cjc_world.specs.Classes.{has, is_static}
+use Rattle.cjc_export.specs.Members.{may_be_constant}
+use Rattle.cjc_world.specs.Classes.{is_static}
 use Rattle.cjc_tokens.specs.Members.{is_exposed}
 
--- boolean, byte, short and int
-abbrev pub is_constant_type : List ℕ → Bool
-is_constant_type desc = bytes_eq desc (codes "Z") || bytes_eq desc (codes "B") || bytes_eq desc (codes "S") || bytes_eq desc (codes "I")
-
--- A static final field of such a type with a number as ConstantValue has no cell and no token.
+-- A static final boolean, byte, short or int with a number as ConstantValue has no cell and no token.
 abbrev pub is_constant : FieldTree → Bool
-is_constant f = is_static f.flags && has f.flags 0x0010 && is_constant_type f.desc && is_some f.constant
+is_constant f = may_be_constant f.flags f.desc && is_some f.constant
 
 -- ---- static fields
 

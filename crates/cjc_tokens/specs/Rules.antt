@@ -12,7 +12,8 @@ use Rattle.cjc_tokens.specs.Lines.{line_at}
 use Rattle.cjc_tokens.specs.Slots.{slots, hidden_slots, token}
 use Rattle.cjc_tokens.specs.Fields.{is_open_static, instance_cells}
 use Rattle.cjc_tokens.specs.Methods.{interface_methods, is_open_bound, virtual_token}
-use Rattle.cjc_tokens.specs.Tokens.{is_exported, one_more}
+use Rattle.cjc_world.specs.Exported.{is_exported}
+use Rattle.cjc_tokens.specs.Tokens.{one_more}
 
 -- ---- 401: more than 255 exported classes
 

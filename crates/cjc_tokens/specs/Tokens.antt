@@ -8,29 +8,14 @@ use Rattle.cjc_export.specs.declared.tree.ExportClass.{ExportClass}
 use Rattle.cjc_export.specs.declared.tree.ExportTree.{ExportTree}
 use Rattle.cjc_world.specs.declared.found.Found.{Found}
 use Rattle.cjc_world.specs.Files.{Files}
-use Rattle.cjc_world.specs.Classes.{Class, declared, is_public, is_interface, class_named, all_classes}
-use Rattle.cjc_world.specs.Subtype.{is_subtype}
+use Rattle.cjc_world.specs.Classes.{Class, declared, is_interface, all_classes}
+use Rattle.cjc_world.specs.Exported.{is_exported}
 use Rattle.cjc_world.specs.Added.{added}
 use Rattle.cjc_tokens.specs.Members.{signature_of, is_initialiser}
 use Rattle.cjc_tokens.specs.Lines.{line_at}
 use Rattle.cjc_tokens.specs.Slots.{slots, hidden_slots, token, row, hidden_row}
 use Rattle.cjc_tokens.specs.Fields.{field_tokens, instance_tokens}
 use Rattle.cjc_tokens.specs.Methods.{interface_methods, interface_token, class_method_tokens}
-
--- ---- which classes are exported
-
-abbrev pub shareable : List ℕ
-shareable = codes "javacard/framework/Shareable"
-
-abbrev pub is_imported_interface : Option Class → Bool
-is_imported_interface None = false
-is_imported_interface (Some c) = c.is_imported && is_interface c.flags
-
--- Public classes where no applet is named; else the public interfaces below the imported interface Shareable.
-unfoldable pub is_exported : List Class → (applets : Bool) → Class → Bool
-is_exported w applets c =
-    is_public c.flags
-    && (not applets || (is_interface c.flags && is_imported_interface (class_named w shareable) && is_subtype w c.name shareable))
 
 -- ---- the tokens of one class
 

@@ -18,7 +18,8 @@ use Rattle.cjc_tokens.specs.Lines.{Line, line_at}
 use Rattle.cjc_tokens.specs.Slots.{Slots, slots, hidden_slots, row, hidden_row, meant_by, token, own, got, new_in, with_new}
 use Rattle.cjc_tokens.specs.Fields.{is_open_static}
 use Rattle.cjc_tokens.specs.Methods.{is_open_bound, virtual_token}
-use Rattle.cjc_tokens.specs.Tokens.{OfClass, classes_from, is_exported, of_class}
+use Rattle.cjc_world.specs.Exported.{is_exported}
+use Rattle.cjc_tokens.specs.Tokens.{OfClass, classes_from, of_class}
 use Rattle.cjc_tokens.specs.Rules.{at_class, file_of, has_high_token, is_above, token_breaks}
 
 abbrev pub signature_in : Slot → Signature

@@ -4,23 +4,23 @@ ghost use Rattle.std.specs.Prelude.{◌≡◌, ◌⊎◌, ◌≤◌, ◌<◌, []
 ghost use Rattle.cjc_bytes.specs.declared.fault.Fault.TheVariants as faults;
 ghost use Rattle.std.specs.List.{list_all};
 ghost use Rattle.cjc_world.specs.Classes.{all_classes, declared};
-ghost use Rattle.cjc_world.specs.Kin.{IsAcyclic};
 ghost use Rattle.cjc_world.specs.Rules.{IsFirstRefusal};
 ghost use Rattle.cjc_tokens.specs.Fields.{instance_cells};
 ghost use Rattle.cjc_tokens.specs.Rules.{FewCells, FewExported, has_few_cells, has_few_exported, is_few, IsFirstHigh, token_breaks};
-ghost use Rattle.cjc_tokens.specs.Tokens.{assigned, is_exported};
+ghost use Rattle.cjc_world.specs.Exported.{is_exported};
+ghost use Rattle.cjc_tokens.specs.Tokens.{assigned};
 ghost use Rattle.cjc_tokens.specs.Working.{AreAllTokens, AreTokensOf, IsKept};
 
-use crate::class::{class_tokens, interface_tokens, is_exported};
+use crate::class::{class_tokens, interface_tokens};
 use crate::fields::has_few_cells;
 use crate::imports::import_tokens;
 use crate::line::{added_to, keep};
 use crate::refusal::refused;
-use crate::slot::{Rows, has};
+use crate::slot::Rows;
 use crate::tokens::{ClassTokens, Tokens};
 use cjc_bytes::{Fault, NoMemory, Row, Settings};
 use cjc_classfile::ClassTree;
-use cjc_world::World;
+use cjc_world::{Known, World, has};
 use std::alloc::Global;
 
 fn class_count(world: &World<'_>) -> Result<u32, NoMemory>
@@ -42,7 +42,7 @@ fn few_exported(world: &World<'_>, applets: bool, count: u32) -> bool
     let mut exported = 0u32;
     for number in 0..count {
         let class = &world.classes().items()[number as usize];
-        if is_exported(world, applets, number, class) {
+        if world.is_exported(applets, Known::Declared(number, class)) {
             exported += 1;
         }
     }
@@ -69,40 +69,18 @@ fn no_rows<'w>(alloc: Global, count: u32) -> Result<Vec<Option<Rows<'w>>>, NoMem
     Ok(kept)
 }
 
-/// Gives a class its rows, if it is no interface.
-fn keep_class<'w>(
-    alloc: Global,
-    world: &'w World<'_>,
-    kept: &mut Vec<Option<Rows<'w>>>,
-    number: u32,
-) -> Result<(), NoMemory>
-    requires acyclic { IsAcyclic (all_classes world.now) }
-    requires number { number < length world.now.classes }
-    requires length { length kept.old.items ≡ length world.now.classes }
-    requires kept { IsKept (all_classes world.now) world.now.classes kept.old.items }
-    ensures length { length kept.new.items ≡ length kept.old.items }
-    ensures kept { OnOk result (IsKept (all_classes world.now) world.now.classes kept.new.items) }
-{
-    if has(world.classes().items()[number as usize].flags, 0x0200) {
-        Ok(())
-    } else {
-        keep(alloc, world, kept, number)
-    }
-}
-
 /// The rows of the classes of the package. Interfaces have none.
 fn all_rows<'w>(
     alloc: Global,
     world: &'w World<'_>,
     count: u32,
 ) -> Result<Vec<Option<Rows<'w>>>, NoMemory>
-    requires acyclic { IsAcyclic (all_classes world.now) }
     requires count { count ≡ length world.now.classes }
     ensures { IfOk result (λ kept. IsKept (all_classes world.now) world.now.classes kept.items) }
 {
     let mut kept = no_rows(alloc, count)?;
     for number in 0..count {
-        keep_class(alloc, world, &mut kept, number)?;
+        keep(alloc, world, &mut kept, number)?;
     }
     Ok(kept)
 }
@@ -117,7 +95,6 @@ fn tokens_at<'w>(
     number: u32,
     class: &'w ClassTree<'_>,
 ) -> Result<Option<ClassTokens>, NoMemory>
-    requires acyclic { IsAcyclic (all_classes world.now) }
     requires kept { IsKept (all_classes world.now) world.now.classes kept.now }
     requires number { number < length world.now.classes }
     requires class { slice_get world.now.classes number ≡ Some class.now }
@@ -148,7 +125,6 @@ fn declared_tokens<'w>(
     kept: &[Option<Rows<'w>>],
     count: u32,
 ) -> Result<Result<Row<ClassTokens>, u32>, NoMemory>
-    requires acyclic { IsAcyclic (all_classes world.now) }
     requires exported { FewExported applets world.now }
     requires cells { FewCells world.now }
     requires kept { IsKept (all_classes world.now) world.now.classes kept.now }
@@ -163,7 +139,7 @@ fn declared_tokens<'w>(
             None => return Ok(Err(number)),
             Some(tokens) => rows.push(tokens)?,
         }
-        if is_exported(world, applets, number, class) {
+        if world.is_exported(applets, Known::Declared(number, class)) {
             before += 1;
         }
     }
@@ -173,7 +149,6 @@ fn declared_tokens<'w>(
 /// The tokens of a package that exports no more than 255 classes and has no class with more than 255 cells of
 /// instance fields. A refusal is the first of what is broken of the rule 413.
 pub fn assign(alloc: Global, world: &World<'_>, settings: &Settings) -> Result<Tokens, Fault>
-    requires acyclic { IsAcyclic (all_classes world.now) }
     requires exported { FewExported (nat_lt 0 (length settings.now.applets)) world.now }
     requires cells { FewCells world.now }
     ensures unbroken { OnOk result (token_breaks (nat_lt 0 (length settings.now.applets)) world.now ≡ []) }
@@ -214,7 +189,6 @@ pub fn first_high(
     world: &World<'_>,
     settings: &Settings,
 ) -> Result<Option<u32>, NoMemory>
-    requires acyclic { IsAcyclic (all_classes world.now) }
     ensures { IfOk result (IsFirstHigh (nat_lt 0 (length settings.now.applets)) world.now) }
 {
     if !few(world, settings)? {

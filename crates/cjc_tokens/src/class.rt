@@ -1,14 +1,13 @@
 //! The tokens of one class.
 
 ghost use Rattle.std.specs.Prelude.{◌≡◌, ◌≤◌, ◌<◌, ◌^◌, ◌+◌, ◌++◌, ◌||◌, ◌&&◌, List, map, length, nat_lt, count_by, if◌then◌else◌, true, false, IfOk, OnOk, Some, None};
-ghost use Rattle.cjc_world.specs.Classes.{all_classes, class_named, declared, is_interface, method_of_class};
-ghost use Rattle.cjc_world.specs.Kin.{IsAcyclic};
+ghost use Rattle.cjc_world.specs.Classes.{all_classes, declared, is_interface, method_of_class};
 ghost use Rattle.cjc_world.specs.Added.{added, named_by};
 ghost use Rattle.cjc_tokens.specs.Fields.{instance_cells, is_open_static};
 ghost use Rattle.cjc_tokens.specs.Lines.{line_at};
 ghost use Rattle.cjc_tokens.specs.Members.{Signature};
 ghost use Rattle.cjc_tokens.specs.Methods.{interface_token, is_open_bound};
-ghost use Rattle.cjc_tokens.specs.Tokens.{is_exported, is_imported_interface, shareable};
+ghost use Rattle.cjc_world.specs.Exported.{is_exported};
 ghost use Rattle.cjc_tokens.specs.Working.{AreRowsOf, AreTokensOf, is_high_class, is_high_interface, methods_in, signs};
 
 use crate::fields::{field_tokens, instance_tokens, open_statics};
@@ -16,40 +15,12 @@ use crate::interfaces::interface_methods;
 use crate::methods::{
     any_high, any_high_added, as_byte, open_bounds, put_added_tokens, put_method_tokens,
 };
-use crate::slot::{Rows, Slot, has, is_initialiser, token};
+use crate::slot::{Rows, Slot, is_initialiser, token};
 use crate::tokens::ClassTokens;
 use cjc_bytes::{MemberId, NoMemory, Row};
 use cjc_classfile::{ClassTree, MethodTree};
 use cjc_world::{Found, Known, World};
 use std::alloc::Global;
-
-const SHAREABLE: &[u8] = b"javacard/framework/Shareable";
-
-fn has_shareable(world: &World<'_>) -> bool
-    ensures { result ≡ is_imported_interface (class_named (all_classes world.now) shareable) }
-{
-    match world.class_named(SHAREABLE) {
-        None => false,
-        Some(class) => class.is_imported() && class.is_interface(),
-    }
-}
-
-/// Whether a class of the package is exported.
-#[tactic(auto, unfolding(crate::specs::Tokens::is_exported))]
-pub(crate) fn is_exported(
-    world: &World<'_>,
-    applets: bool,
-    number: u32,
-    class: &ClassTree<'_>,
-) -> bool
-    ensures { result ≡ is_exported (all_classes world.now) applets (declared number class.now) }
-{
-    has(class.flags, 0x0001)
-        && (!applets
-            || has(class.flags, 0x0200)
-                && has_shareable(world)
-                && world.subtype(class.name.items(), SHAREABLE))
-}
 
 /// The methods of a row by their tokens.
 fn methods_of(alloc: Global, row: &[Option<Slot<'_>>]) -> Result<Row<Option<Found>>, NoMemory>
@@ -103,7 +74,7 @@ pub(crate) fn class_tokens(
     requires added { ids.now ≡ map (named_by class.now.name) (added (all_classes world.now) (declared number class.now)) }
     ensures { IfOk result (AreTokensOf (all_classes world.now) applets before number class.now) }
 {
-    let exported = is_exported(world, applets, number, class);
+    let exported = world.is_exported(applets, Known::Declared(number, class));
     if is_high_class(exported, rows, class, ids) {
         return Ok(None);
     }
@@ -167,14 +138,13 @@ pub(crate) fn interface_tokens(
     number: u32,
     class: &ClassTree<'_>,
 ) -> Result<Option<ClassTokens>, NoMemory>
-    requires acyclic { IsAcyclic (all_classes world.now) }
     requires plain { is_interface class.now.flags ≡ true }
     requires few { length class.now.fields < 2 ^ 32 }
     requires cells { instance_cells class.now.fields ≤ 255 }
     requires before { is_exported (all_classes world.now) applets (declared number class.now) ≡ true → before < 255 }
     ensures { IfOk result (AreTokensOf (all_classes world.now) applets before number class.now) }
 {
-    let exported = is_exported(world, applets, number, class);
+    let exported = world.is_exported(applets, Known::Declared(number, class));
     let methods = interface_methods(alloc, world, Known::Declared(number, class))?;
     let methods = methods.as_slice();
     if is_high_interface(exported, methods.len(), class) {

@@ -1,35 +1,22 @@
 //! Tokens of the fields of a class.
 
 ghost use Rattle.std.specs.Prelude.{◌≡◌, ◌≤◌, ◌+◌, ◌==◌, ◌&&◌, ◌<◌, nat_le, nat_lt, length, take, true, count_by, IfOk};
-ghost use Rattle.cjc_tokens.specs.Fields.{cells, cells_of, field_token, field_tokens, group, instance_cells, instance_field_token, instance_token, instance_tokens, is_constant, is_constant_type, is_instance, is_open_static, is_reference};
+ghost use Rattle.cjc_tokens.specs.Fields.{cells, cells_of, field_token, field_tokens, group, instance_cells, instance_field_token, instance_token, instance_tokens, is_constant, is_instance, is_open_static, is_reference};
 
-use crate::slot::{has, is_exposed};
+use crate::slot::is_exposed;
 use cjc_bytes::{NoMemory, Row};
 use cjc_classfile::FieldTree;
+use cjc_export::may_be_constant;
+use cjc_world::has;
 use std::alloc::Global;
 
-const BOOLEAN: &[u8] = b"Z";
-
-const BYTE: &[u8] = b"B";
-
-const SHORT: &[u8] = b"S";
-
 const INT: &[u8] = b"I";
-
-fn is_constant_type(desc: &[u8]) -> bool
-    ensures { result ≡ is_constant_type desc.now }
-{
-    desc == BOOLEAN || desc == BYTE || desc == SHORT || desc == INT
-}
 
 /// Whether a field is a constant, which has no cell and no token.
 fn is_constant(field: &FieldTree) -> bool
     ensures { result ≡ is_constant field.now }
 {
-    has(field.flags, 0x0008)
-        && has(field.flags, 0x0010)
-        && is_constant_type(field.desc.items())
-        && field.constant.is_some()
+    may_be_constant(field.flags, field.desc.items()) && field.constant.is_some()
 }
 
 /// Whether a static field has a token, where its class is exported.

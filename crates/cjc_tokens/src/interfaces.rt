@@ -2,7 +2,7 @@
 
 ghost use Rattle.std.specs.Prelude.{◌≡◌, ◌+◌, ◌<◌, ◌++◌, ◌==◌, [], ◌∷◌, map, length, position, if◌then◌else◌, false, true, IfOk, IfSome, OnOk, Some};
 ghost use Rattle.cjc_world.specs.Classes.{all_classes, method_of_class, method_of_export};
-ghost use Rattle.cjc_world.specs.Kin.{IsAcyclic, kin};
+ghost use Rattle.cjc_world.specs.Kin.{kin};
 ghost use Rattle.cjc_world.specs.Known.{class_of};
 ghost use Rattle.cjc_world.specs.Interfaces.{gathered, known};
 ghost use Rattle.cjc_world.specs.Places.{at_places};
@@ -48,7 +48,7 @@ fn put_declared<'w>(
     Ok(())
 }
 
-#[tactic(auto, using(crate::proofs::Places::position_within))]
+#[tactic(auto, using(cjc_world::proofs::Places::position_within))]
 fn token_place(methods: &[ExportMethod], token: usize) -> Option<usize>
     ensures place { result ≡ position (λ m. m.token == token) methods.now }
     ensures within { IfSome result (λ i. i < length methods.now) }
@@ -123,10 +123,10 @@ fn put_above<'w>(
     class: Known<'w, '_>,
     row: &mut Vec<Option<Slot<'w>>>,
 ) -> Result<(), NoMemory>
-    requires { IsAcyclic (all_classes world.now) }
     ensures { OnOk result (signs row.new.items ≡ with_new (signs row.old.items) (asked false (kin (all_classes world.now) (class_of class.entry).supers) ++ asked true (kin (all_classes world.now) (class_of class.entry).interfaces))) }
 {
     lookup_laws();
+    world.acyclic();
     let places = world.interfaces(alloc, class)?;
     put_places(world, places.items(), row)?;
     Ok(())
@@ -138,7 +138,6 @@ fn put_above_where<'w>(
     class: Known<'w, '_>,
     row: &mut Vec<Option<Slot<'w>>>,
 ) -> Result<(), NoMemory>
-    requires { IsAcyclic (all_classes world.now) }
     ensures { OnOk result (signs row.new.items ≡ with_new (signs row.old.items) (above_where (all_classes world.now) (class_of class.entry))) }
 {
     if class.is_imported() {
@@ -154,7 +153,6 @@ pub fn interface_methods<'w>(
     world: &'w World<'_>,
     class: Known<'w, '_>,
 ) -> Result<Vec<Option<Slot<'w>>>, NoMemory>
-    requires { IsAcyclic (all_classes world.now) }
     ensures { IfOk result (λ row. signs row.items ≡ map Some (interface_methods (all_classes world.now) (class_of class.entry))) }
 {
     let mut row = Vec::new(alloc);

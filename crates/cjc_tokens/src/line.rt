@@ -2,7 +2,7 @@
 
 ghost use Rattle.std.specs.Prelude.{◌≡◌, ◌+◌, ◌<◌, ◌^◌, [], ◌∷◌, List, Option, map, length, slice_get, get_or, All, IfOk, IfSome, OnOk, Some, true};
 ghost use Rattle.cjc_world.specs.Classes.{Class, Member, all_classes, declared};
-ghost use Rattle.cjc_world.specs.Kin.{IsAcyclic, kin, upwards};
+ghost use Rattle.cjc_world.specs.Kin.{kin, upwards};
 ghost use Rattle.cjc_world.specs.Known.{class_of};
 ghost use Rattle.cjc_world.specs.Added.{added, named_by};
 ghost use Rattle.cjc_tokens.specs.Lines.{Declared, Imported, Line, line_at, line_in};
@@ -14,7 +14,7 @@ use crate::listed::{rows_of, with_supers};
 use crate::slot::{Rows, offer_added, offer_methods, renewed};
 use cjc_bytes::{MemberId, NoMemory};
 use cjc_classfile::ClassTree;
-use cjc_world::{Known, World, lookup_laws};
+use cjc_world::{Known, World, has, lookup_laws};
 use std::alloc::Global;
 
 /// The rows of a class of the package, from those of its superclass.
@@ -51,11 +51,11 @@ fn rows_above<'w>(
     kept: &[Option<Rows<'w>>],
     class: &ClassTree<'_>,
 ) -> Result<Rows<'w>, NoMemory>
-    requires acyclic { IsAcyclic (all_classes world.now) }
     requires kept { IsKept (all_classes world.now) world.now.classes kept.now }
     ensures { IfOk result (AreRowsOf (line_in (all_classes world.now) (kin (all_classes world.now) (class.now.superclass ∷ [])))) }
 {
     lookup_laws();
+    world.acyclic();
     match world.class_named(class.superclass.items()) {
         None => Ok(Rows {
             shown: Vec::new(alloc),
@@ -101,7 +101,6 @@ fn class_rows<'w>(
     kept: &[Option<Rows<'w>>],
     number: u32,
 ) -> Result<Rows<'w>, NoMemory>
-    requires acyclic { IsAcyclic (all_classes world.now) }
     requires kept { IsKept (all_classes world.now) world.now.classes kept.now }
     requires number { number < length world.now.classes }
     ensures { (c : Tree) → slice_get world.now.classes number ≡ Some c → IfOk result (AreRowsOf (line_at (all_classes world.now) (declared number c))) }
@@ -155,20 +154,22 @@ fn waiting(
     Ok(numbers)
 }
 
-/// Gives a class and its superclasses their rows.
+/// Gives a class that is no interface and its superclasses their rows.
 pub(crate) fn keep<'w>(
     alloc: Global,
     world: &'w World<'_>,
     kept: &mut Vec<Option<Rows<'w>>>,
     number: u32,
 ) -> Result<(), NoMemory>
-    requires acyclic { IsAcyclic (all_classes world.now) }
     requires number { number < length world.now.classes }
     requires length { length kept.old.items ≡ length world.now.classes }
     requires kept { IsKept (all_classes world.now) world.now.classes kept.old.items }
     ensures length { length kept.new.items ≡ length kept.old.items }
     ensures kept { OnOk result (IsKept (all_classes world.now) world.now.classes kept.new.items) }
 {
+    if has(world.classes().items()[number as usize].flags, 0x0200) {
+        return Ok(());
+    }
     let mut numbers = waiting(alloc, world, kept, number)?;
     while let Some(number) = numbers.pop() {
         let rows = class_rows(alloc, world, kept, number)?;

@@ -85,7 +85,7 @@ fn export_place(methods: &[ExportMethod], name: &[u8], desc: &[u8]) -> Option<us
 }
 
 /// The place of a virtual method of a class.
-#[tactic(auto, using(crate::proofs::Places::position_of_map))]
+#[tactic(auto, using(cjc_world::proofs::Places::position_of_map))]
 fn virtual_place(class: Known<'_, '_>, name: &[u8], desc: &[u8]) -> Option<usize>
     ensures { result ≡ position (λ m. is_virtual m && is_called name.now desc.now m) (class_of class.entry).methods }
 {

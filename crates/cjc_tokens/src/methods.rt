@@ -9,9 +9,10 @@ ghost use Rattle.cjc_tokens.specs.Slots.{token};
 ghost use Rattle.cjc_tokens.specs.Rules.{is_above};
 ghost use Rattle.cjc_tokens.specs.Working.{member_of, signs};
 
-use crate::slot::{Rows, has, is_constructor, is_exposed, is_initialiser, is_of_kind, token};
+use crate::slot::{Rows, is_constructor, is_exposed, is_initialiser, is_of_kind, token};
 use cjc_bytes::{MemberId, NoMemory, Row};
 use cjc_classfile::MethodTree;
+use cjc_world::has;
 use std::alloc::Global;
 
 /// Whether a static method or a constructor has a token, where its class is exported.

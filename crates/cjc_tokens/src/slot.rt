@@ -3,7 +3,7 @@
 ghost use Rattle.std.specs.Prelude.{◌≡◌, ◌++◌, ◌∷◌, [], ◌+◌, ◌<◌, ◌^◌, ℕ, List, Option, true, false, map, length, position, IfOk, IfSome, OnOk, option_map, ◌&&◌, ◌||◌};
 ghost use Rattle.std.specs.Str.{bytes_eq};
 ghost use Rattle.cjc_world.specs.declared.found.Found.{Found as Method};
-ghost use Rattle.cjc_world.specs.Classes.{Member, declared, has, method_of_class};
+ghost use Rattle.cjc_world.specs.Classes.{Member, declared, method_of_class};
 ghost use Rattle.cjc_world.specs.Lookup.{is_called, or_else};
 ghost use Rattle.cjc_tokens.specs.Members.{Signature, is_exposed, is_virtual_by, signature_of, signatures};
 ghost use Rattle.cjc_tokens.specs.Slots.{got, has_slot, holds, own, token, with_new};
@@ -12,7 +12,7 @@ ghost use Rattle.cjc_tokens.specs.Working.{is_kind, is_of_kind, member_of, neare
 
 use cjc_bytes::{MemberId, NoMemory};
 use cjc_classfile::{ClassTree, MethodTree};
-use cjc_world::Found;
+use cjc_world::{Found, has};
 use std::alloc::Global;
 
 const CONSTRUCTOR: &[u8] = b"<init>";
@@ -32,12 +32,6 @@ pub struct Slot<'w> {
 pub(crate) struct Rows<'w> {
     pub shown: Vec<Option<Slot<'w>>>,
     pub hidden: Vec<Option<Slot<'w>>>,
-}
-
-pub(crate) fn has(flags: u16, flag: u16) -> bool
-    ensures { result ≡ has flags flag }
-{
-    flags & flag > 0
 }
 
 /// Whether a member is public or protected.
@@ -120,7 +114,7 @@ fn method_place(methods: &[MethodTree<'_>], hidden: bool, name: &[u8], desc: &[u
 }
 
 /// The place of a class's own virtual method.
-#[tactic(auto, using(crate::proofs::Places::position_of_map, crate::proofs::Places::position_within))]
+#[tactic(auto, using(cjc_world::proofs::Places::position_of_map, cjc_world::proofs::Places::position_within))]
 fn own_place(methods: &[MethodTree<'_>], hidden: bool, name: &[u8], desc: &[u8]) -> Option<usize>
     ensures place { result ≡ position (λ m. is_of_kind hidden m && is_called name.now desc.now m) (map method_of_class methods.now) }
     ensures within { IfSome result (λ i. i < length methods.now) }
@@ -157,7 +151,7 @@ fn id_place(added: &[MemberId], name: &[u8], desc: &[u8]) -> Option<usize>
 }
 
 /// The place of an added method.
-#[tactic(auto, using(crate::proofs::Places::position_of_map, crate::proofs::Places::position_within))]
+#[tactic(auto, using(cjc_world::proofs::Places::position_of_map, cjc_world::proofs::Places::position_within))]
 fn added_place(added: &[MemberId], name: &[u8], desc: &[u8]) -> Option<usize>
     ensures place { result ≡ position (λ m. is_called name.now desc.now m) (map member_of added.now) }
     ensures within { IfSome result (λ i. i < length added.now) }

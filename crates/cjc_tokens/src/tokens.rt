@@ -44,7 +44,7 @@ impl Model for Tokens {
     ghost view = { λ t. record { classes = t.classes; imports = t.imports } };
 }
 
-#[tactic(auto, using(crate::proofs::Places::position_within))]
+#[tactic(auto, using(cjc_world::proofs::Places::position_within))]
 fn place_of(token: u8, tokens: &[Option<u8>]) -> Option<usize>
     ensures place { result ≡ position (λ o. has_token token o) tokens.now }
     ensures within { IfSome result (λ i. i < length tokens.now) }

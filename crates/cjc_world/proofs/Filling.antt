@@ -83,6 +83,15 @@ module _ (w : List Class) where
         (same_or q to);
   }
 
+  -- what comes behind loses nothing
+  pub closer-still : (old mid new : List (Option Above)) (from to a b : ℕ) → Closer w old mid from to → Closer w mid new a b → Closer w old new from to
+  closer-still old mid new from to a b p q = record {
+    count = q.count ∙ p.count;
+    right = λ r. q.right (p.right r);
+    stays = λ i e. q.stays i (p.stays i e);
+    settles = λ i c l m e r. q.stays i (p.settles i c l m e r);
+  }
+
   -- nothing was to do at this place
   pub closer-there : (rows : List (Option Above)) (p : ℕ) → is_row (slice_get rows p) ≡ true → Closer w rows rows p (p + 1)
   closer-there rows p there = record {

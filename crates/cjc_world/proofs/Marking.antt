@@ -1,6 +1,6 @@
 -- One place more with its mark.
 use Rattle.std.proofs.Common.{◌≡◌, ℕ, zero, suc, ◌<◌, ◌≤◌, refl, sym, ap, ◌∙◌, arith, Bool, true, false, List, [], ◌∷◌, ◌++◌, length, slice_set, ⊎_elim}
-use Rattle.std.specs.Prelude.{◌||◌, ◌==◌, Option, Some, None, slice_get}
+use Rattle.std.specs.Prelude.{◌||◌, ◌==◌, Some, slice_get}
 use Rattle.std.proofs.lemmas.Bool.Decides.{nat_tests}
 use Rattle.cjc_world.specs.Places.{is_in}
 use Rattle.cjc_world.specs.Tables.{AreMarked}

@@ -9,11 +9,11 @@ use Rattle.cjc_bytes.specs.Order.{numbers, AreUpTo}
 use Rattle.cjc_world.specs.Classes.{Member, Class, declared, numbered, size, all_classes}
 use Rattle.cjc_world.specs.Rules.{gets_missing, Break, when, head, at_class, at_member, told, members, members_before, class_rules, member_rules, members_from, class_breaks, classes_breaks, class_file_breaks, export_file_breaks, breaks_from, breaks, Among, foremost, after, IsFirst, is_of_package, is_second, lists_missing, is_own_super, lists_wrong, is_twice, is_desc_missing, is_second_package, has_language}
 
-upto_refl : (xs : List ℕ) → AreUpTo xs xs
+pub upto_refl : (xs : List ℕ) → AreUpTo xs xs
 upto_refl [] = tt
 upto_refl (x ∷ xs) = inr (refl, upto_refl xs)
 
-upto_trans : (xs ys zs : List ℕ) → AreUpTo xs ys → AreUpTo ys zs → AreUpTo xs zs
+pub upto_trans : (xs ys zs : List ℕ) → AreUpTo xs ys → AreUpTo ys zs → AreUpTo xs zs
 upto_trans [] ys zs p q = tt
 upto_trans (x ∷ xs) [] zs p q = absurd p
 upto_trans (x ∷ xs) (y ∷ ys) [] p q = absurd q

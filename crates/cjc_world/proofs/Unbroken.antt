@@ -11,19 +11,19 @@ use Rattle.cjc_world.specs.Kin.{IsAcyclic, stands_above}
 use Rattle.cjc_world.specs.Rules.{gets_missing, when, at_class, class_rules, members_from, class_breaks, classes_breaks, class_file_breaks, export_file_breaks, breaks_from, breaks, is_of_package, is_second, lists_missing, is_own_super, lists_wrong, is_second_package, has_language}
 use Rattle.cjc_world.proofs.Cycles.{class_named-name, above-class, stands_where_above}
 
-nil_front : {A : Type 0} (xs ys : List A) → xs ++ ys ≡ [] → xs ≡ []
+pub nil_front : {A : Type 0} (xs ys : List A) → xs ++ ys ≡ [] → xs ≡ []
 nil_front [] ys e = refl
 nil_front (x ∷ xs) ys e = cc
 
-nil_back : {A : Type 0} (xs ys : List A) → xs ++ ys ≡ [] → ys ≡ []
+pub nil_back : {A : Type 0} (xs ys : List A) → xs ++ ys ≡ [] → ys ≡ []
 nil_back [] ys e = e
 nil_back (x ∷ xs) ys e = cc
 
-nil_of_map : {A B : Type 0} (f : A → B) (xs : List A) → map f xs ≡ [] → xs ≡ []
+pub nil_of_map : {A B : Type 0} (f : A → B) (xs : List A) → map f xs ≡ [] → xs ≡ []
 nil_of_map f [] e = refl
 nil_of_map f (x ∷ xs) e = cc
 
-not_when : (b : Bool) (rule : ℕ) → when b rule ≡ [] → b ≡ false
+pub not_when : (b : Bool) (rule : ℕ) → when b rule ≡ [] → b ≡ false
 not_when true rule e = cc
 not_when false rule e = refl
 

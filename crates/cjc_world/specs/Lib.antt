@@ -8,6 +8,7 @@ pub mod Names
 pub mod Tables
 pub mod Subtype
 pub mod Access
+pub mod Exported
 pub mod Added
 pub mod Asked
 pub mod Known

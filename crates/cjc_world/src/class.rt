@@ -29,7 +29,8 @@ pub enum Known<'w, 'a> {
     Imported(u32, &'w ExportClass),
 }
 
-fn has(flags: u16, flag: u16) -> bool
+/// Whether access flags have one (Java Virtual Machine Specification, sections 4.1, 4.5 and 4.6).
+pub fn has(flags: u16, flag: u16) -> bool
     ensures { result ≡ has flags flag }
 {
     flags & flag > 0

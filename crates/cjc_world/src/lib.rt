@@ -18,7 +18,7 @@ mod spot;
 mod tables;
 mod world;
 
-pub use class::Known;
+pub use class::{Known, has};
 pub use found::Found;
 pub use image::{ArrayCell, StaticImage, ValueCell};
 pub use laws::{lookup_laws, subtype_laws};

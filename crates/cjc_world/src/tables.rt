@@ -289,7 +289,24 @@ impl<'a> Roster<'a> {
         Ok(())
     }
 
-    /// What stands above each class, or None where a class is its own super. Each pass reaches a step further.
+    /// The same, from the last place to the first.
+    fn pass_back(
+        &self,
+        alloc: Global,
+        rows: &mut Vec<Option<Above>>,
+        count: u32,
+    ) -> Result<(), NoMemory>
+        requires { count ≡ length rows.old.items }
+        ensures { OnOk result (Closer (all_classes self.now) rows.old.items rows.new.items 0 0) }
+    {
+        for left in 0..count {
+            self.settle(alloc, rows, count - 1 - left)?;
+        }
+        Ok(())
+    }
+
+    /// What stands above each class, or None where a class is its own super. Each pass reaches a step further, and
+    /// one is enough where the list has supers first or last.
     pub(crate) fn above_all(&self, alloc: Global) -> Result<Option<Row<Option<Above>>>, NoMemory>
         ensures { IfOk result (λ o. MatchOption o (IsAcyclic (all_classes self.now) → ⊥) (λ rows. IsTable (all_classes self.now) rows)) }
     {
@@ -300,6 +317,7 @@ impl<'a> Roster<'a> {
                 return Ok(Some(Row::of(rows)));
             }
             self.pass(alloc, &mut rows, count)?;
+            self.pass_back(alloc, &mut rows, count)?;
         }
         if all_there(&rows) {
             Ok(Some(Row::of(rows)))

@@ -5,7 +5,8 @@ ghost use Rattle.cjc_world.specs.Classes.{all_classes, class_at, class_named};
 ghost use Rattle.cjc_world.specs.Files.{files_of};
 ghost use Rattle.cjc_world.specs.Rules.{breaks, IsFirstRefusal};
 ghost use Rattle.cjc_world.specs.Added.{added_at};
-ghost use Rattle.cjc_world.specs.Kin.{is_below, kin, once, upwards};
+ghost use Rattle.cjc_world.specs.Exported.{is_exported, is_imported, is_shareable};
+ghost use Rattle.cjc_world.specs.Kin.{IsAcyclic, is_below, kin, once, upwards};
 ghost use Rattle.cjc_world.specs.Interfaces.{each_once, gathered, known};
 ghost use Rattle.cjc_world.specs.Known.{class_of};
 ghost use Rattle.cjc_world.specs.Places.{at_places};
@@ -14,7 +15,7 @@ ghost use Rattle.cjc_world.specs.Subtype.{element, inner, is_element, is_subclas
 ghost use Rattle.cjc_world.specs.Tables.{IsTable};
 ghost use Rattle.cjc_world.specs.Lookup.{find_field, find_method, receiver, selected};
 
-use crate::class::Known;
+use crate::class::{Known, has};
 use crate::draft::{Draft, Kept, Tables};
 use crate::found::Found;
 use crate::roster::Roster;
@@ -26,6 +27,8 @@ use std::alloc::Global;
 use std::marker::Model;
 
 pub(crate) const OBJECT: &[u8] = b"java/lang/Object";
+
+const SHAREABLE: &[u8] = b"javacard/framework/Shareable";
 
 /// A package with the export files that it stands on.
 #[derive(Drop)]
@@ -157,6 +160,13 @@ impl<'a> World<'a> {
         self.tables.above.items()
     }
 
+    /// What holds of every world: no class is its own superclass or superinterface over steps. It is for proofs.
+    pub fn acyclic(&self)
+        ensures { IsAcyclic (all_classes self.now) }
+    {
+        self.rows();
+    }
+
     /// Whether a class or interface is another or stands below it, over superclasses and superinterfaces.
     pub fn is_subclass(&self, sub: &[u8], sup: &[u8]) -> bool
         ensures { result ≡ is_subclass (all_classes self.now) sub.now sup.now }
@@ -207,6 +217,32 @@ impl<'a> World<'a> {
         } else {
             !starts(b'[', sup) && self.is_subclass(sub, sup)
         }
+    }
+
+    /// Whether an export file has the class of a name.
+    pub fn is_imported(&self, name: &[u8]) -> bool
+        ensures { result ≡ is_imported (class_named (all_classes self.now) name.now) }
+    {
+        match self.class_named(name) {
+            None => false,
+            Some(class) => class.is_imported(),
+        }
+    }
+
+    fn is_shareable(&self, class: Known<'_, '_>) -> bool
+        ensures { result ≡ is_shareable (all_classes self.now) (class_of class.entry) }
+    {
+        class.is_interface() && self.is_imported(SHAREABLE) && self.subtype(class.name(), SHAREABLE)
+    }
+
+    /// Whether other packages may name a class of the package, which has applets or none: a public class of a package
+    /// without applets, or a public interface below javacard/framework/Shareable of an export file (Java Card Virtual
+    /// Machine Specification 2.2.2, section 4.3.1).
+    #[tactic(auto, unfolding(crate::specs::Exported::is_exported))]
+    pub fn is_exported(&self, applets: bool, class: Known<'_, '_>) -> bool
+        ensures { result ≡ is_exported (all_classes self.now) applets (class_of class.entry) }
+    {
+        has(class.flags(), 0x0001) && (!applets || self.is_shareable(class))
     }
 
     /// The field that is found by its class, name and descriptor: in the class, then in the same way in each

@@ -1,8 +1,5 @@
 use Rattle.cjc_convert.proofs.judging.language.Goals as goal
 
-pub tokens_break-requires : goal.tokens_break-requires
-tokens_break-requires c = c.lookup_laws.ensures.acyclic c.args.list.now.name c.args.world.now c.requires
-
 pub returns-clause-unbroken : goal.returns-clause-unbroken
 returns-clause-unbroken c =
     let checks = rw (c.items.ensures, c.in_ok-settings.ensures) at c.in_ok-broken.ensures in

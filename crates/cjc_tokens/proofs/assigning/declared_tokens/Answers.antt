@@ -2,7 +2,8 @@ use Rattle.std.proofs.Common.{◌≡◌, ◌∙◌, ap, sym, subst, length, get_
 use Rattle.std.specs.Prelude.{slice_get}
 use Rattle.cjc_world.specs.Classes.{all_classes, declared}
 use Rattle.cjc_tokens.specs.Rules.{breaks_from, count_exported, token_breaks}
-use Rattle.cjc_tokens.specs.Tokens.{classes_from, is_exported}
+use Rattle.cjc_world.specs.Exported.{is_exported}
+use Rattle.cjc_tokens.specs.Tokens.{classes_from}
 use Rattle.cjc_tokens.specs.Working.{AreTokensOf}
 use Rattle.cjc_tokens.proofs.Walks.{slice_get-at}
 use Rattle.cjc_tokens.proofs.Assigns.{classes-next, classes-end, exported-next, breaks-next, breaks-end, breaks-first}

@@ -5,9 +5,9 @@ use Rattle.cjc_tokens.specs.Members.{signature_of}
 use Rattle.cjc_tokens.specs.Slots.{token}
 use Rattle.cjc_tokens.specs.Fields.{field_tokens, instance_tokens}
 use Rattle.cjc_tokens.specs.Methods.{class_method_tokens}
-use Rattle.cjc_tokens.specs.Tokens.{is_exported}
+use Rattle.cjc_world.specs.Exported.{is_exported}
 use Rattle.cjc_tokens.specs.Working.{is_high_class, member_of, methods_in, signs}
-use Rattle.cjc_tokens.proofs.Sums.{instance_tokens-length}
+use Rattle.cjc_tokens.proofs.Sums.{few-instances}
 use Rattle.cjc_tokens.proofs.Classes.{high-class, tokens-class}
 use Rattle.cjc_tokens.proofs.class.class_tokens.Goals as goal
 
@@ -20,10 +20,7 @@ returns-then-is_high_class c =
     ∙ sym c.is_high_class.ensures ∙ c.if-is_high_class.true
 
 pub invariant_of-result : goal.invariant_of-result
-invariant_of-result c =
-    let fs = c.args.class.now.fields in
-    let l : length c.in_ok-instances.instances ≡ length fs = ap length (c.in_ok-instances.ensures ∙ ap (λ q. instance_tokens q 0 q) c.items-3.ensures) ∙ instance_tokens-length fs 0 fs in
-    subst (λ n. n < 2 ^ 32) (sym l) c.requires.few
+invariant_of-result c = few-instances c.items-3.result.now c.args.class.now.fields c.in_ok-instances.instances c.in_ok-instances.ensures c.items-3.ensures c.requires.few
 
 pub returns : goal.returns
 returns c =

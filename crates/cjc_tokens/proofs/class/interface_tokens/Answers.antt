@@ -4,9 +4,9 @@ use Rattle.std.proofs.lemmas.List.{length-map}
 use Rattle.cjc_world.specs.Classes.{all_classes, declared, method_of_class}
 use Rattle.cjc_tokens.specs.Fields.{field_tokens, instance_tokens}
 use Rattle.cjc_tokens.specs.Methods.{interface_methods, interface_token}
-use Rattle.cjc_tokens.specs.Tokens.{is_exported}
+use Rattle.cjc_world.specs.Exported.{is_exported}
 use Rattle.cjc_tokens.specs.Working.{is_high_interface, signature_in, signs}
-use Rattle.cjc_tokens.proofs.Sums.{instance_tokens-length}
+use Rattle.cjc_tokens.proofs.Sums.{few-instances}
 use Rattle.cjc_tokens.proofs.Classes.{high-interface, tokens-interface}
 use Rattle.cjc_tokens.proofs.class.interface_tokens.Goals as goal
 
@@ -22,10 +22,7 @@ returns-then-is_high_interface c =
     ∙ sym c.is_high_interface.ensures ∙ c.if-is_high_interface.true
 
 pub invariant_of-result : goal.invariant_of-result
-invariant_of-result c =
-    let fs = c.args.class.now.fields in
-    let l : length c.in_ok-instances.instances ≡ length fs = ap length (c.in_ok-instances.ensures ∙ ap (λ q. instance_tokens q 0 q) c.items-3.ensures) ∙ instance_tokens-length fs 0 fs in
-    subst (λ n. n < 2 ^ 32) (sym l) c.requires.few
+invariant_of-result c = few-instances c.items-3.result.now c.args.class.now.fields c.in_ok-instances.instances c.in_ok-instances.ensures c.items-3.ensures c.requires.few
 
 pub returns : goal.returns
 returns c =

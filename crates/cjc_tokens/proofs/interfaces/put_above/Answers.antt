@@ -14,7 +14,7 @@ returns c =
     let w = all_classes c.args.world.now in
     let k = class_of c.args.class in
     let old = signs c.args.row.now.items in
-    let is_kin = c.lookup_laws.ensures.is_kin w c.requires in
+    let is_kin = c.lookup_laws.ensures.is_kin w c.acyclic.ensures in
     c.in_ok-put_places.ensures
     ∙ ap (λ ps. with_new old (map signature_of (methods_of (at_places w ps)))) c.items.ensures
     ∙ ap (λ cs. with_new old (map signature_of (methods_of cs))) c.in_ok-places.ensures

@@ -2,7 +2,7 @@ use Rattle.std.proofs.Common.{◌∙◌, sym}
 use Rattle.std.specs.Prelude.{option_map}
 use Rattle.cjc_tokens.specs.Slots.{holds, token}
 use Rattle.cjc_tokens.specs.Working.{signature_in}
-use Rattle.cjc_tokens.proofs.Places.{position_of_map}
+use Rattle.cjc_world.proofs.Places.{position_of_map}
 use Rattle.cjc_tokens.proofs.slot.token.Goals as goal
 
 pub returns : goal.returns

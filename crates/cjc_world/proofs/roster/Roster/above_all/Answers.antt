@@ -3,7 +3,7 @@ use Rattle.std.specs.Prelude.{is_some, slice_get}
 use Rattle.std.specs.List.{list_all}
 use Rattle.cjc_world.specs.Classes.{all_classes}
 use Rattle.cjc_world.specs.Tables.{IsTable, is_row}
-use Rattle.cjc_world.proofs.Filling.{reached-none, reached-next, filled, unfilled}
+use Rattle.cjc_world.proofs.Filling.{closer-still, reached-none, reached-next, filled, unfilled}
 use Rattle.cjc_world.proofs.roster.Roster.above_all.Goals as goal
 
 pub loop-step-init : goal.loop-step-init
@@ -14,11 +14,14 @@ loop-step-init c = record {
 }
 
 pub loop-step-preserved : goal.loop-step-preserved
-loop-step-preserved c = record {
-  count = c.in_ok-pass.ensures.count ∙ c.loop-step.invariant.count;
-  right = c.in_ok-pass.ensures.right c.loop-step.invariant.right;
-  reached = reached-next (all_classes c.args.self.now) c.loop-step.rows.items c.pass.new.rows.items c.loop-step._step c.count-count.result c.count-count.ensures c.in_ok-pass.ensures c.loop-step.invariant.reached;
-}
+loop-step-preserved c =
+    let w = all_classes c.args.self.now in
+    let closer = closer-still w c.loop-step.rows.items c.pass.new.rows.items c.pass_back.new.rows.items 0 c.count-count.result 0 0 c.in_ok-pass.ensures c.in_ok-pass_back.ensures in
+    record {
+      count = closer.count ∙ c.loop-step.invariant.count;
+      right = closer.right c.loop-step.invariant.right;
+      reached = reached-next w c.loop-step.rows.items c.pass_back.new.rows.items c.loop-step._step c.count-count.result c.count-count.ensures closer c.loop-step.invariant.reached;
+    }
 
 pub returns-then-all_there : goal.returns-then-all_there
 returns-then-all_there c =

@@ -1,5 +1,4 @@
 use Rattle.std.proofs.Common.{[], ◌∷◌, ◌++◌, arith, sym, ap, ◌∙◌}
-use Rattle.cjc_world.specs.Places.{joined}
 use Rattle.cjc_world.proofs.Joined.{joined-new, joined-old}
 use Rattle.cjc_world.proofs.Marking.{mark-set, mark-over}
 use Rattle.cjc_world.proofs.tables.Places.put.Goals as goal
