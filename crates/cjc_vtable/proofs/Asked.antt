@@ -8,6 +8,7 @@ use Rattle.cjc_world.specs.Kin.{Kin, kin, IsKin, ends, unknown_here, known_here}
 use Rattle.cjc_world.specs.Interfaces.{Interface, where_listed, gathered, is_among, each_once, known}
 use Rattle.cjc_world.specs.Lookup.{is_called}
 use Rattle.cjc_world.specs.Added.{own_methods, methods_of, asked_by}
+use Rattle.cjc_world.proofs.Rising.{known-append}
 use Rattle.cjc_tokens.specs.Members.{Signature, signature_of, same, has, is_shown, In, chosen, first_of, later}
 use Rattle.cjc_tokens.specs.Slots.{Slots, token}
 use Rattle.cjc_tokens.specs.Methods.{interfaces_at, interface_methods}
@@ -62,15 +63,6 @@ once-among before (j ∷ is) c i = by (is_among before j.name) i (once-among bef
     by : (b : Bool) → Among c (known (if b then each_once before is else j ∷ each_once (before ++ j ∷ []) is)) → (Among c (known (each_once before is)) → Among c (known is)) → (Among c (known (each_once (before ++ j ∷ []) is)) → Among c (known is)) → Among c (option_to_list j.class ++ known is)
     by true k old fresh = behind j.class (old k)
     by false k old fresh = front j.class k fresh
-
-pub known-append : (is js : List Interface) → known (is ++ js) ≡ known is ++ known js
-unfolding known
-known-append [] js = refl
-known-append (i ∷ is) js = by i.class (known-append is js)
-  where
-    by : (o : Option Class) → known (is ++ js) ≡ known is ++ known js → option_to_list o ++ known (is ++ js) ≡ (option_to_list o ++ known is) ++ known js
-    by None e = e
-    by (Some c) e = ap (λ cs. c ∷ cs) e
 
 -- ---- the methods of interfaces
 

@@ -6,7 +6,8 @@ use Rattle.cjc_world.specs.Files.{Files}
 use Rattle.cjc_world.specs.Classes.{Class, declared, is_interface, all_classes}
 use Rattle.cjc_tokens.specs.Lines.{line_at}
 use Rattle.cjc_tokens.specs.Slots.{row, hidden_row}
-use Rattle.cjc_tokens.specs.Tokens.{Assigned, classes_from, of_class, is_exported, one_more, assigned, public_in, package_in, public_methods_of, package_methods_of}
+use Rattle.cjc_world.specs.Exported.{is_exported}
+use Rattle.cjc_tokens.specs.Tokens.{Assigned, classes_from, of_class, one_more, assigned, public_in, package_in, public_methods_of, package_methods_of}
 
 module _ (w : List Class) (applets : Bool) where
   at-number : (before k : ℕ) (cs : List ClassTree) (n : ℕ) (c : ClassTree) → slice_get cs n ≡ Some c → (b : ℕ) × (slice_get (classes_from w applets before k cs) n ≡ Some (of_class w applets b (k + n) c))

@@ -23,7 +23,8 @@ use Rattle.cjc_tokens.proofs.Facts.{same-refl}
 use Rattle.cjc_tokens.proofs.Walks.{kin-known}
 use Rattle.cjc_vtable.specs.Calls.{is_special, selects, is_package_visible, is_clash}
 use Rattle.cjc_vtable.specs.Kept.{IsKept, Keeps}
-use Rattle.cjc_vtable.proofs.Asked.{Among, among-split, known-append}
+use Rattle.cjc_world.proofs.Rising.{known-append}
+use Rattle.cjc_vtable.proofs.Asked.{Among, among-split}
 use Rattle.cjc_vtable.proofs.Filed.{Has, at_front, behind, has-get, get-has, of-imports, IsFiled, in_class_file, in_export_file, filed, at-number}
 use Rattle.cjc_vtable.proofs.Ruled.{of-package, lists-interfaces, lists-imported}
 use Rattle.cjc_vtable.proofs.Clean.{fit-method, seen-declared, seen-imported, coded-declared, coded-imported}

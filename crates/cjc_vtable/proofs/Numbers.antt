@@ -10,7 +10,7 @@ use Rattle.cjc_export.specs.declared.tree.ExportClass.{ExportClass}
 use Rattle.cjc_export.specs.declared.tree.ExportTree.{ExportTree}
 use Rattle.cjc_world.specs.Files.{Files}
 use Rattle.cjc_world.specs.Classes.{Class, declared, imported, numbered, size, of_class_file, of_export_file, classes_from, all_classes, class_named, class_at, is_at}
-use Rattle.cjc_vtable.specs.Naming.{class_count}
+use Rattle.cjc_vtable.specs.Standing.{class_count}
 
 same_number : (n : ℕ) → (n == n) ≡ true
 same_number n = grind arith
@@ -201,7 +201,7 @@ at-tree files n d e = from-tree files.classes files.exports 0 0 0 files.lines n 
 
 -- ---- a number below that of the class files which the list names is of the tree at its place, and no other is of a class of the package
 
-class_count-cons : (line : FileLine) (lines : List FileLine) → class_count (line ∷ lines) ≡ cond line.class_file 1 0 + class_count lines
+pub class_count-cons : (line : FileLine) (lines : List FileLine) → class_count (line ∷ lines) ≡ cond line.class_file 1 0 + class_count lines
 class_count-cons line lines = sum_by-cons (λ (l : FileLine). cond l.class_file 1 0) line lines
 
 file-other : (c n : ℕ) (o : Option ClassTree) (rest : List Class) → c < n → class_at (of_class_file c o ++ rest) false n ≡ class_at rest false n

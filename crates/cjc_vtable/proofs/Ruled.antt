@@ -11,23 +11,8 @@ use Rattle.cjc_world.specs.Classes.{Class, declared, numbered, size, of_class_fi
 use Rattle.cjc_world.specs.Kin.{Lists, foremost, after}
 use Rattle.cjc_world.specs.Lookup.{object}
 use Rattle.cjc_world.specs.Rules.{when, at_class, class_rules, members_from, class_breaks, classes_breaks, class_file_breaks, export_file_breaks, breaks_from, breaks, is_of_package, is_second, lists_missing, gets_missing, is_own_super, lists_wrong, is_second_package, has_language, is_interface_of, is_class_of, is_of_class_file}
+use Rattle.cjc_world.proofs.Unbroken.{nil_front, nil_back, nil_of_map, not_when}
 use Rattle.cjc_vtable.proofs.Filed.{Every, every-append, every-named}
-
-nil_front : {A : Type 0} (xs ys : List A) → xs ++ ys ≡ [] → xs ≡ []
-nil_front [] ys e = refl
-nil_front (x ∷ xs) ys e = cc
-
-nil_back : {A : Type 0} (xs ys : List A) → xs ++ ys ≡ [] → ys ≡ []
-nil_back [] ys e = e
-nil_back (x ∷ xs) ys e = cc
-
-nil_of_map : {A B : Type 0} (f : A → B) (xs : List A) → map f xs ≡ [] → xs ≡ []
-nil_of_map f [] e = refl
-nil_of_map f (x ∷ xs) e = cc
-
-not_when : (b : Bool) (rule : ℕ) → when b rule ≡ [] → b ≡ false
-not_when true rule e = cc
-not_when false rule e = refl
 
 -- the class breaks no rule itself
 IsRuled : List ℕ → List Class → Class → Type 0

@@ -221,18 +221,6 @@ slots-named files applets n d trees there plain =
     ap (map (named_where w)) (public-row files applets n t.0 t.1 plain_tree (assigned applets files) refl ∙ ap (λ q. row (line_at w q)) (sym t.2))
     ∙ row-named w (line_at w d) (seen-at w (named-number files) d numbered_one (trees d.supers))
 
--- where the class of the number is this one
-pub slots-of : (files : Files) (applets : Bool) (n : ℕ) (d k : Class)
-    → ((xs : List (List ℕ)) → IsKin (all_classes files) xs (kin (all_classes files) xs))
-    → class_at (all_classes files) false n ≡ Some k
-    → ((t : ClassTree) → slice_get files.classes n ≡ Some t → d ≡ declared n t)
-    → is_interface d.flags ≡ false
-    → map (named_where (all_classes files)) (public_methods_of (assigned applets files) n) ≡ slots (line_at (all_classes files) d)
-slots-of files applets n d k trees there same_class plain =
-    let t = at-tree files n k there in
-    let is : k ≡ d = t.2 ∙ sym (same_class t.0 t.1) in
-    slots-named files applets n d trees (there ∙ ap (λ q. Some q) is) plain
-
 -- ---- what the code holds of added methods
 
 names-by : (class : List ℕ) (ms : List Member) → map signature_by (map (named_by class) ms) ≡ map signature_of ms

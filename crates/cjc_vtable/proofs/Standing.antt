@@ -16,7 +16,8 @@ use Rattle.cjc_export.specs.declared.tree.ExportTree.{ExportTree}
 use Rattle.cjc_world.specs.Files.{Files}
 use Rattle.cjc_world.specs.Classes.{Class, declared, numbered, size, of_class_file, of_export_file, classes_from, all_classes, class_named, is_interface}
 use Rattle.cjc_world.specs.Order.{is_in, is_of_kind, waits, names_waiting, may_stand, next, and_then, lined_up, in_order}
-use Rattle.cjc_vtable.specs.Standing.{numbered_from, class_lines, declared_at, IsBegun, IsClass, own_number, own_numbers, listed_numbers, has_mark, stands_marked, IsMarked}
+use Rattle.cjc_vtable.proofs.Numbers.{class_count-cons}
+use Rattle.cjc_vtable.specs.Standing.{numbered_from, class_count, declared_at, IsBegun, IsClass, own_number, own_numbers, listed_numbers, has_mark, stands_marked, IsMarked}
 
 abbrev is_own : Class → Bool
 is_own c = not c.is_imported
@@ -64,6 +65,13 @@ here xs k x e =
     let within = slice_get_within xs k x e in
     drop-cons xs k x within ∙ ap (λ q. q ∷ drop (suc k) xs) (get_or_from_slice_get xs k x x e) ∙ ap (λ n. x ∷ drop n xs) (sym (add-one k))
 
+pub taken-below : {A : Type 0} (n : ℕ) (xs : List A) (k : ℕ) (x : A) → slice_get (take n xs) k ≡ Some x → k < n
+taken-below zero [] k x e = cc
+taken-below zero (y ∷ xs) k x e = cc
+taken-below (suc n) [] k x e = cc
+taken-below (suc n) (y ∷ xs) zero x e = omega arith
+taken-below (suc n) (y ∷ xs) (suc k) x e = let below = taken-below n xs k x e in omega arith
+
 pub taken : {A : Type 0} (n : ℕ) (xs : List A) (k : ℕ) (x : A) → slice_get (take n xs) k ≡ Some x → slice_get xs k ≡ Some x
 taken zero [] k x e = cc
 taken zero (y ∷ xs) k x e = cc
@@ -71,36 +79,38 @@ taken (suc n) [] k x e = cc
 taken (suc n) (y ∷ xs) zero x e = e
 taken (suc n) (y ∷ xs) (suc k) x e = taken n xs k x e
 
-own-classes : (trees : List ClassTree) (exports : List ExportTree) (c e i : ℕ) (lines : List FileLine) → filter is_own (classes_from trees exports c e i lines) ≡ numbered_from c (take (class_lines lines) (drop c trees))
+own-classes : (trees : List ClassTree) (exports : List ExportTree) (c e i : ℕ) (lines : List FileLine) → filter is_own (classes_from trees exports c e i lines) ≡ numbered_from c (take (class_count lines) (drop c trees))
 unfolding classes_from
 own-classes trees exports c e i [] = refl
 own-classes trees exports c e i (line ∷ lines) =
     by line.class_file (own-classes trees exports (c + 1) e i lines) (own-classes trees exports c (e + 1) (i + size (slice_get exports e)) lines)
+    ∙ ap (λ n. numbered_from c (take n (drop c trees))) (sym (class_count-cons line lines))
   where
     empty : (n : ℕ) → numbered_from (c + 1) (take n []) ≡ []
     empty zero = refl
     empty (suc n) = refl
 
-    at : (o : Option ClassTree) → slice_get trees c ≡ o → filter is_own (classes_from trees exports (c + 1) e i lines) ≡ numbered_from (c + 1) (take (class_lines lines) (drop (c + 1) trees))
-        → filter is_own (of_class_file c o ++ classes_from trees exports (c + 1) e i lines) ≡ numbered_from c (take (suc (class_lines lines)) (drop c trees))
+    at : (o : Option ClassTree) → slice_get trees c ≡ o → filter is_own (classes_from trees exports (c + 1) e i lines) ≡ numbered_from (c + 1) (take (class_count lines) (drop (c + 1) trees))
+        → filter is_own (of_class_file c o ++ classes_from trees exports (c + 1) e i lines) ≡ numbered_from c (take (suc (class_count lines)) (drop c trees))
     at None f rest =
         let p = past trees c f in
-        rest ∙ ap (λ q. numbered_from (c + 1) (take (class_lines lines) q)) p.1 ∙ empty (class_lines lines) ∙ ap (λ q. numbered_from c (take (suc (class_lines lines)) q)) (sym p.0)
+        rest ∙ ap (λ q. numbered_from (c + 1) (take (class_count lines) q)) p.1 ∙ empty (class_count lines) ∙ ap (λ q. numbered_from c (take (suc (class_count lines)) q)) (sym p.0)
     at (Some t) f rest =
-        ap (λ q. declared c t ∷ q) rest ∙ ap (λ q. numbered_from c (take (suc (class_lines lines)) q)) (sym (here trees c t f))
+        ap (λ q. declared c t ∷ q) rest ∙ ap (λ q. numbered_from c (take (suc (class_count lines)) q)) (sym (here trees c t f))
 
     by : (b : Bool)
-        → filter is_own (classes_from trees exports (c + 1) e i lines) ≡ numbered_from (c + 1) (take (class_lines lines) (drop (c + 1) trees))
-        → filter is_own (classes_from trees exports c (e + 1) (i + size (slice_get exports e)) lines) ≡ numbered_from c (take (class_lines lines) (drop c trees))
+        → filter is_own (classes_from trees exports (c + 1) e i lines) ≡ numbered_from (c + 1) (take (class_count lines) (drop (c + 1) trees))
+        → filter is_own (classes_from trees exports c (e + 1) (i + size (slice_get exports e)) lines) ≡ numbered_from c (take (class_count lines) (drop c trees))
         → filter is_own (if b then of_class_file c (slice_get trees c) ++ classes_from trees exports (c + 1) e i lines else of_export_file i (slice_get exports e) ++ classes_from trees exports c (e + 1) (i + size (slice_get exports e)) lines)
-        ≡ numbered_from c (take (if b then suc (class_lines lines) else class_lines lines) (drop c trees))
-    by true p q = at (slice_get trees c) refl p
+        ≡ numbered_from c (take (cond b 1 0 + class_count lines) (drop c trees))
+    by true p q = at (slice_get trees c) refl p ∙ (let one_more : suc (class_count lines) ≡ 1 + class_count lines = omega arith in ap (λ n. numbered_from c (take n (drop c trees))) one_more)
     by false p q =
         filter-append is_own (of_export_file i (slice_get exports e)) (classes_from trees exports c (e + 1) (i + size (slice_get exports e)) lines)
         ∙ ap (λ r. r ++ filter is_own (classes_from trees exports c (e + 1) (i + size (slice_get exports e)) lines)) (own-export i (slice_get exports e))
         ∙ q
+        ∙ (let none : class_count lines ≡ 0 + class_count lines = omega arith in ap (λ n. numbered_from c (take n (drop c trees))) none)
 
-own-all : (files : Files) → filter is_own (all_classes files) ≡ numbered_from 0 (take (class_lines files.lines) files.classes)
+own-all : (files : Files) → filter is_own (all_classes files) ≡ numbered_from 0 (take (class_count files.lines) files.classes)
 unfolding all_classes
 own-all files = own-classes files.classes files.exports 0 0 0 files.lines
 
@@ -222,11 +232,11 @@ length-numbered n [] = refl
 length-numbered n (c ∷ cs) = ap suc (length-numbered (n + 1) cs)
 
 -- the order, by as many steps as there are class files with a line
-pub order-lined : (files : Files) → in_order (all_classes files) false ≡ lined_up (all_classes files) false (length (take (class_lines files.lines) files.classes)) []
+pub order-lined : (files : Files) → in_order (all_classes files) false ≡ lined_up (all_classes files) false (length (take (class_count files.lines) files.classes)) []
 unfolding in_order
 order-lined files =
     let w = all_classes files in
-    let trees = take (class_lines files.lines) files.classes in
+    let trees = take (class_count files.lines) files.classes in
     let own = own-all files in
     let few : count (waits false []) w ≤ length w = count-length (waits false []) w in
     let same = waits-own w false [] w ∙ ap (count (waits false [])) own in
@@ -254,12 +264,12 @@ pub next-end : (w : List Class) (p : List ℕ) (cs : List ClassTree) (k : ℕ) �
 unfolding next
 next-end w p cs k past = ap (λ q. next w false p (numbered_from k q)) (past-all cs k past)
 
-pub next-numbered : (files : Files) (p : List ℕ) → next (all_classes files) false p (all_classes files) ≡ next (all_classes files) false p (numbered_from 0 (take (class_lines files.lines) files.classes))
+pub next-numbered : (files : Files) (p : List ℕ) → next (all_classes files) false p (all_classes files) ≡ next (all_classes files) false p (numbered_from 0 (take (class_count files.lines) files.classes))
 next-numbered files p = next-own (all_classes files) false p (all_classes files) ∙ ap (next (all_classes files) false p) (own-all files)
 
 -- ---- the list of the numbers
 
-pub begun-init : (files : Files) (trees : List ClassTree) → trees ≡ take (class_lines files.lines) files.classes → IsBegun (all_classes files) files.classes [] (length trees - 0) (in_order (all_classes files) false)
+pub begun-init : (files : Files) (trees : List ClassTree) → trees ≡ take (class_count files.lines) files.classes → IsBegun (all_classes files) files.classes [] (length trees - 0) (in_order (all_classes files) false)
 begun-init files trees is =
     let z : length trees ≡ length trees - 0 = omega arith in
     ap (map Some) (order-lined files ∙ ap (λ q. lined_up (all_classes files) false (length q) []) (sym is) ∙ ap (λ n. lined_up (all_classes files) false n []) z)
@@ -294,18 +304,18 @@ begun-full w trees p n k all le b =
     b ∙ ap (λ m. map (declared_at trees) p ++ map Some (lined_up w false m p)) z ∙ append-nil (map (declared_at trees) p)
 
 -- what stands next is no interface
-pub next-class : (w : List Class) (p : List ℕ) (trees : List ClassTree) (n : ℕ) (t : ClassTree) → slice_get trees n ≡ Some t → next w false p w ≡ Some (declared n t) → IsClass trees n
-next-class w p trees n t e f = (t, e, by (is_interface t.flags) (is_in p n) (next-waits w false p w (declared n t) f))
+pub next-class : (files : Files) (w : List Class) (p : List ℕ) (n : ℕ) (t : ClassTree) → n < class_count files.lines → slice_get files.classes n ≡ Some t → next w false p w ≡ Some (declared n t) → IsClass files n
+next-class files w p n t listed e f = (listed, t, e, by (is_interface t.flags) (is_in p n) (next-waits w false p w (declared n t) f))
   where
     by : (a b : Bool) → (not a && not b) ≡ true → a ≡ false
     by true b e = cc
     by false b e = refl
 
 -- one number more
-pub class-more : (trees : List ClassTree) (p new : List ℕ) (n : ℕ) → new ≡ p ++ n ∷ [] → All (IsClass trees) p → IsClass trees n → All (IsClass trees) new
-class-more trees p new n is all one = subst (λ q. All (IsClass trees) q) (sym is) (All-append (IsClass trees) p (n ∷ []) all alone)
+pub class-more : (files : Files) (p new : List ℕ) (n : ℕ) → new ≡ p ++ n ∷ [] → All (IsClass files) p → IsClass files n → All (IsClass files) new
+class-more files p new n is all one = subst (λ q. All (IsClass files) q) (sym is) (All-append (IsClass files) p (n ∷ []) all alone)
   where
-    alone : All (IsClass trees) (n ∷ [])
+    alone : All (IsClass files) (n ∷ [])
     alone zero d lt = one
     alone (suc k) d lt = absurd (omega arith)
 

@@ -11,7 +11,8 @@ use Rattle.cjc_tokens.specs.Lines.{Imported, Declared, line_in}
 use Rattle.cjc_vtable.specs.Calls.{imported_methods}
 use Rattle.cjc_world.proofs.Settled.{bytes-refl}
 use Rattle.cjc_world.proofs.Cycles.{class_named-name}
-use Rattle.cjc_vtable.proofs.Asked.{Among, at_head, further, among-split, among-one, known-append}
+use Rattle.cjc_vtable.proofs.Asked.{Among, at_head, further, among-split, among-one}
+use Rattle.cjc_world.proofs.Rising.{known-append}
 use Rattle.cjc_vtable.proofs.Given.{In-split}
 
 among-cons : (d c : Class) (cs : List Class) → Among d (c ∷ cs) → (d ≡ c) ⊎ Among d cs

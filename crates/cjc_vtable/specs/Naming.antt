@@ -1,7 +1,6 @@
 -- The name and the descriptor that a method has which a look-up or a token means.
-use Rattle.std.specs.Prelude.{ℕ, ◌-◌, List, [], ◌++◌, length, count_by, nat_lt, Option, Some, None, option_map, option_and_then, slice_get, if◌then◌else◌}
+use Rattle.std.specs.Prelude.{ℕ, ◌-◌, List, [], ◌++◌, length, nat_lt, Option, Some, None, option_map, option_and_then, slice_get, if◌then◌else◌}
 use Rattle.cjc_bytes.specs.declared.fault.MemberId.{MemberId}
-use Rattle.cjc_bytes.specs.declared.settings.FileLine.{FileLine}
 use Rattle.cjc_world.specs.declared.found.Found.{Found}
 use Rattle.cjc_world.specs.Files.{Files}
 use Rattle.cjc_world.specs.Classes.{Class, class_at}
@@ -25,11 +24,6 @@ named w f = option_and_then (member_named w f.member) (class_at w f.imported f.c
 abbrev pub named_where : List Class → Option Found → Option Signature
 named_where w None = None
 named_where w (Some f) = named w f
-
--- ---- how many class files the list names; lower numbers alone are of a class of the package
-
-abbrev pub class_count : List FileLine → ℕ
-class_count lines = count_by (λ (line : FileLine). line.class_file) lines
 
 -- ---- what the code holds of added methods
 

@@ -1,8 +1,9 @@
 -- What the code holds of the order of the classes of a package.
-use Rattle.std.specs.Prelude.{◌≡◌, ℕ, zero, suc, ◌+◌, List, [], ◌∷◌, ◌++◌, map, slice_get, Bool, false, not, ◌&&◌, if◌then◌else◌, Option, None, Some, option_map}
+use Rattle.std.specs.Prelude.{◌≡◌, ◌<◌, ℕ, ◌+◌, count_by, List, [], ◌∷◌, ◌++◌, map, slice_get, Bool, false, not, ◌&&◌, if◌then◌else◌, Option, None, Some, option_map}
 use Rattle.std.specs.List.{list_any}
 use Rattle.cjc_bytes.specs.declared.settings.FileLine.{FileLine}
 use Rattle.cjc_classfile.specs.declared.tree.ClassTree.{ClassTree}
+use Rattle.cjc_world.specs.Files.{Files}
 use Rattle.cjc_world.specs.Classes.{Class, declared, class_named, is_interface}
 use Rattle.cjc_world.specs.Order.{is_in, next, lined_up}
 
@@ -11,10 +12,9 @@ abbrev pub numbered_from : ℕ → List ClassTree → List Class
 numbered_from n [] = []
 numbered_from n (c ∷ cs) = declared n c ∷ numbered_from (n + 1) cs
 
--- how many lines name class files
-abbrev pub class_lines : List FileLine → ℕ
-class_lines [] = zero
-class_lines (line ∷ lines) = if line.class_file then suc (class_lines lines) else class_lines lines
+-- How many lines name class files. Lower numbers alone are of a class of the package.
+abbrev pub class_count : List FileLine → ℕ
+class_count lines = count_by (λ (line : FileLine). line.class_file) lines
 
 -- the class of the package of this number
 abbrev pub declared_at : List ClassTree → ℕ → Option Class
@@ -55,9 +55,13 @@ stands_marked marks c listed =
 abbrev pub IsMarked : (placed : List ℕ) → (marks : List Bool) → Type 0
 IsMarked placed marks = (n : ℕ) → has_mark marks n ≡ is_in placed n
 
--- the class of this number is no interface
-abbrev pub IsClass : List ClassTree → ℕ → Type 0
-IsClass trees n = (t : ClassTree) × (slice_get trees n ≡ Some t) × (is_interface t.flags ≡ false)
+-- a class of this number that the list names
+abbrev pub IsOwn : Files → ℕ → Class → Type 0
+IsOwn files n c = (n < class_count files.lines) × (t : ClassTree) × (slice_get files.classes n ≡ Some t) × (c ≡ declared n t)
+
+-- such a class that is no interface
+abbrev pub IsClass : Files → ℕ → Type 0
+IsClass files n = (n < class_count files.lines) × (t : ClassTree) × (slice_get files.classes n ≡ Some t) × (is_interface t.flags ≡ false)
 
 -- The classes of these numbers stand first, and those that follow are lined up by so many steps.
 abbrev pub IsBegun : List Class → List ClassTree → List ℕ → (steps : ℕ) → List Class → Type 0

@@ -3,7 +3,6 @@
 ghost use Rattle.std.specs.Prelude.{◌≡◌, Bool, IfOk, Some, slice_get};
 ghost use Rattle.cjc_classfile.specs.declared.tree.ClassTree.{ClassTree as Tree};
 ghost use Rattle.cjc_world.specs.Classes.{all_classes, declared};
-ghost use Rattle.cjc_world.specs.Kin.{IsAcyclic};
 ghost use Rattle.cjc_tokens.specs.Tokens.{assigned};
 ghost use Rattle.cjc_vtable.specs.Standing.{IsClass};
 ghost use Rattle.cjc_vtable.specs.Tables.{class_tables, table_of};
@@ -24,9 +23,8 @@ fn class_table(
     tokens: &Tokens,
     number: u32,
 ) -> Result<ClassTable, NoMemory>
-    requires acyclic { IsAcyclic (all_classes world.now) }
     requires tokens { (applets : Bool) × (tokens.now ≡ assigned applets world.now) }
-    requires class { IsClass world.now.classes number }
+    requires class { IsClass world.now number }
     ensures { (c : Tree) → slice_get world.now.classes number ≡ Some c → IfOk result (λ t. t ≡ table_of (all_classes world.now) (declared number c)) }
 {
     let class = Known::Declared(number, &world.classes().items()[number as usize]);
@@ -48,7 +46,6 @@ fn class_table(
 /// tokens mean from the least on that it declares, overrides or got, and its interfaces with the tokens of their
 /// methods.
 pub fn tables(alloc: Global, world: &World<'_>, tokens: &Tokens) -> Result<ClassTables, NoMemory>
-    requires acyclic { IsAcyclic (all_classes world.now) }
     requires tokens { (applets : Bool) × (tokens.now ≡ assigned applets world.now) }
     ensures { IfOk result (λ t. t.rows ≡ class_tables (all_classes world.now)) }
 {

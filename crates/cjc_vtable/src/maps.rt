@@ -1,10 +1,8 @@
 //! The interface maps of a class (Java Card Virtual Machine Specification 2.2.2, section 6.8).
 
 ghost use Rattle.std.specs.Prelude.{◌≡◌, ◌++◌, Bool, false, map, option_map, option_to_list, slice_get, IfOk, OnOk, Some};
-ghost use Rattle.cjc_classfile.specs.declared.tree.ClassTree.{ClassTree as Tree};
-ghost use Rattle.cjc_world.specs.Classes.{all_classes, declared, is_interface};
+ghost use Rattle.cjc_world.specs.Classes.{all_classes, is_interface};
 ghost use Rattle.cjc_world.specs.Interfaces.{known};
-ghost use Rattle.cjc_world.specs.Kin.{IsAcyclic};
 ghost use Rattle.cjc_world.specs.Known.{class_of};
 ghost use Rattle.cjc_world.specs.Places.{at_places};
 ghost use Rattle.cjc_tokens.specs.Lines.{line_at};
@@ -13,9 +11,10 @@ ghost use Rattle.cjc_tokens.specs.Slots.{slots};
 ghost use Rattle.cjc_tokens.specs.Tokens.{assigned};
 ghost use Rattle.cjc_tokens.specs.Working.{signature_in, signs};
 ghost use Rattle.cjc_vtable.specs.Naming.{index_of};
+ghost use Rattle.cjc_vtable.specs.Standing.{IsOwn};
 ghost use Rattle.cjc_vtable.specs.Tables.{interface_map};
 
-use crate::naming::{class_count, named_row, own_class};
+use crate::naming::{class_count, named_row};
 use crate::table::InterfaceMap;
 use cjc_bytes::{Bytes, NoMemory, Row};
 use cjc_tokens::{Slot, Tokens, interface_methods, token};
@@ -68,7 +67,6 @@ fn interface_map<'w>(
     row: &[Option<Slot<'_>>],
     interface: Known<'w, '_>,
 ) -> Result<InterfaceMap, NoMemory>
-    requires { IsAcyclic (all_classes world.now) }
     ensures { IfOk result (λ m. m ≡ interface_map (all_classes world.now) (signs row.now) (class_of interface.entry)) }
 {
     let methods = interface_methods(alloc, world, interface)?;
@@ -85,7 +83,6 @@ fn put_map(
     place: u32,
     maps: &mut Row<InterfaceMap>,
 ) -> Result<(), NoMemory>
-    requires { IsAcyclic (all_classes world.now) }
     ensures { OnOk result (maps.new ≡ maps.old ++ map (interface_map (all_classes world.now) (signs row.now)) (option_to_list (slice_get (all_classes world.now) place))) }
 {
     match world.class_in(place) {
@@ -104,7 +101,6 @@ fn maps_at(
     row: &[Option<Slot<'_>>],
     places: &[u32],
 ) -> Result<Row<InterfaceMap>, NoMemory>
-    requires { IsAcyclic (all_classes world.now) }
     ensures { IfOk result (λ maps. maps ≡ map (interface_map (all_classes world.now) (signs row.now)) (at_places (all_classes world.now) places.now)) }
 {
     let mut maps = Row::new(alloc);
@@ -122,18 +118,19 @@ fn slots_of<'w>(
     class: Known<'_, '_>,
     number: u32,
 ) -> Result<Vec<Option<Slot<'w>>>, NoMemory>
-    requires acyclic { IsAcyclic (all_classes world.now) }
-    requires class { (tree : Tree) → slice_get world.now.classes number ≡ Some tree → class_of class ≡ declared number tree }
+    requires class { IsOwn world.now number (class_of class) }
     requires plain { is_interface (class_of class).flags ≡ false }
     requires tokens { (applets : Bool) × (tokens.now ≡ assigned applets world.now) }
     ensures { IfOk result (λ row. signs row.items ≡ slots (line_at (all_classes world.now) (class_of class.entry))) }
 {
     lookup_laws();
-    let count = class_count(world);
-    match own_class(world, count, number) {
-        None => Err(NoMemory),
-        Some(_) => named_row(alloc, world, count, tokens.public_methods(number)),
-    }
+    world.acyclic();
+    named_row(
+        alloc,
+        world,
+        class_count(world),
+        tokens.public_methods(number),
+    )
 }
 
 /// The interface maps of a class of the package that is no interface, in the order of its interfaces.
@@ -144,8 +141,7 @@ pub(crate) fn interface_maps<'a>(
     class: Known<'_, 'a>,
     number: u32,
 ) -> Result<Row<InterfaceMap>, NoMemory>
-    requires acyclic { IsAcyclic (all_classes world.now) }
-    requires class { (tree : Tree) → slice_get world.now.classes number ≡ Some tree → class_of class ≡ declared number tree }
+    requires class { IsOwn world.now number (class_of class) }
     requires plain { is_interface (class_of class).flags ≡ false }
     requires tokens { (applets : Bool) × (tokens.now ≡ assigned applets world.now) }
     ensures { IfOk result (λ maps. maps ≡ map (interface_map (all_classes world.now) (slots (line_at (all_classes world.now) (class_of class.entry)))) (known (interfaces_at (all_classes world.now) (class_of class.entry)))) }

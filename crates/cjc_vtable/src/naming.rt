@@ -5,7 +5,8 @@ ghost use Rattle.cjc_world.specs.Classes.{all_classes, class_at};
 ghost use Rattle.cjc_world.specs.Known.{class_of};
 ghost use Rattle.cjc_tokens.specs.Members.{signature_of};
 ghost use Rattle.cjc_tokens.specs.Working.{signature_in, signs};
-ghost use Rattle.cjc_vtable.specs.Naming.{class_count, ids_at, method_named, named, named_where, signature_by};
+ghost use Rattle.cjc_vtable.specs.Naming.{ids_at, method_named, named, named_where, signature_by};
+ghost use Rattle.cjc_vtable.specs.Standing.{class_count};
 
 use cjc_bytes::{MemberId, NoMemory};
 use cjc_tokens::Slot;
@@ -26,11 +27,7 @@ pub(crate) fn class_count(world: &World<'_>) -> usize
 
 /// The class of the package of a number, where the list names so many class files.
 #[tactic(auto, using(crate::proofs::Numbers::own_unlisted))]
-pub(crate) fn own_class<'w, 'a>(
-    world: &'w World<'a>,
-    count: usize,
-    number: u32,
-) -> Option<Known<'w, 'a>>
+fn own_class<'w, 'a>(world: &'w World<'a>, count: usize, number: u32) -> Option<Known<'w, 'a>>
     requires { count ≡ class_count world.now.lines }
     ensures { option_map class_of result ≡ class_at (all_classes world.now) false number }
 {

@@ -5,9 +5,10 @@ ghost use Rattle.std.specs.List.{list_any};
 ghost use Rattle.cjc_world.specs.Classes.{Class, all_classes, class_named};
 ghost use Rattle.cjc_world.specs.Known.{class_of};
 ghost use Rattle.cjc_world.specs.Order.{in_order, next};
-ghost use Rattle.cjc_vtable.specs.Standing.{class_lines, declared_at, has_mark, IsClass, IsMarked, IsNext, listed_numbers, numbered_from, own_number, own_numbers, stands_marked};
+ghost use Rattle.cjc_vtable.specs.Standing.{class_count, declared_at, has_mark, IsClass, IsMarked, IsNext, listed_numbers, numbered_from, own_number, own_numbers, stands_marked};
 
-use cjc_bytes::{Bytes, FileLine, NoMemory, Row};
+use crate::naming::class_count;
+use cjc_bytes::{Bytes, NoMemory, Row};
 use cjc_classfile::ClassTree;
 use cjc_world::{Known, World};
 use std::alloc::Global;
@@ -86,25 +87,13 @@ fn may_stand(marks: &[bool], class: Known<'_, '_>, listed: &[u32]) -> bool
         && !any_waits(marks, listed)
 }
 
-fn class_lines(lines: &[FileLine]) -> usize
-    ensures { result ≡ class_lines lines.now }
-{
-    let mut count = 0;
-    for line in lines {
-        if line.class_file {
-            count += 1;
-        }
-    }
-    count
-}
-
 /// The class files that have a line.
 #[tactic(auto, using(std::proofs::lemmas::List::take_min))]
 fn listed_classes<'w, 'a>(world: &'w World<'a>) -> &'w [ClassTree<'a>]
-    ensures { result.now ≡ take (class_lines world.now.lines) world.now.classes }
+    ensures { result.now ≡ take (class_count world.now.lines) world.now.classes }
 {
     let classes = world.classes().items();
-    let count = class_lines(world.lines().items()).min(classes.len());
+    let count = class_count(world).min(classes.len());
     &classes[..count]
 }
 
@@ -129,7 +118,7 @@ fn next_class(classes: &[ClassTree<'_>], listed: &[Row<u32>], marks: &[bool]) ->
 /// The numbers of the classes in their order.
 pub(crate) fn class_order(alloc: Global, world: &World<'_>) -> Result<Vec<u32>, NoMemory>
     ensures order { IfOk result (λ order. map Some (in_order (all_classes world.now) false) ≡ map (declared_at world.now.classes) order.items) }
-    ensures classes { IfOk result (λ order. All (IsClass world.now.classes) order.items) }
+    ensures classes { IfOk result (λ order. All (IsClass world.now) order.items) }
 {
     let classes = listed_classes(world);
     if classes.len() > 0xFFFF_FFFF {

@@ -11,7 +11,7 @@ pub class_table-requires-clause-class : goal.class_table-requires-clause-class
 class_table-requires-clause-class c =
     let i = c.loop-number.number-index in
     let is = c.deref-number-items.ensures.value in
-    subst (λ (q : List ℕ). IsClass c.args.world.now.classes (get_or q i 0)) (sym is) (c.in_ok-order.ensures.classes i 0 (subst (λ (q : List ℕ). i < length q) is c.loop-number-test.true))
+    subst (λ (q : List ℕ). IsClass c.args.world.now (get_or q i 0)) (sym is) (c.in_ok-order.ensures.classes i 0 (subst (λ (q : List ℕ). i < length q) is c.loop-number-test.true))
 
 pub loop-number-preserved : goal.loop-number-preserved
 loop-number-preserved c =
@@ -20,9 +20,9 @@ loop-number-preserved c =
     let ns = c.deref-number-items.result.now in
     let i = c.loop-number.number-index in
     let is = c.deref-number-items.ensures.value in
-    let k = subst (λ (q : List ℕ). IsClass trees (get_or q i 0)) (sym is) (c.in_ok-order.ensures.classes i 0 (subst (λ (q : List ℕ). i < length q) is c.loop-number-test.true)) in
+    let k = subst (λ (q : List ℕ). IsClass c.args.world.now (get_or q i 0)) (sym is) (c.in_ok-order.ensures.classes i 0 (subst (λ (q : List ℕ). i < length q) is c.loop-number-test.true)) in
     rows-next (λ n. option_map (table_of w) (declared_at trees n)) ns i 0 c.loop-number.rows c.push.new.self c.in_ok-class_table.field-0 c.loop-number-test.true
-    (ap (λ o. option_map (table_of w) (option_map (declared (get_or ns i 0)) o)) k.1 ∙ ap (λ t. Some t) (sym (c.in_ok-class_table.ensures k.0 k.1)))
+    (ap (λ o. option_map (table_of w) (option_map (declared (get_or ns i 0)) o)) k.2 ∙ ap (λ t. Some t) (sym (c.in_ok-class_table.ensures k.1 k.2)))
     c.in_ok-push.ensures.ok
     c.loop-number.invariant
 

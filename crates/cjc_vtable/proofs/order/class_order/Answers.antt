@@ -6,8 +6,8 @@ use Rattle.std.proofs.lemmas.Option.{slice_get_within}
 use Rattle.cjc_classfile.specs.declared.tree.ClassTree.{ClassTree}
 use Rattle.cjc_world.specs.Classes.{all_classes}
 use Rattle.cjc_world.specs.Order.{in_order, next}
-use Rattle.cjc_vtable.specs.Standing.{IsBegun, IsClass, IsMarked, class_lines, numbered_from}
-use Rattle.cjc_vtable.proofs.Standing.{begun-init, begun-end, begun-on, begun-full, class-more, next-class, next-numbered, taken, marked-more, no-marks}
+use Rattle.cjc_vtable.specs.Standing.{IsBegun, IsClass, IsMarked, class_count, numbered_from}
+use Rattle.cjc_vtable.proofs.Standing.{begun-init, begun-end, begun-on, begun-full, class-more, next-class, next-numbered, taken, taken-below, marked-more, no-marks}
 use Rattle.cjc_vtable.proofs.order.class_order.Goals as goal
 
 pub loop-init : goal.loop-init
@@ -18,7 +18,7 @@ loop-init c =
     record {
       begun = subst (λ (q : List ℕ). IsBegun (all_classes c.args.world.now) c.args.world.now.classes q (length c.listed_classes-classes.result.now - 0) (in_order (all_classes c.args.world.now) false)) (sym empty)
           (begun-init c.args.world.now c.listed_classes-classes.result.now c.listed_classes-classes.ensures);
-      classes = subst (λ (q : List ℕ). All (IsClass c.args.world.now.classes) q) (sym empty) (λ k d lt. absurd (omega arith));
+      classes = subst (λ (q : List ℕ). All (IsClass c.args.world.now) q) (sym empty) (λ k d lt. absurd (omega arith));
       marked = subst (λ (ms : List Bool). IsMarked c.new-order.result.items ms) (sym blank) (subst (λ (q : List ℕ). IsMarked q (replicate n false)) (sym empty) (no-marks n));
       long = ap length blank ∙ length-replicate n false;
     }
@@ -53,13 +53,15 @@ loop-preserved c =
     let marked = subst (λ (ms : List Bool). IsMarked p ms) (sym c.deref.ensures.value) c.loop.invariant.marked in
     let some = c.in-Some.ensures w p (c.items.ensures ∙ c.in_ok-listed.ensures) marked in
     let t = some.0 in
-    let there = taken (class_lines c.args.world.now.lines) trees m t (ap (λ (q : List ClassTree). slice_get q m) (sym c.listed_classes-classes.ensures) ∙ some.1) in
+    let listed = ap (λ (q : List ClassTree). slice_get q m) (sym c.listed_classes-classes.ensures) ∙ some.1 in
+    let below = taken-below (class_count c.args.world.now.lines) trees m t listed in
+    let there = taken (class_count c.args.world.now.lines) trees m t listed in
     let is = next-numbered c.args.world.now p ∙ ap (λ (q : List ClassTree). next w false p (numbered_from 0 q)) (sym c.listed_classes-classes.ensures) ∙ some.2 in
     let within = subst (λ n. m < n) (sym c.loop.invariant.long) (slice_get_within classes m t some.1) in
     record {
       begun = subst (λ (q : List ℕ). IsBegun w trees q (length classes - (c.loop.counter + 1)) (in_order w false)) (sym more)
           (begun-on w trees p (length classes) c.loop.counter (in_order w false) m t c.loop-test.true there is c.loop.invariant.begun);
-      classes = class-more trees p c.push.new.self.items m more c.loop.invariant.classes (next-class w p trees m t there is);
+      classes = class-more c.args.world.now p c.push.new.self.items m more c.loop.invariant.classes (next-class c.args.world.now w p m t below there is);
       marked = marked-more p c.push.new.self.items c.loop.marks.items m within more c.loop.invariant.marked;
       long = length-set c.loop.marks.items m true ∙ c.loop.invariant.long;
     }
