@@ -1,10 +1,12 @@
 //! One package, altered in one place at a time: what is refused, and where.
 
-use crate::drafts::{EQUALS, Listed, Member, OBJECT, THROWABLE, copies, imported, language};
-use cjc_bytes::{AppletLine, Bytes, Fault, FileLine, MemberId, NoMemory, Row, Settings};
+use crate::drafts::{
+    Draft, Drawn, EQUALS, Imported, Member, OBJECT, THROWABLE, class, export, field, language,
+    method, put_fields, put_methods,
+};
+use cjc_bytes::{AppletLine, Bytes, Fault, MemberId, NoMemory, Row, Settings};
 use cjc_classfile::{Catch, ClassTree, Code, FieldTree, MethodTree};
 use cjc_code::{Codes, JInsn, JOp, MethodCode};
-use cjc_export::{ExportClass, ExportTree};
 use cjc_subset::{check, names};
 use cjc_world::World;
 use std::alloc::Global;
@@ -63,52 +65,51 @@ const MANY: [&[u8]; 16] = [
     b"q/Ik", b"q/Il", b"q/Im", b"q/In", b"q/Io", b"q/Ip",
 ];
 
-fn framework(alloc: Global) -> Result<Row<ExportClass>, NoMemory> {
-    let mut row = Row::new(alloc);
-    let applet: &[u8] = b"javacard/framework/Applet";
-    row.push(imported(alloc, 0x0401, applet, &[OBJECT], &[], &[], &[])?)?;
-    Ok(row)
-}
+const FRAMEWORK: &[Imported<'static>] = &[(
+    0x0401,
+    b"javacard/framework/Applet",
+    &[OBJECT],
+    &[],
+    &[],
+    &[],
+)];
 
-fn other(alloc: Global) -> Result<Row<ExportClass>, NoMemory> {
-    let mut row = Row::new(alloc);
-    row.push(imported(
-        alloc,
+const OTHER: &[Imported<'static>] = &[
+    (
         1,
         b"q/A",
         &[OBJECT],
         &[],
         &[(0x19, b"c", b"S"), (9, b"d", b"S"), (1, b"e", b"S")],
         &[(0, 4, b"p", b"()V"), (1, 0, b"o", b"()V")],
-    )?)?;
-    let interface: &[Listed<'_>] = &[(0, 0x0401, b"i", b"()V")];
-    row.push(imported(alloc, 0x0601, b"q/I", &[OBJECT], &[], &[], interface)?)?;
-    row.push(imported(alloc, 0x0401, b"q/K", &[OBJECT], &[b"q/I"], &[], &[])?)?;
-    row.push(imported(alloc, 1, b"q/Many", &[OBJECT], &MANY, &[], &[])?)?;
-    let chars: &[Listed<'_>] = &[(0, 0x0401, b"l", b"(C)V")];
-    row.push(imported(alloc, 0x0601, b"q/Chars", &[OBJECT], &[], &[], chars)?)?;
-    let ints: &[Listed<'_>] = &[(0, 0x0401, b"l", b"(I)V")];
-    row.push(imported(alloc, 0x0601, b"q/Ints", &[OBJECT], &[], &[], ints)?)?;
-    Ok(row)
-}
-
-fn line(alloc: Global, class_file: bool, name: &[u8]) -> Result<FileLine, NoMemory> {
-    Ok(FileLine {
-        class_file,
-        name: Bytes::copy_of(alloc, name)?,
-    })
-}
-
-fn export(alloc: Global, name: &[u8], classes: Row<ExportClass>) -> Result<ExportTree, NoMemory> {
-    Ok(ExportTree {
-        name: Bytes::copy_of(alloc, name)?,
-        aid: Bytes::new(alloc),
-        major: 1,
-        minor: 0,
-        library: true,
-        classes,
-    })
-}
+    ),
+    (
+        0x0601,
+        b"q/I",
+        &[OBJECT],
+        &[],
+        &[],
+        &[(0, 0x0401, b"i", b"()V")],
+    ),
+    (0x0401, b"q/K", &[OBJECT], &[b"q/I"], &[], &[]),
+    (1, b"q/Many", &[OBJECT], &MANY, &[], &[]),
+    (
+        0x0601,
+        b"q/Chars",
+        &[OBJECT],
+        &[],
+        &[],
+        &[(0, 0x0401, b"l", b"(C)V")],
+    ),
+    (
+        0x0601,
+        b"q/Ints",
+        &[OBJECT],
+        &[],
+        &[],
+        &[(0, 0x0401, b"l", b"(I)V")],
+    ),
+];
 
 fn id(alloc: Global, named: Named<'_>) -> Result<MemberId, NoMemory> {
     let (class, name, desc) = named;
@@ -144,27 +145,6 @@ fn instruction(alloc: Global, op: Op<'_>) -> Result<JOp, NoMemory> {
         Op::Load(op) => Ok(JOp::ArrayLoad(op)),
         Op::Store(op) => Ok(JOp::ArrayStore(op)),
     }
-}
-
-fn field(alloc: Global, member: Member<'_>) -> Result<FieldTree, NoMemory> {
-    let (flags, name, desc) = member;
-    Ok(FieldTree {
-        flags,
-        name: Bytes::copy_of(alloc, name)?,
-        desc: Bytes::copy_of(alloc, desc)?,
-        constant: None,
-    })
-}
-
-fn method<'a>(alloc: Global, member: Member<'_>) -> Result<MethodTree<'a>, NoMemory> {
-    let (flags, name, desc) = member;
-    Ok(MethodTree {
-        flags,
-        name: Bytes::copy_of(alloc, name)?,
-        desc: Bytes::copy_of(alloc, desc)?,
-        code: None,
-        attributes: 0,
-    })
 }
 
 fn handler(class: Option<Bytes>) -> Catch {
@@ -211,103 +191,76 @@ fn numbered(alloc: Global, front: &[u8], number: u16) -> Result<Bytes, NoMemory>
     Ok(Bytes::of(name))
 }
 
-fn fields(
-    alloc: Global,
-    edit: Edit<'_>,
-    number: u32,
-    members: &[Member<'_>],
-) -> Result<Row<FieldTree>, NoMemory> {
-    let mut row = Row::new(alloc);
-    for member in members {
-        row.push(field(alloc, *member)?)?;
-    }
-    match edit {
-        Edit::Field(class, member) if class == number => row.push(field(alloc, member)?)?,
-        Edit::Fields(count) if number == 0 => {
-            for i in 0..count {
-                row.push(FieldTree {
-                    flags: 1,
-                    name: numbered(alloc, b"n", i)?,
-                    desc: Bytes::copy_of(alloc, b"S")?,
-                    constant: None,
-                })?;
-            }
-        }
-        _ => {}
-    }
-    Ok(row)
-}
-
-fn methods<'a>(
-    alloc: Global,
-    edit: Edit<'_>,
-    number: u32,
-    members: &[Member<'_>],
-) -> Result<Row<MethodTree<'a>>, NoMemory> {
-    let mut row = Row::new(alloc);
-    if number == 0 {
-        row.push(MethodTree {
-            flags: 9,
-            name: Bytes::copy_of(alloc, b"f")?,
-            desc: Bytes::copy_of(alloc, b"()V")?,
-            code: Some(code(alloc, edit)?),
-            attributes: 1,
+/// So many fields of type short.
+fn put_numbered(alloc: Global, count: u16, row: &mut Row<FieldTree>) -> Result<(), NoMemory> {
+    for i in 0..count {
+        row.push(FieldTree {
+            flags: 1,
+            name: numbered(alloc, b"n", i)?,
+            desc: Bytes::copy_of(alloc, b"S")?,
+            constant: None,
         })?;
     }
-    for member in members {
-        row.push(method(alloc, *member)?)?;
-    }
-    if let Edit::Method(class, member) = edit {
-        if class == number {
-            row.push(method(alloc, member)?)?;
-        }
-    }
-    Ok(row)
+    Ok(())
 }
 
-/// A class with its members.
-type Drawn<'t> = (
-    u16,
-    &'t [u8],
-    &'t [u8],
-    &'t [&'t [u8]],
-    &'t [Member<'t>],
-    &'t [Member<'t>],
-);
+/// p/T's method f.
+fn method_f<'a>(alloc: Global, edit: Edit<'_>) -> Result<MethodTree<'a>, NoMemory> {
+    Ok(MethodTree {
+        flags: 9,
+        name: Bytes::copy_of(alloc, b"f")?,
+        desc: Bytes::copy_of(alloc, b"()V")?,
+        code: Some(code(alloc, edit)?),
+        attributes: 1,
+    })
+}
+
+/// Alters a class, where this is its number.
+fn alter(
+    alloc: Global,
+    edit: Edit<'_>,
+    number: u32,
+    tree: &mut ClassTree<'_>,
+) -> Result<(), NoMemory> {
+    match edit {
+        Edit::Flags(class, flags) if class == number => tree.flags = flags,
+        Edit::Super(class, name) if class == number => {
+            tree.superclass = Bytes::copy_of(alloc, name)?;
+        }
+        Edit::Interface(class, name) if class == number => {
+            tree.interfaces.push(Bytes::copy_of(alloc, name)?)?;
+        }
+        Edit::Field(class, member) if class == number => {
+            tree.fields.push(field(alloc, member)?)?;
+        }
+        Edit::Method(class, member) if class == number => {
+            tree.methods.push(method(alloc, member)?)?;
+        }
+        Edit::Fields(count) if number == 0 => put_numbered(alloc, count, &mut tree.fields)?,
+        _ => {}
+    }
+    Ok(())
+}
 
 /// A class of the package, by its number, altered where that is this one.
-fn class<'a>(
+fn altered<'a>(
     alloc: Global,
     edit: Edit<'_>,
     number: u32,
     drawn: Drawn<'_>,
 ) -> Result<ClassTree<'a>, NoMemory> {
-    let (own_flags, name, own_super, own_interfaces, own_fields, own_methods) = drawn;
-    let mut flags = own_flags;
-    let mut superclass = own_super;
-    let mut interfaces = copies(alloc, own_interfaces)?;
-    match edit {
-        Edit::Flags(class, other) if class == number => flags = other,
-        Edit::Super(class, other) if class == number => superclass = other,
-        Edit::Interface(class, other) if class == number => {
-            interfaces.push(Bytes::copy_of(alloc, other)?)?;
-        }
-        _ => {}
+    let (_, _, _, _, fields, methods) = drawn;
+    let mut tree = class(alloc, drawn)?;
+    put_fields(alloc, &mut tree.fields, fields)?;
+    if number == 0 {
+        tree.methods.push(method_f(alloc, edit)?)?;
     }
-    Ok(ClassTree {
-        major: 52,
-        flags,
-        name: Bytes::copy_of(alloc, name)?,
-        superclass: Bytes::copy_of(alloc, superclass)?,
-        interfaces,
-        pool: Row::new(alloc),
-        fields: fields(alloc, edit, number, own_fields)?,
-        methods: methods(alloc, edit, number, own_methods)?,
-        attributes: 0,
-    })
+    put_methods(alloc, &mut tree.methods, methods)?;
+    alter(alloc, edit, number, &mut tree)?;
+    Ok(tree)
 }
 
-const DRAWN: [Drawn<'static>; 8] = [
+const DRAWN: &[Drawn<'static>] = &[
     (
         0x21,
         b"p/T",
@@ -344,38 +297,45 @@ const DRAWN: [Drawn<'static>; 8] = [
     ),
 ];
 
-/// The classes: p/T, p/A, p/B, p/C, p/I, p/D, p/E and p/App, at 0 to 7.
-fn classes<'a>(alloc: Global, edit: Edit<'_>) -> Result<Row<ClassTree<'a>>, NoMemory> {
-    let mut row = Row::new(alloc);
-    for (number, drawn) in DRAWN.iter().enumerate() {
-        row.push(class(alloc, edit, number as u32, *drawn)?)?;
+/// The file of a class of p: its name without `p/`.
+fn file_of(name: &[u8]) -> &[u8] {
+    match name {
+        [b'p', b'/', file @ ..] => file,
+        _ => name,
     }
-    if let Edit::Classes(count, flags) = edit {
-        for i in 0..count {
-            let name = numbered(alloc, b"p/Z", i)?;
-            let more: Drawn<'_> = (flags, name.items(), OBJECT, &[], &[], &[]);
-            row.push(class(alloc, Edit::Nothing, 8, more)?)?;
-        }
-    }
-    Ok(row)
 }
 
-/// The package, its class files named by their classes without `p/`.
-fn world<'a>(alloc: Global, edit: Edit<'_>) -> Result<World<'a>, Fault> {
-    let classes = classes(alloc, edit)?;
-    let mut lines = Row::new(alloc);
-    for class in classes.items() {
-        let (_, name) = class.name.items().split_at(2.min(class.name.items().len()));
-        lines.push(line(alloc, true, name)?)?;
+/// So many more classes with these flags.
+fn put_more(alloc: Global, draft: &mut Draft<'_>, count: u16, flags: u16) -> Result<(), NoMemory> {
+    for i in 0..count {
+        let name = numbered(alloc, b"p/Z", i)?;
+        let tree = class(alloc, (flags, name.items(), OBJECT, &[], &[], &[]))?;
+        draft.class_file(alloc, file_of(name.items()), tree)?;
     }
-    let mut exports = Row::new(alloc);
-    lines.push(line(alloc, false, b"lang")?)?;
-    exports.push(export(alloc, b"java/lang", language(alloc, THROWABLE, 0)?)?)?;
-    lines.push(line(alloc, false, b"fw")?)?;
-    exports.push(export(alloc, b"javacard/framework", framework(alloc)?)?)?;
-    lines.push(line(alloc, false, b"q")?)?;
-    exports.push(export(alloc, b"q", other(alloc)?)?)?;
-    World::new(alloc, b"list", b"p", lines, classes, exports)
+    Ok(())
+}
+
+/// The classes: p/T, p/A, p/B, p/C, p/I, p/D, p/E and p/App, at 0 to 7.
+fn put_classes(alloc: Global, draft: &mut Draft<'_>, edit: Edit<'_>) -> Result<(), NoMemory> {
+    for (number, drawn) in DRAWN.iter().enumerate() {
+        let tree = altered(alloc, edit, number as u32, *drawn)?;
+        draft.class_file(alloc, file_of(drawn.1), tree)?;
+    }
+    match edit {
+        Edit::Classes(count, flags) => put_more(alloc, draft, count, flags),
+        _ => Ok(()),
+    }
+}
+
+/// The package.
+fn world<'a>(alloc: Global, edit: Edit<'_>) -> Result<World<'a>, Fault> {
+    let mut draft = Draft::new(alloc);
+    put_classes(alloc, &mut draft, edit)?;
+    draft.export_file(alloc, b"lang", language(alloc, THROWABLE, 0)?)?;
+    let framework = export(alloc, b"javacard/framework", FRAMEWORK)?;
+    draft.export_file(alloc, b"fw", framework)?;
+    draft.export_file(alloc, b"q", export(alloc, b"q", OTHER)?)?;
+    draft.world(alloc)
 }
 
 /// The instructions of p/T's method f.
@@ -461,7 +421,7 @@ fn in_f<'t>(edit: Edit<'t>, rule: u16) -> Case<'t> {
     (edit, rule, b"T", b"p/T", b"f()V", 1)
 }
 
-const UNBROKEN: [Edit<'static>; 6] = [
+const UNBROKEN: &[Edit<'static>] = &[
     Edit::Nothing,
     Edit::Second(Op::Call(VIRTUAL, (b"p/B", b"v", b"()S"))),
     Edit::Second(Op::Get((b"q/A", b"c", b"S"))),
@@ -470,18 +430,21 @@ const UNBROKEN: [Edit<'static>; 6] = [
     Edit::Handlers(255),
 ];
 
-#[test]
-fn nothing_is_refused(rt: HostRuntime) -> Result<(), Fail> {
-    for edit in UNBROKEN {
-        assert!(rt; answered(rt.alloc(), edit, false).is_ok());
+fn are_unbroken(alloc: Global, edits: &[Edit<'_>]) -> bool {
+    for edit in edits {
+        if answered(alloc, *edit, false).is_err() {
+            return false;
+        }
     }
-    Ok(())
+    true
 }
 
-/// Catch types that are in no file, or arrays.
-const HANDLERS: [&[u8]; 2] = [b"p/No", b"[S"];
+#[test]
+fn nothing_is_refused(rt: HostRuntime) {
+    assert!(rt; are_unbroken(rt.alloc(), UNBROKEN));
+}
 
-const NAMES: [(Op<'static>, u16); 26] = [
+const NAMES: &[(Op<'static>, u16)] = &[
     (Op::New(b"p/No"), 203),
     (Op::Cast(b"[Lp/No;"), 203),
     (Op::Cast(b"[Q"), 203),
@@ -510,49 +473,63 @@ const NAMES: [(Op<'static>, u16); 26] = [
     (Op::Call(SPECIAL, (b"p/A", b"v", b"()S")), 206), // no superclass of p/T
 ];
 
-#[test]
-fn names_are_refused(rt: HostRuntime) -> Result<(), Fail> {
-    for (op, rule) in NAMES {
-        let case = in_f(Edit::Second(op), rule);
-        assert!(rt; is_refused(&answered(rt.alloc(), case.0, false), case));
+/// Whether each of these as the second instruction of f breaks its rule.
+fn are_refused_in_f(alloc: Global, ops: &[(Op<'_>, u16)]) -> bool {
+    for (op, rule) in ops {
+        let case = in_f(Edit::Second(*op), *rule);
+        if !is_refused(&answered(alloc, case.0, false), case) {
+            return false;
+        }
     }
-    for class in HANDLERS {
-        let case = in_f(Edit::Handler(class), 203);
-        assert!(rt; is_refused(&answered(rt.alloc(), case.0, false), case));
-    }
-    Ok(())
+    true
 }
 
-const INSTRUCTIONS: [(Op<'static>, u16); 9] = [
+fn is_no_catch_type(alloc: Global, class: &[u8]) -> bool {
+    let case = in_f(Edit::Handler(class), 203);
+    is_refused(&answered(alloc, case.0, false), case)
+}
+
+#[test]
+fn names_are_refused(rt: HostRuntime) {
+    assert!(rt; are_refused_in_f(rt.alloc(), NAMES));
+    assert!(rt; is_no_catch_type(rt.alloc(), b"p/No"));
+    assert!(rt; is_no_catch_type(rt.alloc(), b"[S"));
+}
+
+const INSTRUCTIONS: &[(Op<'static>, u16)] = &[
     (Op::NewArray(5), 301),
     (Op::ANewArray(b"[S"), 301),
     (Op::Cast(b"[[S"), 301),
-    (Op::Call(STATIC, (b"p/T", b"f", b"()V")), 0),
-    (Op::NewArray(10), 302),
-    (Op::Load(0x2E), 302),
-    (Op::Store(0x4F), 302),
     (Op::Get((b"q/A", b"d", b"S")), 310),
     (Op::GetField((b"q/A", b"e", b"S")), 310),
 ];
 
-#[test]
-fn instructions_are_refused(rt: HostRuntime) -> Result<(), Fail> {
-    for (op, rule) in INSTRUCTIONS {
-        let case = in_f(Edit::Second(op), rule);
-        let answer = answered(rt.alloc(), case.0, false);
-        assert!(rt;
-            if rule == 0 {
-                answer.is_ok()
-            } else {
-                is_refused(&answer, case)
-            }
-        );
-        assert!(rt; rule != 302 || answered(rt.alloc(), case.0, true).is_ok());
+const WITH_INT: &[(Op<'static>, u16)] = &[
+    (Op::NewArray(10), 302),
+    (Op::Load(0x2E), 302),
+    (Op::Store(0x4F), 302),
+];
+
+/// Whether none of these is refused where the list allows int.
+fn are_allowed(alloc: Global, ops: &[(Op<'_>, u16)]) -> bool {
+    for (op, _) in ops {
+        if answered(alloc, Edit::Second(*op), true).is_err() {
+            return false;
+        }
     }
-    Ok(())
+    true
 }
 
-const PACKAGES: [Case<'static>; 31] = [
+#[test]
+fn instructions_are_refused(rt: HostRuntime) {
+    let own = Edit::Second(Op::Call(STATIC, (b"p/T", b"f", b"()V")));
+    assert!(rt; answered(rt.alloc(), own, false).is_ok());
+    assert!(rt; are_refused_in_f(rt.alloc(), INSTRUCTIONS));
+    assert!(rt; are_refused_in_f(rt.alloc(), WITH_INT));
+    assert!(rt; are_allowed(rt.alloc(), WITH_INT));
+}
+
+const PACKAGES: &[Case<'static>] = &[
     (Edit::Interface(3, b"q/Chars"), 301, b"C", b"p/C", b"", 0), // by a method that p/C gets
     (Edit::Interface(3, b"q/Ints"), 302, b"C", b"p/C", b"", 0),
     (
@@ -712,25 +689,26 @@ const PACKAGES: [Case<'static>; 31] = [
     (Edit::Interface(1, b"p/I"), 307, b"A", b"p/A", b"", 0), // before p/B
 ];
 
-#[test]
-fn packages_are_refused(rt: HostRuntime) -> Result<(), Fail> {
-    for case in PACKAGES {
-        let answer = answered(rt.alloc(), case.0, false);
-        assert!(rt; is_refused(&answer, case), "rule {}", case.1);
+fn are_refused(alloc: Global, cases: &[Case<'_>]) -> bool {
+    for case in cases {
+        if !is_refused(&answered(alloc, case.0, false), *case) {
+            return false;
+        }
     }
-    Ok(())
+    true
 }
 
-const MANY_CLASSES: [Case<'static>; 2] = [
+#[test]
+fn packages_are_refused(rt: HostRuntime) {
+    assert!(rt; are_refused(rt.alloc(), PACKAGES));
+}
+
+const MANY_CLASSES: &[Case<'static>] = &[
     (Edit::Classes(249, 0x21), 401, b"list", b"", b"", 0),
     (Edit::Classes(248, 0x20), 402, b"list", b"", b"", 0),
 ];
 
 #[test]
-fn many_classes_are_refused(rt: HostRuntime) -> Result<(), Fail> {
-    for case in MANY_CLASSES {
-        let answer = answered(rt.alloc(), case.0, false);
-        assert!(rt; is_refused(&answer, case), "rule {}", case.1);
-    }
-    Ok(())
+fn many_classes_are_refused(rt: HostRuntime) {
+    assert!(rt; are_refused(rt.alloc(), MANY_CLASSES));
 }

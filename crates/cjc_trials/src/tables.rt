@@ -1,12 +1,10 @@
 //! The class tables and interface maps of small packages.
 
-ghost use Rattle.cjc_world.specs.Classes.{all_classes};
-ghost use Rattle.cjc_world.specs.Kin.{IsAcyclic};
-
-use crate::tokens::{asking, common, declared, hiding, overriding, settings, tokens_of};
+use crate::drafts::{Part, world_of};
+use crate::tokens::{ASKING, COMMON, HIDING, OVERRIDING, declared, settings, tokens_of};
 use cjc_bytes::Fault;
 use cjc_vtable::{ClassTable, ClassTables, InterfaceMap, tables};
-use cjc_world::{Found, World};
+use cjc_world::Found;
 use std::alloc::Global;
 use std::test::*;
 
@@ -23,12 +21,11 @@ type Wanted<'t> = (
     &'t [Map<'t>],
 );
 
-fn tables_of(alloc: Global, world: &World<'_>) -> Result<ClassTables, Fault>
-    requires { IsAcyclic (all_classes world.now) }
-{
+fn tables_of(alloc: Global, parts: &[Part<'_>]) -> Result<ClassTables, Fault> {
+    let world = world_of(alloc, parts)?;
     let settings = settings(alloc, &[])?;
-    let tokens = tokens_of(alloc, world, &settings)?;
-    Ok(tables(alloc, world, &tokens)?)
+    let tokens = tokens_of(alloc, &world, &settings)?;
+    Ok(tables(alloc, &world, &tokens)?)
 }
 
 fn are_maps(maps: &[InterfaceMap], wanted: &[Map<'_>]) -> bool {
@@ -56,33 +53,34 @@ fn is_table(table: &ClassTable, wanted: Wanted<'_>) -> bool {
         && are_maps(table.maps.items(), maps)
 }
 
-fn are_tables(tables: &ClassTables, wanted: &[Wanted<'_>]) -> bool {
-    let rows = tables.rows.items();
-    rows.len() == wanted.len()
-        && rows
-            .iter()
-            .zip(wanted)
-            .all(|(table, wanted)| is_table(table, *wanted))
+/// Whether a package has tables, and they are these.
+fn are_tables(tables: Result<ClassTables, Fault>, wanted: &[Wanted<'_>]) -> bool {
+    match tables {
+        Err(_) => false,
+        Ok(tables) => {
+            let rows = tables.rows.items();
+            rows.len() == wanted.len()
+                && rows
+                    .iter()
+                    .zip(wanted)
+                    .all(|(table, wanted)| is_table(table, *wanted))
+        }
+    }
 }
 
 #[test]
-fn methods_of_export_files_have_no_entry(rt: HostRuntime) -> Result<(), Fail> {
-    let world = overriding(rt.alloc()).ok().ok_or("a world")?;
-    let tables = tables_of(rt.alloc(), &world).ok().ok_or("tables")?;
+fn methods_of_export_files_have_no_entry(rt: HostRuntime) {
     let none: &[Map<'_>] = &[];
     let wanted: [Wanted<'_>; 3] = [
         (0, 1, &[declared(0, 1), None], 0, &[], none),
         (1, 2, &[declared(1, 1), declared(1, 0)], 0, &[], none),
         (2, 3, &[], 0, &[], none), // the next free token
     ];
-    assert!(rt; are_tables(&tables, &wanted));
-    Ok(())
+    assert!(rt; are_tables(tables_of(rt.alloc(), OVERRIDING), &wanted));
 }
 
 #[test]
-fn package_visible_methods_have_a_table(rt: HostRuntime) -> Result<(), Fail> {
-    let world = hiding(rt.alloc()).ok().ok_or("a world")?;
-    let tables = tables_of(rt.alloc(), &world).ok().ok_or("tables")?;
+fn package_visible_methods_have_a_table(rt: HostRuntime) {
     let none: &[Map<'_>] = &[];
     let wanted: [Wanted<'_>; 3] = [
         (
@@ -103,27 +101,21 @@ fn package_visible_methods_have_a_table(rt: HostRuntime) -> Result<(), Fail> {
         ),
         (2, 3, &[declared(2, 0)], 0, &[declared(2, 1)], none),
     ];
-    assert!(rt; are_tables(&tables, &wanted));
-    Ok(())
+    assert!(rt; are_tables(tables_of(rt.alloc(), HIDING), &wanted));
 }
 
 #[test]
-fn added_methods_stand_in_tables_and_maps(rt: HostRuntime) -> Result<(), Fail> {
-    let world = asking(rt.alloc()).ok().ok_or("a world")?;
-    let tables = tables_of(rt.alloc(), &world).ok().ok_or("tables")?;
+fn added_methods_stand_in_tables_and_maps(rt: HostRuntime) {
     let maps: &[Map<'_>] = &[(b"p/I", b"\x01")];
     let wanted: [Wanted<'_>; 2] = [
         (1, 1, &[declared(1, 1)], 0, &[], maps),
         (2, 1, &[declared(2, 1)], 0, &[], maps),
     ];
-    assert!(rt; are_tables(&tables, &wanted));
-    Ok(())
+    assert!(rt; are_tables(tables_of(rt.alloc(), ASKING), &wanted));
 }
 
 #[test]
-fn supers_stand_first_and_maps_in_order(rt: HostRuntime) -> Result<(), Fail> {
-    let world = common(rt.alloc()).ok().ok_or("a world")?;
-    let tables = tables_of(rt.alloc(), &world).ok().ok_or("tables")?;
+fn supers_stand_first_and_maps_in_order(rt: HostRuntime) {
     let maps: &[Map<'_>] = &[
         (b"p/I", &[4]),
         (b"p/K", &[4, 3]),
@@ -143,6 +135,5 @@ fn supers_stand_first_and_maps_in_order(rt: HostRuntime) -> Result<(), Fail> {
         declared(0, 1),
     ];
     let wanted: [Wanted<'_>; 2] = [(1, 1, public, 0, &[], maps), (0, 2, below, 0, &[], maps)];
-    assert!(rt; are_tables(&tables, &wanted));
-    Ok(())
+    assert!(rt; are_tables(tables_of(rt.alloc(), COMMON), &wanted));
 }

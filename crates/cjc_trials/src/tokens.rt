@@ -1,14 +1,11 @@
 //! The tokens of small packages, and look-up in them both ways.
 
 ghost use Rattle.std.specs.Prelude.{◌≡◌, length, nat_lt, IfOk};
-ghost use Rattle.cjc_world.specs.Classes.{all_classes};
-ghost use Rattle.cjc_world.specs.Kin.{IsAcyclic};
 ghost use Rattle.cjc_tokens.specs.Tokens.{assigned};
 
-use crate::drafts::{Draft, EQUALS, Listed, Member, OBJECT, THROWABLE, imported};
+use crate::drafts::{Draft, EQUALS, Imported, OBJECT, Part, class, method, world_of};
 use cjc_bytes::{AppletLine, Bytes, Fault, NoMemory, Row, Settings};
-use cjc_classfile::MethodTree;
-use cjc_export::ExportClass;
+use cjc_classfile::ClassTree;
 use cjc_tokens::{Tokens, assign, few};
 use cjc_world::{Found, World};
 use std::alloc::Global;
@@ -28,19 +25,25 @@ pub(crate) fn settings(alloc: Global, applets: &[&[u8]]) -> Result<Settings, NoM
     })
 }
 
-/// The tokens of a world; one with too many classes or cells counts as one without memory.
+/// The tokens of a world; too many classes or cells count as want of memory.
 pub(crate) fn tokens_of(
     alloc: Global,
     world: &World<'_>,
     settings: &Settings,
 ) -> Result<Tokens, Fault>
-    requires { IsAcyclic (all_classes world.now) }
     ensures { IfOk result (λ t. t ≡ assigned (nat_lt 0 (length settings.now.applets)) world.now) }
 {
     if !few(world, settings)? {
         return Err(Fault::NoMemory);
     }
     assign(alloc, world, settings)
+}
+
+/// The tokens of a package without applets.
+fn tokens(alloc: Global, parts: &[Part<'_>]) -> Result<Tokens, Fault> {
+    let world = world_of(alloc, parts)?;
+    let settings = settings(alloc, &[])?;
+    tokens_of(alloc, &world, &settings)
 }
 
 pub(crate) fn declared(class: u32, member: u32) -> Option<Found> {
@@ -51,7 +54,7 @@ pub(crate) fn declared(class: u32, member: u32) -> Option<Found> {
     })
 }
 
-pub(crate) fn listed(class: u32, member: u32) -> Option<Found> {
+fn listed(class: u32, member: u32) -> Option<Found> {
     Some(Found {
         imported: true,
         class,
@@ -59,14 +62,17 @@ pub(crate) fn listed(class: u32, member: u32) -> Option<Found> {
     })
 }
 
-/// Whether the members of a class have these tokens, in their order.
-fn has_members(tokens: &Tokens, imported: bool, class: u32, wanted: &[Option<u8>]) -> bool {
+/// The tokens of the members of a class in their order, which is imported or not and has this number.
+type Members<'t> = (bool, u32, &'t [Option<u8>]);
+
+fn has_members(tokens: &Tokens, wanted: Members<'_>) -> bool {
+    let (imported, class, members) = wanted;
     let mut id = Found {
         imported,
         class,
         member: 0,
     };
-    for token in wanted {
+    for token in members {
         if tokens.member_token(id) != *token {
             return false;
         }
@@ -75,10 +81,13 @@ fn has_members(tokens: &Tokens, imported: bool, class: u32, wanted: &[Option<u8>
     tokens.member_token(id).is_none()
 }
 
-/// Whether the virtual tokens of a class from one on mean these, and the next none.
-fn means(tokens: &Tokens, class: u32, from: u8, wanted: &[Option<Found>]) -> bool {
+/// What the virtual tokens of a class mean from one on; the next means none.
+type Meanings<'t> = (u32, u8, &'t [Option<Found>]);
+
+fn has_meanings(tokens: &Tokens, wanted: Meanings<'_>) -> bool {
+    let (class, from, methods) = wanted;
     let mut token = from;
-    for found in wanted {
+    for found in methods {
         if tokens.virtual_by_token(class, token) != *found {
             return false;
         }
@@ -87,15 +96,61 @@ fn means(tokens: &Tokens, class: u32, from: u8, wanted: &[Option<Found>]) -> boo
     tokens.virtual_by_token(class, token).is_none()
 }
 
+/// Whether a package has tokens, and they are these.
+fn are_tokens(
+    tokens: Result<Tokens, Fault>,
+    members: &[Members<'_>],
+    meanings: &[Meanings<'_>],
+) -> bool {
+    match tokens {
+        Err(_) => false,
+        Ok(tokens) => {
+            members.iter().all(|wanted| has_members(&tokens, *wanted))
+                && meanings.iter().all(|wanted| has_meanings(&tokens, *wanted))
+        }
+    }
+}
+
+fn has_classes(tokens: &Tokens, classes: &[Option<u8>]) -> bool {
+    let mut class = 0u32;
+    for token in classes {
+        if tokens.class_token(class) != *token {
+            return false;
+        }
+        class = class.wrapping_add(1);
+    }
+    tokens.class_token(class).is_none()
+}
+
+/// Whether a package has tokens, and those of its classes are these.
+fn are_classes(tokens: Result<Tokens, Fault>, classes: &[Option<u8>]) -> bool {
+    match tokens {
+        Err(_) => false,
+        Ok(tokens) => has_classes(&tokens, classes),
+    }
+}
+
+/// A class q/A with a constructor, the static method z, and equals, a and b by the tokens 0 to 2.
+const OTHER: &[Imported<'static>] = &[(
+    1,
+    b"q/A",
+    &[OBJECT],
+    &[],
+    &[],
+    &[
+        (0, 1, b"<init>", b"()V"),
+        (1, 9, b"z", b"()Z"),
+        (0, 1, b"equals", EQUALS),
+        (1, 1, b"a", b"()S"),
+        (2, 1, b"b", b"()S"),
+    ],
+)];
+
 /// p/B and p/N extend q/A, and p/C extends p/B.
-pub(crate) fn overriding<'a>(alloc: Global) -> Result<World<'a>, Fault>
-    ensures { IfOk result (λ w. IsAcyclic (all_classes w)) }
-{
-    let mut draft = Draft::new(alloc);
-    draft.language(alloc, THROWABLE, 0)?;
-    draft.other(alloc)?;
-    draft.class(
-        alloc,
+pub(crate) const OVERRIDING: &[Part<'static>] = &[
+    Part::Language,
+    Part::Export(b"q", OTHER),
+    Part::Class((
         0x20,
         b"p/B",
         b"q/A",
@@ -107,9 +162,8 @@ pub(crate) fn overriding<'a>(alloc: Global) -> Result<World<'a>, Fault>
             (9, b"make", b"()Lp/B;"),
             (9, b"call", b"(Lp/B;)S"),
         ],
-    )?;
-    draft.class(
-        alloc,
+    )),
+    Part::Class((
         0x21,
         b"p/C",
         b"p/B",
@@ -125,75 +179,58 @@ pub(crate) fn overriding<'a>(alloc: Global) -> Result<World<'a>, Fault>
             (12, b"u", b"()S"),
             (8, b"<clinit>", b"()V"),
         ],
-    )?;
-    draft.class(
-        alloc,
-        0x20,
-        b"p/N",
-        b"q/A",
-        &[],
-        &[],
-        &[(1, b"<init>", b"()V")],
-    )?;
-    draft.world(alloc)
-}
+    )),
+    Part::Class((0x20, b"p/N", b"q/A", &[], &[], &[(1, b"<init>", b"()V")])),
+];
 
 #[test]
-fn overriding_methods_keep_their_tokens(rt: HostRuntime) -> Result<(), Fail> {
-    let alloc = rt.alloc();
-    let world = overriding(alloc).ok().ok_or("a world")?;
-    let settings = settings(alloc, &[]).ok().ok_or("settings")?;
-    let tokens = tokens_of(alloc, &world, &settings).ok().ok_or("tokens")?;
-    assert!(rt; tokens.class_token(0).is_none());
-    assert!(rt; tokens.class_token(1) == Some(0));
-    assert!(rt; tokens.class_token(2).is_none());
-    assert!(rt; tokens.class_token(3).is_none());
-    assert!(rt; has_members(&tokens, false, 0, &[None, Some(1), None, None]));
-    assert!(rt;
-        has_members(
-            &tokens,
+fn overriding_methods_keep_their_tokens(rt: HostRuntime) {
+    let members: [Members<'_>; 3] = [
+        (false, 0, &[None, Some(1), None, None]),
+        (
             false,
             1,
             &[Some(3), Some(2), None, Some(0), None, None, Some(1), None],
-        )
-    );
-    assert!(rt;
-        has_members(
-            &tokens,
-            true,
-            8,
-            &[Some(0), Some(1), Some(0), Some(1), Some(2)]
-        )
-    );
-    assert!(rt; means(&tokens, 0, 0, &[listed(8, 2), declared(0, 1), listed(8, 4)]));
-    assert!(rt;
-        means(
-            &tokens,
+        ),
+        (true, 8, &[Some(0), Some(1), Some(0), Some(1), Some(2)]),
+    ];
+    let meanings: [Meanings<'_>; 3] = [
+        (0, 0, &[listed(8, 2), declared(0, 1), listed(8, 4)]),
+        (
             1,
             0,
-            &[listed(8, 2), declared(0, 1), declared(1, 1), declared(1, 0)]
-        )
-    );
-    assert!(rt; means(&tokens, 0, 128, &[]));
-    Ok(())
+            &[listed(8, 2), declared(0, 1), declared(1, 1), declared(1, 0)],
+        ),
+        (0, 128, &[]),
+    ];
+    assert!(rt; are_tokens(tokens(rt.alloc(), OVERRIDING), &members, &meanings));
 }
 
-/// p/D extends p/C, and p/E extends a class of an export file with a package-visible method.
-pub(crate) fn hiding<'a>(alloc: Global) -> Result<World<'a>, Fault>
-    ensures { IfOk result (λ w. IsAcyclic (all_classes w)) }
-{
-    let g: &[Listed<'_>] = &[
+#[test]
+fn public_classes_have_tokens(rt: HostRuntime) {
+    let classes: [Option<u8>; 3] = [None, Some(0), None];
+    assert!(rt; are_classes(tokens(rt.alloc(), OVERRIDING), &classes));
+}
+
+/// A class with a package-visible method.
+const HIDDEN: &[Imported<'static>] = &[(
+    1,
+    b"q/G",
+    &[OBJECT],
+    &[],
+    &[],
+    &[
         (0, 1, b"equals", EQUALS),
         (1, 1, b"a", b"()S"),
         (2, 0, b"o", b"()V"),
-    ];
-    let mut row = Row::new(alloc);
-    row.push(imported(alloc, 1, b"q/G", &[OBJECT], &[], &[], g)?)?;
-    let mut draft = Draft::new(alloc);
-    draft.language(alloc, THROWABLE, 0)?;
-    draft.export(alloc, b"q", row)?;
-    draft.class(
-        alloc,
+    ],
+)];
+
+/// p/D extends p/C, and p/E extends q/G.
+pub(crate) const HIDING: &[Part<'static>] = &[
+    Part::Language,
+    Part::Export(b"q", HIDDEN),
+    Part::Class((
         0x21,
         b"p/C",
         OBJECT,
@@ -205,127 +242,94 @@ pub(crate) fn hiding<'a>(alloc: Global) -> Result<World<'a>, Fault>
             (4, b"c", b"()S"),
             (0, b"d", b"()S"),
         ],
-    )?;
-    draft.class(
-        alloc,
+    )),
+    Part::Class((
         0x21,
         b"p/D",
         b"p/C",
         &[],
         &[],
         &[(0, b"e", b"()S"), (0, b"b", b"()S"), (1, b"f", b"()S")],
-    )?;
-    draft.class(
-        alloc,
+    )),
+    Part::Class((
         0x21,
         b"p/E",
         b"q/G",
         &[],
         &[],
         &[(1, b"n", b"()V"), (0, b"o", b"()V")],
-    )?;
-    draft.world(alloc)
-}
+    )),
+];
 
 #[test]
-fn package_visible_methods_have_tokens_of_their_own(rt: HostRuntime) -> Result<(), Fail> {
-    let alloc = rt.alloc();
-    let world = hiding(alloc).ok().ok_or("a world")?;
-    let settings = settings(alloc, &[]).ok().ok_or("settings")?;
-    let tokens = tokens_of(alloc, &world, &settings).ok().ok_or("tokens")?;
-    assert!(rt; has_members(&tokens, false, 0, &[Some(1), Some(128), Some(2), Some(129)]));
-    assert!(rt; has_members(&tokens, false, 1, &[Some(130), Some(128), Some(3)]));
-    // a package-visible method of an export file uses up its token and is overridden by nothing
-    assert!(rt; has_members(&tokens, false, 2, &[Some(3), Some(128)]));
-    assert!(rt; means(&tokens, 0, 128, &[declared(0, 1), declared(0, 3)]));
-    assert!(rt;
-        means(
-            &tokens,
-            1,
-            128,
-            &[declared(1, 1), declared(0, 3), declared(1, 0)]
-        )
-    );
-    assert!(rt;
-        means(
-            &tokens,
-            2,
-            0,
-            &[listed(8, 0), listed(8, 1), None, declared(2, 0)]
-        )
-    );
-    Ok(())
+fn package_visible_methods_have_tokens_of_their_own(rt: HostRuntime) {
+    let members: [Members<'_>; 3] = [
+        (false, 0, &[Some(1), Some(128), Some(2), Some(129)]),
+        (false, 1, &[Some(130), Some(128), Some(3)]),
+        // a package-visible method of an export file uses up its token and is overridden by nothing
+        (false, 2, &[Some(3), Some(128)]),
+    ];
+    let meanings: [Meanings<'_>; 3] = [
+        (0, 128, &[declared(0, 1), declared(0, 3)]),
+        (1, 128, &[declared(1, 1), declared(0, 3), declared(1, 0)]),
+        (2, 0, &[listed(8, 0), listed(8, 1), None, declared(2, 0)]),
+    ];
+    assert!(rt; are_tokens(tokens(rt.alloc(), HIDING), &members, &meanings));
 }
 
 /// An interface p/I, an abstract class p/P that has it, and p/R below that.
-pub(crate) fn asking<'a>(alloc: Global) -> Result<World<'a>, Fault>
-    ensures { IfOk result (λ w. IsAcyclic (all_classes w)) }
-{
-    let v: &[Member<'_>] = &[(0x0401, b"v", b"()S")];
-    let i: &[u8] = b"p/I";
-    let mut draft = Draft::new(alloc);
-    draft.language(alloc, THROWABLE, 0)?;
-    draft.class(alloc, 0x0600, i, OBJECT, &[], &[], v)?;
-    draft.class(
-        alloc,
+pub(crate) const ASKING: &[Part<'static>] = &[
+    Part::Language,
+    Part::Class((0x0600, b"p/I", OBJECT, &[], &[], &[(0x0401, b"v", b"()S")])),
+    Part::Class((
         0x0421,
         b"p/P",
         OBJECT,
-        &[i],
+        &[b"p/I"],
         &[],
         &[(1, b"<init>", b"()V")],
-    )?;
-    draft.class(
-        alloc,
+    )),
+    Part::Class((
         0x21,
         b"p/R",
         b"p/P",
         &[],
         &[],
         &[(1, b"<init>", b"()V"), (1, b"v", b"()S")],
-    )?;
-    draft.world(alloc)
-}
+    )),
+];
 
 #[test]
-fn an_abstract_class_gets_a_token_for_each_added_method(rt: HostRuntime) -> Result<(), Fail> {
-    let alloc = rt.alloc();
-    let world = asking(alloc).ok().ok_or("a world")?;
-    let settings = settings(alloc, &[]).ok().ok_or("settings")?;
-    let tokens = tokens_of(alloc, &world, &settings).ok().ok_or("tokens")?;
-    assert!(rt; has_members(&tokens, false, 0, &[Some(0)]));
-    assert!(rt; has_members(&tokens, false, 1, &[Some(0), Some(1)]));
-    assert!(rt; has_members(&tokens, false, 2, &[Some(0), Some(1)]));
-    assert!(rt; means(&tokens, 1, 0, &[listed(0, 1), declared(1, 1)]));
-    assert!(rt; means(&tokens, 2, 0, &[listed(0, 1), declared(2, 1)]));
-    assert!(rt; means(&tokens, 0, 0, &[]));
-    Ok(())
+fn an_abstract_class_gets_a_token_for_each_added_method(rt: HostRuntime) {
+    let members: [Members<'_>; 3] = [
+        (false, 0, &[Some(0)]),
+        (false, 1, &[Some(0), Some(1)]),
+        (false, 2, &[Some(0), Some(1)]),
+    ];
+    let meanings: [Meanings<'_>; 3] = [
+        (1, 0, &[listed(0, 1), declared(1, 1)]),
+        (2, 0, &[listed(0, 1), declared(2, 1)]),
+        (0, 0, &[]),
+    ];
+    assert!(rt; are_tokens(tokens(rt.alloc(), ASKING), &members, &meanings));
 }
 
 /// p/J extends p/K and p/L, which both extend p/I.
-pub(crate) fn common<'a>(alloc: Global) -> Result<World<'a>, Fault>
-    ensures { IfOk result (λ w. IsAcyclic (all_classes w)) }
-{
-    let i: &[u8] = b"p/I";
-    let k: &[u8] = b"p/K";
-    let l: &[u8] = b"p/L";
-    let mut draft = Draft::new(alloc);
-    draft.class(
-        alloc,
+pub(crate) const COMMON: &[Part<'static>] = &[
+    Part::Class((
         0x21,
         b"p/S",
         b"p/T",
         &[],
         &[],
         &[(1, b"l", b"()S"), (1, b"n", b"()S")],
-    )?;
-    draft.language(alloc, THROWABLE, 0)?;
-    draft.class(
-        alloc,
+    )),
+    Part::Language,
+    Part::Class((
         0x21,
         b"p/T",
         OBJECT,
-        &[b"p/J", l],
+        &[b"p/J", b"p/L"],
         &[],
         &[
             (1, b"j", b"()S"),
@@ -333,68 +337,50 @@ pub(crate) fn common<'a>(alloc: Global) -> Result<World<'a>, Fault>
             (1, b"k", b"()S"),
             (1, b"i", b"()S"),
         ],
-    )?;
-    draft.class(
-        alloc,
+    )),
+    Part::Class((
         0x0601,
         b"p/J",
         OBJECT,
-        &[k, l],
+        &[b"p/K", b"p/L"],
         &[],
         &[(0x0401, b"j", b"()S"), (0x0401, b"i", b"()S")],
-    )?;
-    draft.class(
-        alloc,
+    )),
+    Part::Class((
         0x0601,
-        k,
+        b"p/K",
         OBJECT,
-        &[i],
+        &[b"p/I"],
         &[],
         &[(0x0401, b"k", b"()S")],
-    )?;
-    draft.class(
-        alloc,
+    )),
+    Part::Class((
         0x0601,
-        l,
+        b"p/L",
         OBJECT,
-        &[i],
+        &[b"p/I"],
         &[],
         &[(0x0401, b"l", b"()S")],
-    )?;
-    draft.class(
-        alloc,
-        0x0601,
-        i,
-        OBJECT,
-        &[],
-        &[],
-        &[(0x0401, b"i", b"()S")],
-    )?;
-    draft.world(alloc)
-}
+    )),
+    Part::Class((0x0601, b"p/I", OBJECT, &[], &[], &[(0x0401, b"i", b"()S")])),
+];
 
 #[test]
-fn a_common_interface_counts_once(rt: HostRuntime) -> Result<(), Fail> {
-    let alloc = rt.alloc();
-    let world = common(alloc).ok().ok_or("a world")?;
-    let settings = settings(alloc, &[]).ok().ok_or("settings")?;
-    let tokens = tokens_of(alloc, &world, &settings).ok().ok_or("tokens")?;
-    assert!(rt; has_members(&tokens, false, 0, &[Some(2), Some(5)]));
-    assert!(rt; has_members(&tokens, false, 1, &[Some(1), Some(2), Some(3), Some(4)]));
-    assert!(rt; has_members(&tokens, false, 2, &[Some(3), Some(0)]));
-    assert!(rt; has_members(&tokens, false, 3, &[Some(1)]));
-    assert!(rt; has_members(&tokens, false, 4, &[Some(1)]));
-    assert!(rt; has_members(&tokens, false, 5, &[Some(0)]));
-    Ok(())
+fn a_common_interface_counts_once(rt: HostRuntime) {
+    let members: [Members<'_>; 6] = [
+        (false, 0, &[Some(2), Some(5)]),
+        (false, 1, &[Some(1), Some(2), Some(3), Some(4)]),
+        (false, 2, &[Some(3), Some(0)]),
+        (false, 3, &[Some(1)]),
+        (false, 4, &[Some(1)]),
+        (false, 5, &[Some(0)]),
+    ];
+    assert!(rt; are_tokens(tokens(rt.alloc(), COMMON), &members, &[]));
 }
 
-fn holding<'a>(alloc: Global) -> Result<World<'a>, Fault>
-    ensures { IfOk result (λ w. IsAcyclic (all_classes w)) }
-{
-    let mut draft = Draft::new(alloc);
-    draft.language(alloc, THROWABLE, 0)?;
-    draft.class(
-        alloc,
+const HOLDING: &[Part<'static>] = &[
+    Part::Language,
+    Part::Class((
         0x21,
         b"p/F",
         OBJECT,
@@ -413,18 +399,12 @@ fn holding<'a>(alloc: Global) -> Result<World<'a>, Fault>
             (4, b"g", b"Z"),
         ],
         &[],
-    )?;
-    draft.world(alloc)
-}
+    )),
+];
 
 #[test]
-fn fields_stand_in_groups(rt: HostRuntime) -> Result<(), Fail> {
-    let alloc = rt.alloc();
-    let world = holding(alloc).ok().ok_or("a world")?;
-    let settings = settings(alloc, &[]).ok().ok_or("settings")?;
-    let tokens = tokens_of(alloc, &world, &settings).ok().ok_or("tokens")?;
-    assert!(rt; has_members(
-        &tokens,
+fn fields_stand_in_groups(rt: HostRuntime) {
+    let members: Members<'_> = (
         false,
         0,
         &[
@@ -440,120 +420,115 @@ fn fields_stand_in_groups(rt: HostRuntime) -> Result<(), Fail> {
             Some(2),
             Some(3),
         ],
-    ));
+    );
+    assert!(rt; are_tokens(tokens(rt.alloc(), HOLDING), &[members], &[]));
+}
+
+/// Whether a package has tokens, and these fields of its first class have the instance tokens from 0 on.
+fn are_fields(tokens: Result<Tokens, Fault>, places: &[Option<u32>]) -> bool {
+    let tokens = match tokens {
+        Err(_) => return false,
+        Ok(tokens) => tokens,
+    };
+    let mut token = 0u8;
+    for place in places {
+        if tokens.field_by_token(0, token) != *place {
+            return false;
+        }
+        token = token.wrapping_add(1);
+    }
+    true
+}
+
+#[test]
+fn tokens_mean_fields(rt: HostRuntime) {
     let places: [Option<u32>; 8] = [
         Some(2),
         Some(4),
-        None,
+        None, // the int's second cell
         Some(10),
         Some(1),
         Some(3),
         Some(0),
         None,
     ];
-    let mut token = 0u8;
-    for place in places {
-        assert!(rt; tokens.field_by_token(0, token) == place);
-        token = token.wrapping_add(1);
-    }
-    Ok(())
+    assert!(rt; are_fields(tokens(rt.alloc(), HOLDING), &places));
 }
 
-const SHAREABLE: &[u8] = b"javacard/framework/Shareable";
+/// A class p/C, interfaces p/J and p/K below p/I, and an imported interface.
+const SHARING: &[Part<'static>] = &[
+    Part::Language,
+    Part::Class((0x21, b"p/C", OBJECT, &[], &[], &[])),
+    Part::Class((0x0601, b"p/J", OBJECT, &[b"p/I"], &[], &[])),
+    Part::Class((0x0600, b"p/K", OBJECT, &[b"p/I"], &[], &[])),
+    Part::Export(
+        b"javacard/framework",
+        &[(
+            0x0E01,
+            b"javacard/framework/Shareable",
+            &[OBJECT],
+            &[],
+            &[],
+            &[],
+        )],
+    ),
+];
 
-fn framework(alloc: Global) -> Result<Row<ExportClass>, NoMemory> {
-    let mut row = Row::new(alloc);
-    row.push(imported(alloc, 0x0E01, SHAREABLE, &[OBJECT], &[], &[], &[])?)?;
-    Ok(row)
-}
+const SHAREABLE: Part<'static> = Part::Class((
+    0x0601,
+    b"p/I",
+    OBJECT,
+    &[b"javacard/framework/Shareable"],
+    &[],
+    &[],
+));
 
-/// A class p/C and interfaces p/I to p/K, of which p/I lists these.
-fn sharing<'a>(alloc: Global, above: &[&[u8]]) -> Result<Draft<'a>, NoMemory> {
+const OWN: Part<'static> = Part::Class((0x0601, b"p/I", OBJECT, &[], &[], &[]));
+
+/// The tokens of these classes and of p/I.
+fn sharing(alloc: Global, i: Part<'_>, applets: &[&[u8]]) -> Result<Tokens, Fault> {
     let mut draft = Draft::new(alloc);
-    draft.language(alloc, THROWABLE, 0)?;
-    draft.class(
-        alloc,
-        0x21,
-        b"p/C",
-        OBJECT,
-        &[],
-        &[],
-        &[(1, b"<init>", b"()V")],
-    )?;
-    draft.class(alloc, 0x0601, b"p/I", OBJECT, above, &[], &[])?;
-    draft.class(alloc, 0x0601, b"p/J", OBJECT, &[b"p/I"], &[], &[])?;
-    draft.class(alloc, 0x0600, b"p/K", OBJECT, &[b"p/I"], &[], &[])?;
-    Ok(draft)
-}
-
-fn shared<'a>(alloc: Global) -> Result<World<'a>, Fault>
-    ensures { IfOk result (λ w. IsAcyclic (all_classes w)) }
-{
-    let mut draft = sharing(alloc, &[SHAREABLE])?;
-    draft.export(alloc, b"javacard/framework", framework(alloc)?)?;
-    draft.world(alloc)
-}
-
-fn unshared<'a>(alloc: Global) -> Result<World<'a>, Fault>
-    ensures { IfOk result (λ w. IsAcyclic (all_classes w)) }
-{
-    let draft = sharing(alloc, &[])?;
-    draft.world(alloc)
-}
-
-fn shared_where<'a>(alloc: Global, listed: bool) -> Result<World<'a>, Fault>
-    ensures { IfOk result (λ w. IsAcyclic (all_classes w)) }
-{
-    if listed {
-        shared(alloc)
-    } else {
-        unshared(alloc)
-    }
+    draft.put_all(alloc, SHARING)?;
+    draft.put(alloc, i)?;
+    let world = draft.world(alloc)?;
+    let settings = settings(alloc, applets)?;
+    tokens_of(alloc, &world, &settings)
 }
 
 #[test]
-fn a_package_with_applets_exports_shareable_interfaces(rt: HostRuntime) -> Result<(), Fail> {
+fn a_package_with_applets_exports_shareable_interfaces(rt: HostRuntime) {
     let alloc = rt.alloc();
-    let none: &[&[u8]] = &[];
-    let one: &[&[u8]] = &[b"p/C"];
-    let cases: [(bool, &[&[u8]], [Option<u8>; 4]); 3] = [
-        (true, one, [None, Some(0), Some(1), None]),
-        (false, one, [None, None, None, None]),
-        (true, none, [Some(0), Some(1), Some(2), None]),
-    ];
-    for (listed, applets, classes) in cases {
-        let world = shared_where(alloc, listed).ok().ok_or("a world")?;
-        let settings = settings(alloc, applets).ok().ok_or("settings")?;
-        let tokens = tokens_of(alloc, &world, &settings).ok().ok_or("tokens")?;
-        let mut class = 0u32;
-        for token in classes {
-            assert!(rt; tokens.class_token(class) == token);
-            class = class.wrapping_add(1);
-        }
-    }
-    Ok(())
+    let shared: [Option<u8>; 4] = [None, Some(0), None, Some(1)];
+    assert!(rt; are_classes(sharing(alloc, SHAREABLE, &[b"p/C"]), &shared));
+    let none: [Option<u8>; 4] = [None, None, None, None];
+    assert!(rt; are_classes(sharing(alloc, OWN, &[b"p/C"]), &none));
+    let public: [Option<u8>; 4] = [Some(0), Some(1), None, Some(2)];
+    assert!(rt; are_classes(sharing(alloc, SHAREABLE, &[]), &public));
 }
 
-/// A package whose class p/M has so many methods besides equals, with these flags.
-fn many<'a>(alloc: Global, flags: u16, count: u16) -> Result<World<'a>, Fault>
-    ensures { IfOk result (λ w. IsAcyclic (all_classes w)) }
-{
-    let mut methods = Row::new(alloc);
+/// A class p/M with so many methods besides equals, with these flags.
+fn with_many<'a>(alloc: Global, flags: u16, count: u16) -> Result<ClassTree<'a>, NoMemory> {
+    let mut tree = class(alloc, (0x21, b"p/M", OBJECT, &[], &[], &[]))?;
     for number in 0..count {
         let name = [b'a' + (number / 26 % 26) as u8, b'a' + (number % 26) as u8];
-        methods.push(MethodTree {
-            flags,
-            name: Bytes::copy_of(alloc, &name)?,
-            desc: Bytes::copy_of(alloc, b"()V")?,
-            code: None,
-            attributes: 0,
-        })?;
+        tree.methods.push(method(alloc, (flags, &name, b"()V"))?)?;
     }
+    Ok(tree)
+}
+
+const BESIDE: &[Part<'static>] = &[
+    Part::Class((0x21, b"p/A", OBJECT, &[], &[], &[])),
+    Part::Language,
+];
+
+/// The tokens of a package with p/M.
+fn many(alloc: Global, flags: u16, count: u16) -> Result<Tokens, Fault> {
     let mut draft = Draft::new(alloc);
-    draft.class(alloc, 0x21, b"p/A", OBJECT, &[], &[], &[])?;
-    draft.language(alloc, THROWABLE, 0)?;
-    draft.tree(alloc, 0x21, b"p/M", OBJECT, &[], Row::new(alloc), methods)?;
-    draft.world(alloc)
+    draft.put_all(alloc, BESIDE)?;
+    draft.class_file(alloc, b"p/M", with_many(alloc, flags, count)?)?;
+    let world = draft.world(alloc)?;
+    let settings = settings(alloc, &[])?;
+    tokens_of(alloc, &world, &settings)
 }
 
 fn is_refused(tokens: Result<Tokens, Fault>, file: &[u8]) -> bool {
@@ -569,17 +544,14 @@ fn is_refused(tokens: Result<Tokens, Fault>, file: &[u8]) -> bool {
     }
 }
 
+/// Whether so many methods may be there, and no more.
+fn is_most(alloc: Global, flags: u16, most: u16) -> bool {
+    many(alloc, flags, most).is_ok() && is_refused(many(alloc, flags, most.wrapping_add(1)), b"p/M")
+}
+
 #[test]
-fn too_many_methods_are_refused(rt: HostRuntime) -> Result<(), Fail> {
-    let alloc = rt.alloc();
-    // the flags, how many there may be, and how many there may not be
-    let cases: [(u16, u16, u16); 3] = [(1, 127, 128), (0, 128, 129), (9, 255, 256)];
-    let settings = settings(alloc, &[]).ok().ok_or("settings")?;
-    for (flags, most, more) in cases {
-        let world = many(alloc, flags, most).ok().ok_or("a world")?;
-        assert!(rt; tokens_of(alloc, &world, &settings).is_ok());
-        let world = many(alloc, flags, more).ok().ok_or("a world")?;
-        assert!(rt; is_refused(tokens_of(alloc, &world, &settings), b"p/M"));
-    }
-    Ok(())
+fn too_many_methods_are_refused(rt: HostRuntime) {
+    assert!(rt; is_most(rt.alloc(), 1, 127)); // public
+    assert!(rt; is_most(rt.alloc(), 0, 128)); // package-visible
+    assert!(rt; is_most(rt.alloc(), 9, 255)); // public and static
 }

@@ -1,101 +1,108 @@
 //! Look-up, selection and subtypes in one world of package and imported classes, and one broken package a rule.
 
-use crate::drafts::{Draft, EQUALS, Listed, Member, OBJECT, THROWABLE, imported};
-use cjc_bytes::{Bytes, Fault, FileLine, MemberId, NoMemory, Row, Rule};
+use crate::drafts::{
+    Draft, Drawn, EQUALS, Imported, Member, OBJECT, Part, THROWABLE, class, export, language,
+    whole, world_of,
+};
+use cjc_bytes::{Bytes, Fault, MemberId, NoMemory, Rule};
 use cjc_world::{Found, World};
 use std::alloc::Global;
 use std::test::*;
 
-/// The world of look-up. Classes of the package: p/K, p/L, p/R, p/A and p/B, at 0 to 4. Classes of q: q/I, q/J,
-/// q/Base, q/Deep and q/Odd, at 8 to 12, behind the eight of java/lang.
-fn mixed<'a>(alloc: Global) -> Result<World<'a>, Fault> {
-    let mut draft = Draft::new(alloc);
-    draft.class(
-        alloc,
+/// The supers and interfaces of q.
+const Q: &[Imported<'static>] = &[
+    (
         0x0601,
-        b"p/K",
-        OBJECT,
-        &[],
-        &[(0x19, b"x", b"S"), (0x19, b"z", b"S")],
-        &[(0x0401, b"k", b"()V")],
-    )?;
-    draft.language(alloc, THROWABLE, 0)?;
-    draft.class(
-        alloc,
-        0x0601,
-        b"p/L",
-        OBJECT,
-        &[b"p/K"],
-        &[(0x19, b"y", b"S")],
-        &[],
-    )?;
-    draft.class(
-        alloc,
-        0x0601,
-        b"p/R",
-        OBJECT,
-        &[b"p/K"],
-        &[(0x19, b"x", b"B"), (0x19, b"y", b"S")],
-        &[(0x0401, b"k", b"()V"), (0x0401, b"r", b"()S")],
-    )?;
-    let i: &[u8] = b"q/I";
-    let j: &[u8] = b"q/J";
-    let base: &[u8] = b"q/Base";
-    let mut row = Row::new(alloc);
-    row.push(imported(
-        alloc,
-        0x0601,
-        i,
+        b"q/I",
         &[OBJECT],
         &[],
         &[(0x19, b"c", b"S")],
         &[(1, 0x0401, b"i", b"()V")],
-    )?)?;
-    row.push(imported(
-        alloc,
+    ),
+    (
         0x0601,
-        j,
+        b"q/J",
         &[OBJECT],
-        &[i],
+        &[b"q/I"],
         &[],
         &[(1, 0x0401, b"i", b"()V")],
-    )?)?;
-    row.push(imported(
-        alloc,
+    ),
+    (
         1,
-        base,
+        b"q/Base",
         &[OBJECT],
-        &[j, i],
+        &[b"q/J", b"q/I"],
         &[],
         &[
             (1, 1, b"m", b"()V"),
             (2, 1, b"n", b"()V"),
             (0, 1, b"equals", EQUALS),
         ],
-    )?)?;
-    row.push(imported(alloc, 1, b"q/Deep", &[base, OBJECT], &[j, i], &[], &[])?)?;
-    row.push(imported(alloc, 1, b"q/Odd", &[OBJECT, base], &[j, i], &[], &[])?)?;
-    draft.export(alloc, b"q", row)?;
-    draft.class(
-        alloc,
+    ),
+    (
+        1,
+        b"q/Deep",
+        &[b"q/Base", OBJECT],
+        &[b"q/J", b"q/I"],
+        &[],
+        &[],
+    ),
+    (
+        1,
+        b"q/Odd",
+        &[OBJECT, b"q/Base"],
+        &[b"q/J", b"q/I"],
+        &[],
+        &[],
+    ),
+];
+
+/// The world of look-up. Classes of the package: p/K, p/L, p/R, p/A and p/B, at 0 to 4. Classes of q: q/I, q/J,
+/// q/Base, q/Deep and q/Odd, at 8 to 12, behind the eight of java/lang.
+const MIXED: &[Part<'static>] = &[
+    Part::Class((
+        0x0601,
+        b"p/K",
+        OBJECT,
+        &[],
+        &[(0x19, b"x", b"S"), (0x19, b"z", b"S")],
+        &[(0x0401, b"k", b"()V")],
+    )),
+    Part::Language,
+    Part::Class((
+        0x0601,
+        b"p/L",
+        OBJECT,
+        &[b"p/K"],
+        &[(0x19, b"y", b"S")],
+        &[],
+    )),
+    Part::Class((
+        0x0601,
+        b"p/R",
+        OBJECT,
+        &[b"p/K"],
+        &[(0x19, b"x", b"B"), (0x19, b"y", b"S")],
+        &[(0x0401, b"k", b"()V"), (0x0401, b"r", b"()S")],
+    )),
+    Part::Export(b"q", Q),
+    Part::Class((
         0x21,
         b"p/A",
-        base,
+        b"q/Base",
         &[],
         &[(1, b"x", b"S")],
         &[(2, b"m", b"()V"), (9, b"n", b"()V"), (1, b"o", b"()V")],
-    )?;
-    draft.class(
-        alloc,
+    )),
+    Part::Class((
         0x21,
         b"p/B",
         b"p/A",
         &[b"p/L", b"p/R"],
         &[],
         &[(1, b"b", b"()S")],
-    )?;
-    draft.world(alloc)
-}
+    )),
+];
 
 fn member(alloc: Global, class: &[u8], name: &[u8], desc: &[u8]) -> Result<MemberId, NoMemory> {
     Ok(MemberId {
@@ -105,8 +112,16 @@ fn member(alloc: Global, class: &[u8], name: &[u8], desc: &[u8]) -> Result<Membe
     })
 }
 
-/// A name, a descriptor or a class, and what is found: whether it is imported, its class and its place there.
+/// A class, a name and a descriptor, and what is found: whether it is imported, its class and its place there.
 type Case<'t> = (&'t [u8], &'t [u8], &'t [u8], Option<(bool, u32, u32)>);
+
+/// A way to look for a member.
+#[derive(Clone, Copy)]
+enum Way {
+    Field,
+    Method,
+    Selection,
+}
 
 fn found(place: Option<(bool, u32, u32)>) -> Option<Found> {
     match place {
@@ -119,9 +134,30 @@ fn found(place: Option<(bool, u32, u32)>) -> Option<Found> {
     }
 }
 
+fn is_found(alloc: Global, world: &World<'_>, way: Way, case: Case<'_>) -> Result<bool, NoMemory> {
+    let (class, name, desc, place) = case;
+    let id = member(alloc, class, name, desc)?;
+    let answer = match way {
+        Way::Field => world.find_field(&id),
+        Way::Method => world.find_method(&id),
+        Way::Selection => world.selected(class, &id),
+    };
+    Ok(answer == found(place))
+}
+
+/// Whether all of this is found in the world of look-up.
+fn are_found(alloc: Global, way: Way, cases: &[Case<'_>]) -> Result<bool, Fault> {
+    let world = world_of(alloc, MIXED)?;
+    for case in cases {
+        if !is_found(alloc, &world, way, *case)? {
+            return Ok(false);
+        }
+    }
+    Ok(true)
+}
+
 #[test]
-fn fields(rt: HostRuntime) -> Result<(), Fail> {
-    let world = mixed(rt.alloc()).ok().ok_or("a world")?;
+fn fields(rt: HostRuntime) {
     let cases: [Case<'_>; 10] = [
         (b"p/A", b"x", b"S", Some((false, 3, 0))),
         (b"p/B", b"x", b"S", Some((false, 0, 0))), // an interface's before the superclass's
@@ -134,16 +170,11 @@ fn fields(rt: HostRuntime) -> Result<(), Fail> {
         (b"p/No", b"x", b"S", None),
         (b"[S", b"x", b"S", None),
     ];
-    for (class, name, desc, place) in cases {
-        let id = member(rt.alloc(), class, name, desc).ok().ok_or("an id")?;
-        assert!(rt; world.find_field(&id) == found(place));
-    }
-    Ok(())
+    assert!(rt; matches!(are_found(rt.alloc(), Way::Field, &cases), Ok(true)));
 }
 
 #[test]
-fn methods(rt: HostRuntime) -> Result<(), Fail> {
-    let world = mixed(rt.alloc()).ok().ok_or("a world")?;
+fn methods(rt: HostRuntime) {
     let cases: [Case<'_>; 14] = [
         (b"p/B", b"b", b"()S", Some((false, 4, 0))),
         (b"p/B", b"m", b"()V", Some((false, 3, 1))),
@@ -160,16 +191,11 @@ fn methods(rt: HostRuntime) -> Result<(), Fail> {
         (b"p/B", b"m", b"()S", None),
         (b"p/No", b"equals", EQUALS, None),
     ];
-    for (class, name, desc, place) in cases {
-        let id = member(rt.alloc(), class, name, desc).ok().ok_or("an id")?;
-        assert!(rt; world.find_method(&id) == found(place));
-    }
-    Ok(())
+    assert!(rt; matches!(are_found(rt.alloc(), Way::Method, &cases), Ok(true)));
 }
 
 #[test]
-fn selections(rt: HostRuntime) -> Result<(), Fail> {
-    let world = mixed(rt.alloc()).ok().ok_or("a world")?;
+fn selections(rt: HostRuntime) {
     let cases: [Case<'_>; 8] = [
         (b"p/B", b"b", b"()S", Some((false, 4, 0))),
         (b"p/B", b"m", b"()V", Some((true, 10, 0))), // past a private method
@@ -180,16 +206,22 @@ fn selections(rt: HostRuntime) -> Result<(), Fail> {
         (b"[Lp/A;", b"equals", EQUALS, Some((true, 0, 1))),
         (b"p/No", b"equals", EQUALS, None),
     ];
-    for (class, name, desc, place) in cases {
-        let id = member(rt.alloc(), b"p/A", name, desc).ok().ok_or("an id")?;
-        assert!(rt; world.selected(class, &id) == found(place));
+    assert!(rt; matches!(are_found(rt.alloc(), Way::Selection, &cases), Ok(true)));
+}
+
+/// Whether all of this holds in the world of look-up.
+fn are_subtypes(alloc: Global, cases: &[(&[u8], &[u8], bool)]) -> Result<bool, Fault> {
+    let world = world_of(alloc, MIXED)?;
+    for (sub, sup, is_subtype) in cases {
+        if world.subtype(sub, sup) != *is_subtype {
+            return Ok(false);
+        }
     }
-    Ok(())
+    Ok(true)
 }
 
 #[test]
-fn subtypes(rt: HostRuntime) -> Result<(), Fail> {
-    let world = mixed(rt.alloc()).ok().ok_or("a world")?;
+fn subtypes(rt: HostRuntime) {
     let cases: [(&[u8], &[u8], bool); 20] = [
         (b"p/B", b"p/B", true),
         (b"p/B", b"p/A", true),
@@ -212,57 +244,95 @@ fn subtypes(rt: HostRuntime) -> Result<(), Fail> {
         (OBJECT, b"[S", false),
         (b"p/No", OBJECT, false),
     ];
-    for (sub, sup, is_subtype) in cases {
-        assert!(rt; world.subtype(sub, sup) == is_subtype);
-    }
-    Ok(())
+    assert!(rt; matches!(are_subtypes(rt.alloc(), &cases), Ok(true)));
 }
 
-/// The interfaces p/I, p/J and p/L.
-fn asking<'a>(alloc: Global, draft: &mut Draft<'a>) -> Result<(), NoMemory> {
-    let first: [Member<'_>; 4] = [
-        (8, b"<clinit>", b"()V"),
-        (0x0401, b"a", b"()V"),
-        (0x0401, b"equals", EQUALS),
-        (0x0401, b"b", b"()V"),
-    ];
-    let second: [Member<'_>; 2] = [(0x0401, b"c", b"()V"), (0x0401, b"b", b"()V")];
-    let third: [Member<'_>; 2] = [(0x0401, b"d", b"()V"), (0x0401, b"b", b"()V")];
-    draft.class(alloc, 0x0601, b"p/I", OBJECT, &[], &[], &first)?;
-    draft.class(alloc, 0x0601, b"p/J", OBJECT, &[b"p/I"], &[], &second)?;
-    draft.class(alloc, 0x0601, b"p/L", OBJECT, &[], &[], &third)
-}
-
-/// The interface q/K, with a method of this descriptor.
-fn importing<'a>(alloc: Global, draft: &mut Draft<'a>, desc: &[u8]) -> Result<(), NoMemory> {
-    let methods: [Listed<'_>; 2] = [(1, 0x0401, b"second", desc), (0, 0x0401, b"first", b"()V")];
-    let mut row = Row::new(alloc);
-    row.push(imported(alloc, 0x0601, b"q/K", &[OBJECT], &[], &[], &methods)?)?;
-    draft.export(alloc, b"q", row)
-}
-
-/// The classes p/A, p/B, p/C and p/D.
-fn getting<'a>(alloc: Global, draft: &mut Draft<'a>) -> Result<(), NoMemory> {
-    let own: [Member<'_>; 2] = [(1, b"a", b"()V"), (9, b"c", b"()V")];
-    let hidden: [Member<'_>; 1] = [(2, b"b", b"()V")];
-    draft.class(alloc, 0x0421, b"p/A", OBJECT, &[b"p/J", b"q/K"], &[], &own)?;
-    draft.class(alloc, 0x0421, b"p/B", b"p/A", &[b"q/K", b"p/L"], &[], &[])?;
-    draft.class(alloc, 0x21, b"p/C", b"p/A", &[b"p/L"], &[], &[])?;
-    draft.class(alloc, 0x0421, b"p/D", OBJECT, &[b"p/I"], &[], &hidden)
-}
-
-/// Classes of the package: p/I, p/J, p/L, p/A, p/B, p/C and p/D, at 0 to 6, and q/K with this descriptor.
-fn adding<'a>(alloc: Global, desc: &[u8]) -> Result<World<'a>, Fault> {
+/// Classes of the package: p/I, p/J, p/L, p/A, p/B, p/C and p/D, at 0 to 6, and of q.
+fn adding<'a>(alloc: Global, q: &[Imported<'_>]) -> Result<World<'a>, Fault> {
     let mut draft = Draft::new(alloc);
-    asking(alloc, &mut draft)?;
-    draft.language(alloc, THROWABLE, 0)?;
-    importing(alloc, &mut draft, desc)?;
-    getting(alloc, &mut draft)?;
+    draft.put_all(alloc, ASKING)?;
+    draft.put(alloc, Part::Language)?;
+    draft.export_file(alloc, b"q", export(alloc, b"q", q)?)?;
+    draft.put_all(alloc, GETTING)?;
     draft.world(alloc)
 }
 
-/// Whether a class of the package gets methods of these names, in this order.
-fn gets(world: &World<'_>, class: u32, name: &[u8], added: &[&[u8]]) -> bool {
+const K: &[Imported<'static>] = &[(
+    0x0601,
+    b"q/K",
+    &[OBJECT],
+    &[],
+    &[],
+    &[
+        (1, 0x0401, b"second", b"()V"),
+        (0, 0x0401, b"first", b"()V"),
+    ],
+)];
+
+/// The same with a method of a class that no file has.
+const MISSING: &[Imported<'static>] = &[(
+    0x0601,
+    b"q/K",
+    &[OBJECT],
+    &[],
+    &[],
+    &[
+        (1, 0x0401, b"second", b"(Lq/No;)V"),
+        (0, 0x0401, b"first", b"()V"),
+    ],
+)];
+
+const ASKING: &[Part<'static>] = &[
+    Part::Class((
+        0x0601,
+        b"p/I",
+        OBJECT,
+        &[],
+        &[],
+        &[
+            (8, b"<clinit>", b"()V"),
+            (0x0401, b"a", b"()V"),
+            (0x0401, b"equals", EQUALS),
+            (0x0401, b"b", b"()V"),
+        ],
+    )),
+    Part::Class((
+        0x0601,
+        b"p/J",
+        OBJECT,
+        &[b"p/I"],
+        &[],
+        &[(0x0401, b"c", b"()V"), (0x0401, b"b", b"()V")],
+    )),
+    Part::Class((
+        0x0601,
+        b"p/L",
+        OBJECT,
+        &[],
+        &[],
+        &[(0x0401, b"d", b"()V"), (0x0401, b"b", b"()V")],
+    )),
+];
+
+const GETTING: &[Part<'static>] = &[
+    Part::Class((
+        0x0421,
+        b"p/A",
+        OBJECT,
+        &[b"p/J", b"q/K"],
+        &[],
+        &[(1, b"a", b"()V"), (9, b"c", b"()V")],
+    )),
+    Part::Class((0x0421, b"p/B", b"p/A", &[b"q/K", b"p/L"], &[], &[])),
+    Part::Class((0x21, b"p/C", b"p/A", &[b"p/L"], &[], &[])),
+    Part::Class((0x0421, b"p/D", OBJECT, &[b"p/I"], &[], &[(2, b"b", b"()V")])),
+];
+
+/// A class of the package by its number and name, and the names of the methods that it gets, in order.
+type Gets<'t> = (u32, &'t [u8], &'t [&'t [u8]]);
+
+fn gets(world: &World<'_>, case: Gets<'_>) -> bool {
+    let (class, name, added) = case;
     if class as usize >= world.classes().items().len() {
         return false;
     }
@@ -272,22 +342,24 @@ fn gets(world: &World<'_>, class: u32, name: &[u8], added: &[&[u8]]) -> bool {
             && id.name.items() == *added)
 }
 
+fn all_get(alloc: Global, cases: &[Gets<'_>]) -> Result<bool, Fault> {
+    let world = adding(alloc, K)?;
+    Ok(cases.iter().all(|case| gets(&world, *case)))
+}
+
+const GETS: &[Gets<'static>] = &[
+    (1, b"p/J", &[]),
+    (3, b"p/A", &[b"b", b"c", b"first", b"second"]), // past a static method, by token
+    (4, b"p/B", &[b"d"]), // what the superclass got is inherited
+    (5, b"p/C", &[]),
+    (6, b"p/D", &[b"a", b"b"]), // past a private method
+];
+
 #[test]
-fn added_methods(rt: HostRuntime) -> Result<(), Fail> {
-    let world = adding(rt.alloc(), b"()V").ok().ok_or("a world")?;
-    let cases: [(u32, &[u8], &[&[u8]]); 5] = [
-        (1, b"p/J", &[]),
-        (3, b"p/A", &[b"b", b"c", b"first", b"second"]), // past a static method, by token
-        (4, b"p/B", &[b"d"]), // what the superclass got is inherited
-        (5, b"p/C", &[]),
-        (6, b"p/D", &[b"a", b"b"]), // past a private method
-    ];
-    for (class, name, added) in cases {
-        assert!(rt; gets(&world, class, name, added));
-    }
-    let missing = adding(rt.alloc(), b"(Lq/No;)V");
+fn added_methods(rt: HostRuntime) {
+    assert!(rt; matches!(all_get(rt.alloc(), GETS), Ok(true)));
+    let missing = adding(rt.alloc(), MISSING);
     assert!(rt; is_refused(missing, 203, b"p/A", b"p/A", b""));
-    Ok(())
 }
 
 fn is_refused(
@@ -310,78 +382,77 @@ fn is_refused(
     }
 }
 
-/// A class p/A below Object with one field or method beside java/lang.
-fn with_member<'a>(
+/// A class p/A below Object with these fields and methods beside java/lang.
+fn with_members<'a, 't>(
     alloc: Global,
-    fields: &[Member<'_>],
-    methods: &[Member<'_>],
+    fields: &'t [Member<'t>],
+    methods: &'t [Member<'t>],
 ) -> Result<World<'a>, Fault> {
+    let a: Drawn<'_> = (0x21, b"p/A", OBJECT, &[], fields, methods);
     let mut draft = Draft::new(alloc);
-    draft.language(alloc, THROWABLE, 0)?;
-    draft.class(alloc, 0x21, b"p/A", OBJECT, &[], fields, methods)?;
+    draft.put(alloc, Part::Language)?;
+    draft.class_file(alloc, b"p/A", whole(alloc, a)?)?;
     draft.world(alloc)
 }
 
-/// A class p/A, and one with these flags, this name, superclass and interface, beside java/lang.
-fn with_class<'a>(
-    alloc: Global,
-    flags: u16,
-    name: &[u8],
-    superclass: &[u8],
-    interface: &[u8],
-) -> Result<World<'a>, Fault> {
+/// A class p/A and an interface p/I.
+const BESIDE: &[Part<'static>] = &[
+    Part::Class((0x21, b"p/A", OBJECT, &[], &[], &[])),
+    Part::Class((0x0601, b"p/I", OBJECT, &[], &[], &[])),
+];
+
+/// A class with these flags, this name, superclass and interface, beside p/A, p/I and java/lang.
+fn with_class<'a>(alloc: Global, class: Other<'_>) -> Result<World<'a>, Fault> {
+    let (flags, name, superclass, interface) = class;
+    let other: Drawn<'_> = (flags, name, superclass, &[interface], &[], &[]);
     let mut draft = Draft::new(alloc);
-    draft.class(alloc, 0x21, b"p/A", OBJECT, &[], &[], &[])?;
-    draft.class(alloc, 0x0601, b"p/I", OBJECT, &[], &[], &[])?;
-    draft.class(alloc, flags, name, superclass, &[interface], &[], &[])?;
-    draft.language(alloc, THROWABLE, 0)?;
+    draft.put_all(alloc, BESIDE)?;
+    draft.class_file(alloc, name, whole(alloc, other)?)?;
+    draft.put(alloc, Part::Language)?;
     draft.world(alloc)
+}
+
+type Other<'t> = (u16, &'t [u8], &'t [u8], &'t [u8]);
+
+/// Whether these rules are broken first where such a class is there.
+fn break_first(alloc: Global, cases: &[(Other<'_>, u16)]) -> bool {
+    for (class, rule) in cases {
+        if !is_refused(with_class(alloc, *class), *rule, class.1, class.1, b"") {
+            return false;
+        }
+    }
+    true
 }
 
 #[test]
 fn broken_classes(rt: HostRuntime) {
     let alloc = rt.alloc();
-    assert!(rt; with_class(alloc, 1, b"p/B", b"p/A", b"p/I").is_ok());
-    let cases: [(u16, &[u8], &[u8], &[u8], u16); 12] = [
-        (1, b"q/B", b"p/A", b"p/I", 201),
-        (1, b"p/q/B", b"p/A", b"p/I", 201),
-        (1, b"p/", b"p/A", b"p/I", 201),
-        (1, b"p/A", OBJECT, b"p/I", 202),
-        (1, b"p/B", b"p/No", b"p/I", 203),
-        (1, b"p/B", b"p/A", b"p/No", 203),
-        (1, b"p/B", b"p/B", b"p/I", 204),
-        (0x0601, b"p/B", OBJECT, b"p/B", 204),
-        (1, b"p/B", b"p/I", b"p/I", 208),
-        (1, b"p/B", b"p/A", b"p/A", 208),
-        (0x0601, b"p/B", b"p/A", b"p/I", 208),
-        (1, b"q/B", b"p/No", b"p/A", 201), // the least of three
+    assert!(rt; with_class(alloc, (1, b"p/B", b"p/A", b"p/I")).is_ok());
+    let cases: [(Other<'_>, u16); 12] = [
+        ((1, b"q/B", b"p/A", b"p/I"), 201),
+        ((1, b"p/q/B", b"p/A", b"p/I"), 201),
+        ((1, b"p/", b"p/A", b"p/I"), 201),
+        ((1, b"p/A", OBJECT, b"p/I"), 202),
+        ((1, b"p/B", b"p/No", b"p/I"), 203),
+        ((1, b"p/B", b"p/A", b"p/No"), 203),
+        ((1, b"p/B", b"p/B", b"p/I"), 204),
+        ((0x0601, b"p/B", OBJECT, b"p/B"), 204),
+        ((1, b"p/B", b"p/I", b"p/I"), 208),
+        ((1, b"p/B", b"p/A", b"p/A"), 208),
+        ((0x0601, b"p/B", b"p/A", b"p/I"), 208),
+        ((1, b"q/B", b"p/No", b"p/A"), 201), // the least of three
     ];
-    for (flags, name, superclass, interface, rule) in cases {
-        assert!(rt;
-            is_refused(
-                with_class(alloc, flags, name, superclass, interface),
-                rule,
-                name,
-                name,
-                b""
-            )
-        );
-    }
+    assert!(rt; break_first(alloc, &cases));
 }
+
+const T: Drawn<'static> = (0x21, b"p/T", OBJECT, &[], &[], &[]);
 
 /// The class p/T in two files of these names.
 fn twice<'a>(alloc: Global, first: &[u8], second: &[u8]) -> Result<World<'a>, Fault> {
     let mut draft = Draft::new(alloc);
-    draft.class(alloc, 0x21, b"p/T", OBJECT, &[], &[], &[])?;
-    draft.class(alloc, 0x21, b"p/T", OBJECT, &[], &[], &[])?;
-    draft.lines = Row::new(alloc);
-    for name in [first, second] {
-        draft.lines.push(FileLine {
-            class_file: true,
-            name: Bytes::copy_of(alloc, name)?,
-        })?;
-    }
-    draft.language(alloc, THROWABLE, 0)?;
+    draft.class_file(alloc, first, class(alloc, T)?)?;
+    draft.class_file(alloc, second, class(alloc, T)?)?;
+    draft.put(alloc, Part::Language)?;
     draft.world(alloc)
 }
 
@@ -391,129 +462,95 @@ fn classes_in_two_files(rt: HostRuntime) {
     assert!(rt; is_refused(world, 202, b"U.class", b"p/T", b""));
 }
 
+/// The fields and the methods of p/A, the rule that they break, and the member that does.
+type Broken<'t> = (&'t [Member<'t>], &'t [Member<'t>], u16, &'t [u8]);
+
+fn are_broken(alloc: Global, cases: &[Broken<'_>]) -> bool {
+    for (fields, methods, rule, member) in cases {
+        let world = with_members(alloc, fields, methods);
+        if !is_refused(world, *rule, b"p/A", b"p/A", member) {
+            return false;
+        }
+    }
+    true
+}
+
+const X: Member<'static> = (1, b"x", b"[Lp/A;");
+
+const M: Member<'static> = (1, b"m", b"(Lp/A;)V");
+
+const BROKEN: &[Broken<'static>] = &[
+    (&[X, X], &[M, M], 202, b"x:[Lp/A;"),
+    (&[X], &[M, M], 202, b"m(Lp/A;)V"),
+    (&[(1, b"x", b"Lp/B;")], &[], 203, b"x:Lp/B;"),
+    (&[X], &[(1, b"m", b"()[Lp/B;")], 203, b"m()[Lp/B;"),
+];
+
 #[test]
 fn broken_members(rt: HostRuntime) {
-    let alloc = rt.alloc();
-    let field: Member<'_> = (1, b"x", b"[Lp/A;");
-    let method: Member<'_> = (1, b"m", b"(Lp/A;)V");
-    assert!(rt; with_member(alloc, &[field], &[method]).is_ok());
-    assert!(rt;
-        is_refused(
-            with_member(alloc, &[field, field], &[method, method]),
-            202,
-            b"p/A",
-            b"p/A",
-            b"x:[Lp/A;"
-        )
-    );
-    assert!(rt;
-        is_refused(
-            with_member(alloc, &[field], &[method, method]),
-            202,
-            b"p/A",
-            b"p/A",
-            b"m(Lp/A;)V"
-        )
-    );
-    assert!(rt;
-        is_refused(
-            with_member(alloc, &[(1, b"x", b"Lp/B;")], &[]),
-            203,
-            b"p/A",
-            b"p/A",
-            b"x:Lp/B;"
-        )
-    );
-    assert!(rt;
-        is_refused(
-            with_member(alloc, &[field], &[(1, b"m", b"()[Lp/B;")]),
-            203,
-            b"p/A",
-            b"p/A",
-            b"m()[Lp/B;"
-        )
-    );
+    assert!(rt; with_members(rt.alloc(), &[X], &[M]).is_ok());
+    assert!(rt; are_broken(rt.alloc(), BROKEN));
 }
 
 /// Two classes that are below each other.
-fn cycle<'a>(alloc: Global) -> Result<World<'a>, Fault> {
-    let mut draft = Draft::new(alloc);
-    draft.language(alloc, THROWABLE, 0)?;
-    draft.class(alloc, 1, b"p/A", b"p/B", &[], &[], &[])?;
-    draft.class(alloc, 1, b"p/B", b"p/A", &[], &[], &[])?;
-    draft.world(alloc)
-}
+const CYCLE: &[Part<'static>] = &[
+    Part::Language,
+    Part::Class((1, b"p/A", b"p/B", &[], &[], &[])),
+    Part::Class((1, b"p/B", b"p/A", &[], &[], &[])),
+];
 
 #[test]
 fn cycles(rt: HostRuntime) {
-    assert!(rt; is_refused(cycle(rt.alloc()), 204, b"p/A", b"p/A", b""));
+    assert!(rt; is_refused(world_of(rt.alloc(), CYCLE), 204, b"p/A", b"p/A", b""));
 }
 
 /// No class, and java/lang with exceptions below a class of this name, but for so many.
 fn with_language<'a>(alloc: Global, above: &[u8], missing: usize) -> Result<World<'a>, Fault> {
     let mut draft = Draft::new(alloc);
-    draft.language(alloc, above, missing)?;
+    draft.export_file(alloc, b"java/lang", language(alloc, above, missing)?)?;
     draft.world(alloc)
 }
 
-/// The export file of q alone.
-fn without_language<'a>(alloc: Global) -> Result<World<'a>, Fault> {
+/// Classes of the package p that stand beside an export file.
+const OWN: &[Part<'static>] = &[
+    Part::Language,
+    Part::Class((1, b"p/A", OBJECT, &[], &[], &[])),
+];
+
+/// A package, and the name and the super of its class.
+type Import<'t> = (&'t [u8], &'t [u8], &'t [u8]);
+
+/// A class p/A and java/lang, and an export file of one class.
+fn with_import<'a>(alloc: Global, import: Import<'_>) -> Result<World<'a>, Fault> {
+    let (package, class, above) = import;
+    let other: Imported<'_> = (1, class, &[above, OBJECT], &[], &[], &[]);
     let mut draft = Draft::new(alloc);
-    draft.export(alloc, b"q", Row::new(alloc))?;
+    draft.put_all(alloc, OWN)?;
+    draft.export_file(alloc, package, export(alloc, package, &[other])?)?;
     draft.world(alloc)
 }
 
-/// A class p/A and java/lang, and an export file of this package that has one class with this super.
-fn with_import<'a>(
-    alloc: Global,
-    package: &[u8],
-    class: &[u8],
-    above: &[u8],
-) -> Result<World<'a>, Fault> {
-    let mut draft = Draft::new(alloc);
-    draft.language(alloc, THROWABLE, 0)?;
-    draft.class(alloc, 1, b"p/A", OBJECT, &[], &[], &[])?;
-    let mut row = Row::new(alloc);
-    row.push(imported(alloc, 1, class, &[above, OBJECT], &[], &[], &[])?)?;
-    draft.export(alloc, package, row)?;
-    draft.world(alloc)
+/// An export file without classes alone.
+const ALONE: &[Part<'static>] = &[Part::Export(b"q", &[])];
+
+#[test]
+fn a_language_is_needed(rt: HostRuntime) {
+    let alloc = rt.alloc();
+    assert!(rt; with_language(alloc, THROWABLE, 0).is_ok());
+    assert!(rt; is_refused(world_of(alloc, &[]), 207, b"list", b"", b""));
+    assert!(rt; is_refused(world_of(alloc, ALONE), 207, b"list", b"", b""));
+    assert!(rt; is_refused(with_language(alloc, THROWABLE, 1), 207, b"list", b"", b""));
+    assert!(rt; is_refused(with_language(alloc, OBJECT, 0), 207, b"list", b"", b""));
 }
 
 #[test]
 fn broken_imports(rt: HostRuntime) {
     let alloc = rt.alloc();
-    let none: Draft<'_> = Draft::new(alloc);
-    assert!(rt; is_refused(none.world(alloc), 207, b"list", b"", b""));
-    assert!(rt; is_refused(without_language(alloc), 207, b"list", b"", b""));
-    assert!(rt; with_language(alloc, THROWABLE, 0).is_ok());
-    assert!(rt; is_refused(with_language(alloc, THROWABLE, 1), 207, b"list", b"", b""));
-    assert!(rt; is_refused(with_language(alloc, OBJECT, 0), 207, b"list", b"", b""));
-    assert!(rt; with_import(alloc, b"q", b"q/C", THROWABLE).is_ok());
-    assert!(rt;
-        is_refused(
-            with_import(alloc, b"p", b"q/C", THROWABLE),
-            202,
-            b"p",
-            b"",
-            b""
-        )
-    );
-    assert!(rt;
-        is_refused(
-            with_import(alloc, b"q", b"p/A", THROWABLE),
-            202,
-            b"q",
-            b"p/A",
-            b""
-        )
-    );
-    assert!(rt;
-        is_refused(
-            with_import(alloc, b"q", b"q/C", b"p/A"),
-            208,
-            b"q",
-            b"q/C",
-            b""
-        )
-    );
+    assert!(rt; with_import(alloc, (b"q", b"q/C", THROWABLE)).is_ok());
+    let second = with_import(alloc, (b"p", b"q/C", THROWABLE));
+    assert!(rt; is_refused(second, 202, b"p", b"", b""));
+    let again = with_import(alloc, (b"q", b"p/A", THROWABLE));
+    assert!(rt; is_refused(again, 202, b"q", b"p/A", b""));
+    let below = with_import(alloc, (b"q", b"q/C", b"p/A"));
+    assert!(rt; is_refused(below, 208, b"q", b"q/C", b""));
 }

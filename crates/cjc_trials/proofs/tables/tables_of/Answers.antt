@@ -1,4 +1,4 @@
 use Rattle.cjc_trials.proofs.tables.tables_of.Goals as goal
 
-pub tables-requires-clause-tokens : goal.tables-requires-clause-tokens
-tables-requires-clause-tokens c = (_, c.in_ok-tokens.ensures)
+pub tables-requires : goal.tables-requires
+tables-requires c = record { tokens = (_, c.in_ok-tokens.ensures) }
