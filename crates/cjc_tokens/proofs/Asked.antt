@@ -1,6 +1,6 @@
 -- The methods of interfaces, in turn.
 use Rattle.std.proofs.Common.{◌≡◌, ℕ, zero, suc, ◌+◌, ◌-◌, ◌<◌, ◌≤◌, refl, sym, ap, ◌∙◌, Bool, true, false, List, [], ◌∷◌, ◌++◌, append_assoc, append-nil, length, drop, get_or, arith, Bor}
-use Rattle.std.specs.Prelude.{map, Option, Some, None, option_map, option_to_list, position, ◌==◌, if◌then◌else◌}
+use Rattle.std.specs.Prelude.{map, Option, Some, None, option_map, position, ◌==◌, if◌then◌else◌}
 use Rattle.cjc_classfile.specs.declared.tree.MethodTree.{MethodTree}
 use Rattle.cjc_export.specs.declared.tree.ExportMethod.{ExportMethod}
 use Rattle.cjc_world.specs.Classes.{Member, Class, method_of_class, method_of_export}

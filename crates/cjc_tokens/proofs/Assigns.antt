@@ -1,17 +1,15 @@
 -- Walks over the classes of a package and of its export files, one further.
-use Rattle.std.proofs.Common.{◌≡◌, ℕ, zero, suc, ◌+◌, ◌-◌, ◌<◌, ◌≤◌, refl, sym, ap, subst, ◌∙◌, inl, inr, ⊎_elim, Bool, true, false, List, [], ◌∷◌, ◌++◌, length, drop, get_or, arith, append_assoc, append-nil}
-use Rattle.std.specs.Prelude.{map, slice_get, ◌⊎◌, Option, Some, None, All, if◌then◌else◌}
+use Rattle.std.proofs.Common.{◌≡◌, ℕ, zero, suc, ◌+◌, ◌<◌, ◌≤◌, refl, sym, ap, subst, ◌∙◌, inl, inr, ⊎_elim, Bool, true, false, List, [], ◌∷◌, ◌++◌, length, drop, get_or, arith, append_assoc, append-nil}
+use Rattle.std.specs.Prelude.{map, Option, Some, None, All, if◌then◌else◌}
 use Rattle.std.proofs.lemmas.Bool.{cases_lt}
 use Rattle.std.proofs.lemmas.Option.{get_or_from_slice_get}
 use Rattle.cjc_bytes.specs.Order.{NotAfter}
-use Rattle.cjc_bytes.specs.declared.fault.Fault.{Fault}
-use Rattle.cjc_bytes.specs.declared.fault.Fault.TheVariants as faults
 use Rattle.cjc_bytes.specs.declared.settings.FileLine.{FileLine}
 use Rattle.cjc_classfile.specs.declared.tree.ClassTree.{ClassTree}
 use Rattle.cjc_export.specs.declared.tree.ExportTree.{ExportTree}
 use Rattle.cjc_world.specs.Classes.{Class, declared}
 use Rattle.cjc_world.specs.Files.{Files}
-use Rattle.cjc_world.specs.Rules.{Break, Among, foremost, after, IsFirst, IsFirstRefusal}
+use Rattle.cjc_world.specs.Rules.{Break, Among, foremost, after, IsFirst}
 use Rattle.cjc_tokens.specs.declared.slot.Rows.{Rows}
 use Rattle.cjc_world.specs.Exported.{is_exported}
 use Rattle.cjc_tokens.specs.Tokens.{OfClass, of_class, one_more, classes_from, of_import, imports_of}

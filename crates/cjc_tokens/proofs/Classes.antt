@@ -1,17 +1,16 @@
 -- The tokens of one class, from what the code holds of it.
-use Rattle.std.proofs.Common.{◌≡◌, ℕ, ◌+◌, refl, sym, ap, ◌∙◌, Bool, true, false, List, [], ◌∷◌, ◌++◌, length, append_assoc}
+use Rattle.std.proofs.Common.{◌≡◌, ℕ, refl, sym, ap, ◌∙◌, Bool, true, false, List, [], ◌∷◌, ◌++◌, length, append_assoc}
 use Rattle.std.specs.Prelude.{◌&&◌, ◌||◌, map, nat_lt, count_by, if◌then◌else◌, Option, Some, None}
 use Rattle.std.specs.List.{list_any}
 use Rattle.cjc_bytes.specs.declared.fault.MemberId.{MemberId}
 use Rattle.cjc_classfile.specs.declared.tree.ClassTree.{ClassTree}
-use Rattle.cjc_classfile.specs.declared.tree.MethodTree.{MethodTree}
 use Rattle.cjc_world.specs.declared.found.Found.{Found}
-use Rattle.cjc_world.specs.Classes.{Member, Class, declared, is_interface, method_of_class}
+use Rattle.cjc_world.specs.Classes.{Class, declared, is_interface, method_of_class}
 use Rattle.cjc_world.specs.Added.{added, named_by}
 use Rattle.cjc_tokens.specs.declared.slot.Rows.{Rows}
-use Rattle.cjc_tokens.specs.Members.{Signature, signature_of}
+use Rattle.cjc_tokens.specs.Members.{signature_of}
 use Rattle.cjc_tokens.specs.Lines.{line_at}
-use Rattle.cjc_tokens.specs.Slots.{Slots, slots, hidden_slots, token, row, hidden_row}
+use Rattle.cjc_tokens.specs.Slots.{slots, hidden_slots, token, row, hidden_row}
 use Rattle.cjc_tokens.specs.Fields.{is_open_static, field_tokens, instance_tokens}
 use Rattle.cjc_tokens.specs.Methods.{interface_methods, interface_token, is_open_bound, virtual_token, class_method_tokens}
 use Rattle.cjc_world.specs.Exported.{is_exported}

@@ -1,15 +1,15 @@
 -- Slots that are put at the end of a row.
-use Rattle.std.proofs.Common.{◌≡◌, ℕ, suc, ◌+◌, ◌<◌, refl, sym, ap, ◌∙◌, Bool, true, false, List, [], ◌∷◌, ◌++◌, append_assoc, append-nil, length, take, get_or, ◌≤◌, arith}
+use Rattle.std.proofs.Common.{◌≡◌, ℕ, ◌+◌, ◌<◌, refl, sym, ap, ◌∙◌, Bool, true, false, List, [], ◌∷◌, ◌++◌, append_assoc, append-nil, length, take, get_or, ◌≤◌, arith}
 use Rattle.std.proofs.lemmas.List.{take_more}
 use Rattle.std.proofs.lemmas.Grind.{common_steps}
 use Rattle.cjc_bytes.specs.declared.fault.MemberId.{MemberId}
 use Rattle.cjc_classfile.specs.declared.tree.MethodTree.{MethodTree}
-use Rattle.std.specs.Prelude.{map, Option, Some, None, if◌then◌else◌, ◌||◌, option_map}
+use Rattle.std.specs.Prelude.{map, Option, Some, if◌then◌else◌, option_map}
 use Rattle.cjc_world.specs.declared.found.Found.{Found}
 use Rattle.cjc_world.specs.Classes.{Member, method_of_class}
 use Rattle.cjc_tokens.specs.declared.slot.Slot.{Slot}
 use Rattle.cjc_tokens.specs.Members.{Signature, signature_of, signatures}
-use Rattle.cjc_tokens.specs.Slots.{Slots, holds, has_slot, new_in, with_new}
+use Rattle.cjc_tokens.specs.Slots.{Slots, has_slot, new_in, with_new}
 use Rattle.cjc_tokens.specs.Working.{Offered, meant, member_of, methods_in, signature_in, signs}
 
 signature : List ℕ → List ℕ → Signature

@@ -1,6 +1,6 @@
 -- The token of a method of an interface.
-use Rattle.std.proofs.Common.{◌≡◌, ℕ, ◌<◌, ◌≤◌, ◌+◌, refl, sym, ap, ◌∙◌, arith, Bool, false, List, [], ◌∷◌, length, map}
-use Rattle.std.specs.Prelude.{Option, Some, None, option_map, nat_lt, position, if◌then◌else◌}
+use Rattle.std.proofs.Common.{◌≡◌, ℕ, ◌<◌, ◌≤◌, ◌+◌, refl, sym, ap, ◌∙◌, arith, false, List, length, map}
+use Rattle.std.specs.Prelude.{Option, Some, None, option_map, position, if◌then◌else◌}
 use Rattle.cjc_world.specs.Classes.{Member}
 use Rattle.cjc_tokens.specs.Members.{Signature, signature_of, same, is_initialiser}
 use Rattle.cjc_tokens.specs.Slots.{Slots, holds, token}

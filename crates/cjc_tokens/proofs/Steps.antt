@@ -1,18 +1,17 @@
 -- The rows of a class from those of its superclass.
-use Rattle.std.proofs.Common.{◌≡◌, ℕ, ◌+◌, refl, sym, ap, subst, ◌∙◌, Bool, true, false, List, [], ◌∷◌, ◌++◌, append-nil, length}
-use Rattle.std.specs.Prelude.{◌||◌, map, Option, Some, None, option_map, if◌then◌else◌, position}
+use Rattle.std.proofs.Common.{◌≡◌, ℕ, ◌+◌, refl, sym, ap, ◌∙◌, Bool, true, false, List, [], ◌∷◌, ◌++◌, length}
+use Rattle.std.specs.Prelude.{◌||◌, map, Option, Some, None, option_map}
 use Rattle.cjc_bytes.specs.declared.fault.MemberId.{MemberId}
 use Rattle.cjc_world.specs.declared.found.Found.{Found}
 use Rattle.cjc_world.specs.Classes.{Member, Class}
 use Rattle.cjc_world.specs.Lookup.{or_else, is_called, member_at}
 use Rattle.cjc_world.specs.Added.{named_by}
 use Rattle.cjc_tokens.specs.declared.slot.Slot.{Slot}
-use Rattle.cjc_tokens.specs.declared.slot.Rows.{Rows}
 use Rattle.cjc_tokens.specs.Members.{Signature, signature_of, same, has, signatures, is_shown, is_hidden}
 use Rattle.cjc_tokens.specs.Lines.{Line, Declared}
-use Rattle.cjc_tokens.specs.Slots.{Slots, has_slot, new_in, with_new, slots, hidden_slots, own, got, implementing, implementing_hidden, meant_by}
-use Rattle.cjc_tokens.specs.Working.{AreRowsOf, Offered, Renewed, is_of_kind, meant, member_of, methods_in, nearest_slot, signature_in, signs}
-use Rattle.cjc_tokens.proofs.Facts.{same-refl, chosen-none, chosen-some, own-none, own-some, got-none, has-got_none}
+use Rattle.cjc_tokens.specs.Slots.{Slots, new_in, with_new, slots, hidden_slots, own, got, implementing, implementing_hidden, meant_by}
+use Rattle.cjc_tokens.specs.Working.{Offered, Renewed, member_of, methods_in, nearest_slot, signature_in, signs}
+use Rattle.cjc_tokens.proofs.Facts.{same-refl, chosen-none, chosen-some, own-none, own-some, has-got_none}
 use Rattle.cjc_tokens.proofs.Held.{new-offered, new-fresh, offered-has_slot}
 use Rattle.cjc_tokens.proofs.Offers.{map_append}
 use Rattle.cjc_world.proofs.Places.{position_of_map}

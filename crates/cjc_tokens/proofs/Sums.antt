@@ -1,13 +1,12 @@
 -- Cells and counts of fields.
-use Rattle.std.proofs.Common.{◌≡◌, ℕ, zero, suc, ◌+◌, ◌≤◌, ◌<◌, refl, sym, ap, subst, ◌^◌, ◌∙◌, Bool, true, false, List, [], ◌∷◌, ◌++◌, take, drop, length, get_or, arith, cond}
+use Rattle.std.proofs.Common.{◌≡◌, ℕ, zero, suc, ◌+◌, ◌≤◌, ◌<◌, refl, sym, ap, subst, ◌^◌, ◌∙◌, Bool, true, false, List, [], ◌∷◌, ◌++◌, take, length, get_or, arith, cond}
 use Rattle.std.specs.Prelude.{Option, ◌&&◌, ◌==◌, nat_lt, if◌then◌else◌, count_by}
 use Rattle.std.proofs.lemmas.List.Sums.{sum_by-cons, sum_by_push}
 use Rattle.std.proofs.lemmas.List.{take_more}
 use Rattle.std.proofs.lemmas.Grind.{common_steps}
 use Rattle.std.proofs.lemmas.Bool.Decides.{nat_tests}
 use Rattle.cjc_classfile.specs.declared.tree.FieldTree.{FieldTree}
-use Rattle.cjc_tokens.specs.Fields.{cells, cells_of, group, instance_cells, is_instance, instance_token, instance_tokens, instance_field_token, field_token, field_tokens}
-use Rattle.cjc_tokens.proofs.Walks.{drop-next, drop-past}
+use Rattle.cjc_tokens.specs.Fields.{cells, cells_of, group, instance_cells, is_instance, instance_tokens, instance_field_token, field_token, field_tokens}
 
 cells-cons : (p : FieldTree → Bool) (f : FieldTree) (fs : List FieldTree) → cells_of p (f ∷ fs) ≡ (if p f then cells f else 0) + cells_of p fs
 cells-cons p f fs = sum_by-cons (λ g. if p g then cells g else 0) f fs

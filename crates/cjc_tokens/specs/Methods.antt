@@ -1,6 +1,6 @@
 -- Tokens of methods (Java Card Virtual Machine Specification 2.2.2, sections 4.3.7.3, 4.3.7.6 and 4.3.7.7).
 use Rattle.std.specs.Prelude.{ℕ, ◌+◌, List, [], ◌∷◌, ◌++◌, map, take, position, count_by, Bool, false, true, not, ◌&&◌, ◌||◌, if◌then◌else◌, Option, Some, None, option_map}
-use Rattle.cjc_world.specs.Classes.{Member, Class, is_static, is_interface}
+use Rattle.cjc_world.specs.Classes.{Member, Class, is_static}
 use Rattle.cjc_world.specs.Kin.{kin}
 use Rattle.cjc_world.specs.Interfaces.{Interface, gathered, each_once}
 use Rattle.cjc_world.specs.Added.{own_methods, asked_by}

@@ -1,6 +1,5 @@
 -- The tokens of a package and of the classes that its export files describe, all together.
-use Rattle.std.specs.Prelude.{ℕ, suc, ◌+◌, ◌-◌, ◌==◌, List, [], ◌∷◌, ◌++◌, map, length, slice_get, nat_lt, not, position, Bool, true, false, ◌&&◌, ◌||◌, is_some, if◌then◌else◌, Option, Some, None, option_map, option_and_then, codes}
-use Rattle.cjc_bytes.specs.declared.settings.FileLine.{FileLine}
+use Rattle.std.specs.Prelude.{ℕ, ◌+◌, ◌-◌, ◌==◌, List, [], ◌∷◌, ◌++◌, map, slice_get, nat_lt, position, Bool, true, false, is_some, if◌then◌else◌, Option, Some, None, option_and_then}
 use Rattle.cjc_classfile.specs.declared.tree.ClassTree.{ClassTree}
 use Rattle.cjc_export.specs.declared.tree.ExportField.{ExportField}
 use Rattle.cjc_export.specs.declared.tree.ExportMethod.{ExportMethod}

@@ -1,6 +1,5 @@
-use Rattle.std.proofs.Common.{◌∙◌, ap, refl}
+use Rattle.std.proofs.Common.{refl}
 use Rattle.std.proofs.lemmas.Result.{err_from_is_err_and}
-use Rattle.cjc_world.specs.Rules.{breaks}
 use Rattle.cjc_convert.proofs.Converting.{few_lines, stopped_from, world_refused, names_refused, language_refused, types_refused, read_with, codes_of_package, unbroken}
 use Rattle.cjc_convert.proofs.conversion.convert.Goals as goal
 
@@ -23,9 +22,6 @@ returns-in_err-names-clause-refused c =
     let p = err_from_is_err_and c.from_residual-in_err-names.result c.from_residual-in_err-names.ensures.1 in
     let all = rw (c.items.ensures, c.items-2.ensures) at c.in_ok-classes.ensures in
     rw (p.1, p.2) (names_refused _ _ c.in_ok-classes.field-0 _ _ (record { all = all; made = c.in_ok-world.ensures.made; fine = c.in_ok-world.ensures.unbroken }) c.in_err-names.ensures.refused)
-
-pub language-requires : goal.language-requires
-language-requires c = ap (breaks c.args.list.now.name) c.in_ok-world.ensures.made ∙ c.in_ok-world.ensures.unbroken
 
 pub returns-in_err-language-clause-refused : goal.returns-in_err-language-clause-refused
 returns-in_err-language-clause-refused c =

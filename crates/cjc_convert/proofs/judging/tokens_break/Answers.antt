@@ -1,12 +1,11 @@
 use Rattle.std.proofs.Common.{◌≡◌, ◌∙◌, ap, sym, subst, length, List, get_or}
-use Rattle.std.specs.Prelude.{Some, None, nat_lt, slice_get}
+use Rattle.std.specs.Prelude.{nat_lt}
 use Rattle.std.proofs.lemmas.Option.{get_or_from_slice_get}
 use Rattle.cjc_bytes.specs.declared.settings.FileLine.{FileLine}
 use Rattle.cjc_classfile.specs.declared.tree.ClassTree.{ClassTree}
-use Rattle.cjc_world.specs.Rules.{Break, IsFirst}
+use Rattle.cjc_world.specs.Rules.{IsFirst}
 use Rattle.cjc_subset.specs.Breaks.{spot_of}
-use Rattle.cjc_subset.specs.Places.{Spot, broken_at}
-use Rattle.cjc_tokens.specs.Rules.{FilePlace, IsFirstHigh, at_class, file_of, tested_breaks}
+use Rattle.cjc_tokens.specs.Rules.{IsFirstHigh, at_class, file_of, tested_breaks}
 use Rattle.cjc_convert.proofs.Firsts.{high_at}
 use Rattle.cjc_convert.proofs.judging.tokens_break.Goals as goal
 

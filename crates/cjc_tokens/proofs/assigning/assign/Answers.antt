@@ -1,4 +1,4 @@
-use Rattle.std.proofs.Common.{◌≡◌, ◌∙◌, ap, sym, subst, length, List, ℕ}
+use Rattle.std.proofs.Common.{◌∙◌, ap, sym, subst, length, List, ℕ}
 use Rattle.std.specs.Prelude.{Option, nat_lt}
 use Rattle.cjc_world.specs.Classes.{all_classes}
 use Rattle.cjc_tokens.specs.Tokens.{assigned, Assigned, OfClass, classes_from, imports_of}

@@ -1,5 +1,4 @@
-use Rattle.std.proofs.Common.{◌≡◌, ◌∙◌, ap, sym, subst, length, get_or, true, false, ◌<◌, ◌≤◌, arith, Some, None}
-use Rattle.std.specs.Prelude.{slice_get}
+use Rattle.std.proofs.Common.{◌≡◌, ◌∙◌, ap, sym, subst, length, get_or, true, false, ◌<◌, ◌≤◌, arith}
 use Rattle.cjc_world.specs.Classes.{all_classes, declared}
 use Rattle.cjc_tokens.specs.Rules.{breaks_from, count_exported, token_breaks}
 use Rattle.cjc_world.specs.Exported.{is_exported}

@@ -1,4 +1,4 @@
-use Rattle.std.proofs.Common.{◌≡◌, ◌+◌, ◌++◌, drop, length}
+use Rattle.std.proofs.Common.{◌≡◌, ◌+◌, ◌++◌, drop}
 use Rattle.cjc_world.specs.Classes.{all_classes}
 use Rattle.cjc_tokens.specs.Rules.{breaks_from, count_exported}
 use Rattle.cjc_tokens.specs.Tokens.{classes_from}

@@ -1,10 +1,9 @@
-use Rattle.std.proofs.Common.{◌≡◌, ◌∙◌, ap, sym, subst, length, List, [], ◌∷◌, true, false, Some}
-use Rattle.std.specs.Prelude.{slice_get, nat_lt, Ok, Err, if◌then◌else◌}
+use Rattle.std.proofs.Common.{◌∙◌, ap, sym, subst, length, List}
+use Rattle.std.specs.Prelude.{nat_lt, Err}
 use Rattle.cjc_bytes.specs.declared.settings.AppletLine.{AppletLine}
-use Rattle.cjc_classfile.specs.declared.tree.ClassTree.{ClassTree}
 use Rattle.cjc_world.specs.Classes.{all_classes}
-use Rattle.cjc_world.specs.Rules.{Break, IsFirst}
-use Rattle.cjc_tokens.specs.Rules.{at_class, file_of, is_few, tested_breaks, token_breaks}
+use Rattle.cjc_world.specs.Rules.{IsFirst}
+use Rattle.cjc_tokens.specs.Rules.{at_class, file_of, token_breaks}
 use Rattle.cjc_tokens.specs.Working.{AreAllTokens, IsKept}
 use Rattle.cjc_tokens.proofs.Assigns.{tested-few, tested-many}
 use Rattle.cjc_tokens.proofs.assigning.first_high.Goals as goal

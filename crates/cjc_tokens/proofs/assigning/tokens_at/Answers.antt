@@ -1,4 +1,4 @@
-use Rattle.std.proofs.Common.{◌≡◌, ◌∙◌, ap, map, Some, get_or}
+use Rattle.std.proofs.Common.{◌≡◌, ◌∙◌, ap, map, Some}
 use Rattle.std.specs.Prelude.{slice_get}
 use Rattle.std.proofs.lemmas.Option.{get_or_from_slice_get}
 use Rattle.cjc_classfile.specs.declared.tree.ClassTree.{ClassTree}

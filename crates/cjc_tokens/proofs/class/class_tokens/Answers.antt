@@ -1,4 +1,4 @@
-use Rattle.std.proofs.Common.{◌≡◌, ◌∙◌, ◌<◌, ◌^◌, sym, ap, subst, map, length, ◌++◌, Some, None}
+use Rattle.std.proofs.Common.{◌≡◌, ◌∙◌, sym, ap, map, ◌++◌, Some, None}
 use Rattle.std.specs.Prelude.{if◌then◌else◌}
 use Rattle.cjc_world.specs.Classes.{all_classes, declared, method_of_class}
 use Rattle.cjc_tokens.specs.Members.{signature_of}

@@ -1,4 +1,4 @@
-use Rattle.std.proofs.Common.{◌≡◌, ◌∙◌, ap, sym, subst, map, length, ◌≤◌, Some}
+use Rattle.std.proofs.Common.{◌∙◌, ap, sym, subst, ◌≤◌}
 use Rattle.std.proofs.lemmas.List.{length-map}
 use Rattle.std.specs.Prelude.{option_map, ◌+◌}
 use Rattle.cjc_world.specs.Classes.{method_of_class}

@@ -1,4 +1,4 @@
-use Rattle.std.proofs.Common.{arith, nat_lt, refl, zero-add}
+use Rattle.std.proofs.Common.{arith, nat_lt, zero-add}
 use Rattle.cjc_tokens.specs.Fields.{group}
 use Rattle.cjc_tokens.proofs.Sums.{some_cells}
 use Rattle.cjc_tokens.proofs.fields.cells_before.Goals as goal

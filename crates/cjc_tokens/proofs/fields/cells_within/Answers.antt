@@ -1,4 +1,4 @@
-use Rattle.std.proofs.Common.{arith, refl, zero-add}
+use Rattle.std.proofs.Common.{arith, zero-add}
 use Rattle.std.specs.Prelude.{◌==◌}
 use Rattle.cjc_tokens.specs.Fields.{group}
 use Rattle.cjc_tokens.proofs.Sums.{some_cells}

@@ -1,4 +1,4 @@
-use Rattle.std.proofs.Common.{◌≡◌, ◌∙◌, ◌<◌, ◌+◌, sym, ap, ◌++◌, ◌∷◌, [], take, arith, refl, cond, true, false}
+use Rattle.std.proofs.Common.{◌≡◌, ◌∙◌, ◌+◌, sym, ap, ◌++◌, ◌∷◌, [], take, arith, refl, cond}
 use Rattle.std.specs.Prelude.{count_by}
 use Rattle.cjc_tokens.specs.Fields.{field_tokens, is_open_static}
 use Rattle.cjc_tokens.proofs.Sums.{field_tokens-next, count_next, count_before}

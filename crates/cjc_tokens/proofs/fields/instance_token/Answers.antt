@@ -1,5 +1,5 @@
 use Rattle.std.proofs.Common.{◌≡◌, ◌+◌, ◌≤◌, take, arith}
-use Rattle.std.specs.Prelude.{◌&&◌, ◌==◌, nat_lt}
+use Rattle.std.specs.Prelude.{◌&&◌, ◌==◌}
 use Rattle.cjc_tokens.specs.Fields.{cells_of, group, is_instance}
 use Rattle.cjc_tokens.proofs.Sums.{group_cells}
 use Rattle.cjc_tokens.proofs.fields.instance_token.Goals as goal

@@ -1,4 +1,4 @@
-use Rattle.std.proofs.Common.{◌≡◌, ◌∙◌, sym, ap, ◌++◌, ◌∷◌, [], take, arith}
+use Rattle.std.proofs.Common.{◌∙◌, sym, ap, ◌++◌, ◌∷◌, [], take}
 use Rattle.cjc_tokens.specs.Fields.{instance_tokens}
 use Rattle.cjc_tokens.proofs.Sums.{instance_tokens-next}
 use Rattle.cjc_tokens.proofs.fields.instance_tokens.Goals as goal

@@ -1,6 +1,5 @@
 use Rattle.std.proofs.Common.{◌≡◌, ◌∙◌, ap, sym, map, subst}
 use Rattle.std.specs.Prelude.{OnOk}
-use Rattle.cjc_world.specs.Classes.{method_of_export}
 use Rattle.cjc_world.specs.Added.{without_initialiser}
 use Rattle.cjc_tokens.specs.Members.{signature_of}
 use Rattle.cjc_tokens.specs.Slots.{with_new}

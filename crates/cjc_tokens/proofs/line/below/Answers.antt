@@ -1,7 +1,6 @@
-use Rattle.std.proofs.Common.{subst, sym, Option, List, false, true}
+use Rattle.std.proofs.Common.{subst, false, true}
 use Rattle.cjc_world.specs.Classes.{Class, declared}
-use Rattle.cjc_tokens.specs.declared.slot.Slot.{Slot}
-use Rattle.cjc_tokens.specs.Working.{AreRowsOf, Renewed}
+use Rattle.cjc_tokens.specs.Working.{Renewed}
 use Rattle.cjc_tokens.proofs.Steps.{shown-step, hidden-step, renewed-ids, offered-ids}
 use Rattle.cjc_tokens.proofs.line.below.Goals as goal
 

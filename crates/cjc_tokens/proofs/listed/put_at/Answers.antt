@@ -1,7 +1,6 @@
-use Rattle.std.proofs.Common.{◌≡◌, ◌∙◌, ap, sym, map, ◌++◌, ◌∷◌, [], rules, arith, Some, None, length, ◌≤◌, ◌<◌, true, false}
+use Rattle.std.proofs.Common.{◌≡◌, ◌∙◌, ap, sym, ◌++◌, ◌∷◌, [], rules, arith, None, length, ◌≤◌, ◌<◌, true, false}
 use Rattle.std.specs.Prelude.{option_map, is_some}
 use Rattle.cjc_tokens.specs.Working.{alone, overlay, signature_in, signs}
-use Rattle.cjc_tokens.proofs.Offers.{map_append}
 use Rattle.cjc_tokens.proofs.Overlays.{pad-row, fill_none-row, fill_some-row}
 use Rattle.cjc_tokens.proofs.listed.put_at.Goals as goal
 

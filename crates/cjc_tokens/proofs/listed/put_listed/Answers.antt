@@ -1,5 +1,4 @@
-use Rattle.std.proofs.Common.{◌≡◌, ◌∙◌, sym, ap, get_or, arith, length, ◌≤◌, ◌<◌}
-use Rattle.cjc_world.specs.Classes.{Member}
+use Rattle.std.proofs.Common.{arith, length, ◌≤◌, ◌<◌}
 use Rattle.cjc_world.specs.Known.{class_of}
 use Rattle.cjc_tokens.specs.Slots.{listed_slots}
 use Rattle.cjc_tokens.specs.Working.{overlay, signs}

@@ -1,4 +1,4 @@
-use Rattle.std.proofs.Common.{◌≡◌, ◌∙◌, ◌<◌, ◌+◌, sym, ap, ◌++◌, ◌∷◌, [], take, map, arith, refl, cond, append-nil, append_assoc}
+use Rattle.std.proofs.Common.{◌≡◌, ◌∙◌, ◌+◌, sym, ap, ◌++◌, ◌∷◌, [], take, map, arith, refl, cond, append-nil, append_assoc}
 use Rattle.std.specs.Prelude.{count_by}
 use Rattle.cjc_world.specs.Classes.{method_of_class}
 use Rattle.cjc_tokens.specs.Methods.{class_method_tokens, is_open_bound}

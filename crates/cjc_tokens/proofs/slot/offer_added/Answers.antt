@@ -1,7 +1,3 @@
-use Rattle.std.proofs.Common.{ap}
-use Rattle.std.specs.Prelude.{map}
-use Rattle.cjc_tokens.specs.Members.{signature_of}
-use Rattle.cjc_tokens.specs.Working.{member_of}
 use Rattle.cjc_tokens.proofs.Offers.{ids-more, take-past}
 use Rattle.cjc_tokens.proofs.slot.offer_added.Goals as goal
 

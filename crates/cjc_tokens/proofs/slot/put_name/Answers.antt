@@ -1,6 +1,5 @@
-use Rattle.std.proofs.Common.{◌≡◌, ◌∙◌, refl, sym, ap, [], ◌∷◌, append-nil, None}
+use Rattle.std.proofs.Common.{refl, [], None}
 use Rattle.std.proofs.lemmas.Result.{on_ok_weaker}
-use Rattle.cjc_tokens.specs.Working.{Offered}
 use Rattle.cjc_tokens.proofs.Offers.{offered-nothing, offered-slots}
 use Rattle.cjc_tokens.proofs.slot.put_name.Goals as goal
 

@@ -1,4 +1,4 @@
-use Rattle.std.proofs.Common.{◌≡◌, ◌∙◌, sym, ap, subst, ◌++◌, ◌∷◌, [], arith, rules, false, true, Some}
+use Rattle.std.proofs.Common.{◌≡◌, sym, subst, ◌++◌, ◌∷◌, [], arith, rules, false, true, Some}
 use Rattle.cjc_tokens.specs.declared.slot.Slot.{Slot}
 use Rattle.cjc_tokens.specs.Slots.{has_slot}
 use Rattle.cjc_tokens.specs.Working.{Offered, signature_in, signs}
