@@ -1,8 +1,8 @@
 //! Look-up, selection and subtypes in one world of package and imported classes, and one broken package a rule.
 
 use crate::drafts::{
-    Draft, Drawn, EQUALS, Imported, Member, OBJECT, Part, THROWABLE, class, export, language,
-    whole, world_of,
+    Draft, Drawn, EQUALS, Imported, Listed, Member, OBJECT, Part, THROWABLE, class, export,
+    language, whole, world_of,
 };
 use cjc_bytes::{Bytes, Fault, MemberId, NoMemory, Rule};
 use cjc_world::{Found, World};
@@ -247,40 +247,23 @@ fn subtypes(rt: HostRuntime) {
     assert!(rt; matches!(are_subtypes(rt.alloc(), &cases), Ok(true)));
 }
 
-/// Classes of the package: p/I, p/J, p/L, p/A, p/B, p/C and p/D, at 0 to 6, and of q.
-fn adding<'a>(alloc: Global, q: &[Imported<'_>]) -> Result<World<'a>, Fault> {
+/// Classes of the package: p/I, p/J, p/L, p/A, p/B, p/C and p/D, at 0 to 6, and the interface q/K with these methods.
+fn adding<'a, 't>(alloc: Global, methods: &'t [Listed<'t>]) -> Result<World<'a>, Fault> {
+    let k: Imported<'_> = (0x0601, b"q/K", &[OBJECT], &[], &[], methods);
     let mut draft = Draft::new(alloc);
     draft.put_all(alloc, ASKING)?;
     draft.put(alloc, Part::Language)?;
-    draft.export_file(alloc, b"q", export(alloc, b"q", q)?)?;
+    draft.export_file(alloc, b"q", export(alloc, b"q", &[k])?)?;
     draft.put_all(alloc, GETTING)?;
     draft.world(alloc)
 }
 
-const K: &[Imported<'static>] = &[(
-    0x0601,
-    b"q/K",
-    &[OBJECT],
-    &[],
-    &[],
-    &[
-        (1, 0x0401, b"second", b"()V"),
-        (0, 0x0401, b"first", b"()V"),
-    ],
-)];
+const FIRST: Listed<'static> = (0, 0x0401, b"first", b"()V");
+
+const KNOWN: &[Listed<'static>] = &[(1, 0x0401, b"second", b"()V"), FIRST];
 
 /// The same with a method of a class that no file has.
-const MISSING: &[Imported<'static>] = &[(
-    0x0601,
-    b"q/K",
-    &[OBJECT],
-    &[],
-    &[],
-    &[
-        (1, 0x0401, b"second", b"(Lq/No;)V"),
-        (0, 0x0401, b"first", b"()V"),
-    ],
-)];
+const MISSING: &[Listed<'static>] = &[(1, 0x0401, b"second", b"(Lq/No;)V"), FIRST];
 
 const ASKING: &[Part<'static>] = &[
     Part::Class((
@@ -343,7 +326,7 @@ fn gets(world: &World<'_>, case: Gets<'_>) -> bool {
 }
 
 fn all_get(alloc: Global, cases: &[Gets<'_>]) -> Result<bool, Fault> {
-    let world = adding(alloc, K)?;
+    let world = adding(alloc, KNOWN)?;
     Ok(cases.iter().all(|case| gets(&world, *case)))
 }
 
@@ -401,7 +384,10 @@ const BESIDE: &[Part<'static>] = &[
     Part::Class((0x0601, b"p/I", OBJECT, &[], &[], &[])),
 ];
 
-/// A class with these flags, this name, superclass and interface, beside p/A, p/I and java/lang.
+/// The flags, the name, the superclass and the interface of a class.
+type Other<'t> = (u16, &'t [u8], &'t [u8], &'t [u8]);
+
+/// Such a class beside p/A, p/I and java/lang.
 fn with_class<'a>(alloc: Global, class: Other<'_>) -> Result<World<'a>, Fault> {
     let (flags, name, superclass, interface) = class;
     let other: Drawn<'_> = (flags, name, superclass, &[interface], &[], &[]);
@@ -411,8 +397,6 @@ fn with_class<'a>(alloc: Global, class: Other<'_>) -> Result<World<'a>, Fault> {
     draft.put(alloc, Part::Language)?;
     draft.world(alloc)
 }
-
-type Other<'t> = (u16, &'t [u8], &'t [u8], &'t [u8]);
 
 /// Whether these rules are broken first where such a class is there.
 fn break_first(alloc: Global, cases: &[(Other<'_>, u16)]) -> bool {
