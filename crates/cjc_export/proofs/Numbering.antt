@@ -7,7 +7,7 @@ use Rattle.std.proofs.lemmas.List.Sums.{passes_at_first}
 use Rattle.std.proofs.lemmas.Option.{slice_get-get_or}
 use Rattle.indexmap.specs.IndexSet.{insert_all, insert_key}
 use Rattle.cjc_export.specs.Constant.{Constant, same}
-use Rattle.cjc_export.specs.Same.{same-Decides}
+use Rattle.cjc_export.specs.Working.Same.{same-Decides}
 use Rattle.cjc_export.specs.Written.{index_of}
 use Rattle.cjc_export.specs.Writable.{EachAfter}
 

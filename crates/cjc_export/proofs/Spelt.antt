@@ -27,7 +27,7 @@ use Rattle.cjc_export.specs.Package.{package_of, package_at, package_field}
 use Rattle.cjc_export.specs.Members.{grown, text_field, class_field, same_bool, as_desc, desc_at, desc_field, may_be_constant, is_constant, constant_name_at, as_integer, integer_at, attribute_content, attribute, no_token, where_constant, field, class_method, interface_token, not_special, interface_name_at, interface_method, method}
 use Rattle.cjc_export.specs.ExportFile.{class_token, new_name, new_name_at, method_count, class_tree, front_part, export_file}
 use Rattle.cjc_export.specs.Constant.{Constant, text, integer, class, this, same}
-use Rattle.cjc_export.specs.Same.{same-Decides}
+use Rattle.cjc_export.specs.Working.Same.{same-Decides}
 use Rattle.cjc_export.specs.Written.{value_name, class_needs, value_needs, field_needs, method_needs, class_tree_needs, needs, constants, class_ref, value_bytes, field_bytes, method_bytes, members_bytes, class_bytes, constant_bytes, package_bytes, index_bytes, head_bytes, bytes_over, written}
 use Rattle.cjc_export.specs.Writable.{IsText, ValueFits, FieldFits, MethodStands, ClassFits, AreBytes, IsWritable, EachAfter}
 use Rattle.cjc_export.proofs.Numbering.{Has, all_append}

@@ -4,7 +4,7 @@ use Rattle.std.specs.List.{AllByRecursion, list_any}
 use Rattle.std.proofs.lemmas.List.Folds.{list_any-append}
 use Rattle.indexmap.specs.IndexSet.{insert_all}
 use Rattle.cjc_export.specs.Constant.{Constant, same}
-use Rattle.cjc_export.specs.Same.{same-Decides}
+use Rattle.cjc_export.specs.Working.Same.{same-Decides}
 use Rattle.cjc_export.proofs.Numbering.{Has}
 
 -- what they are worth together

@@ -7,7 +7,7 @@ pub mod Members
 pub mod ExportFile
 pub mod Constant
 pub mod Written
-pub mod Same
+pub mod Working
 pub mod Writable
 pub mod Lookup
 pub mod Tokens

@@ -5,7 +5,7 @@ ghost use Rattle.std.specs.Cmp.{partial_equiv_from_equiv};
 ghost use Rattle.cjc_export.specs.Constant.{Constant as Seen, same, constant_of, fed};
 ghost use Rattle.cjc_export.specs.Constant.{text, integer, class, this};
 ghost use Rattle.cjc_export.specs.Written.{index_of};
-ghost use Rattle.cjc_export.specs.Same.{same-fed, same-equivalence};
+ghost use Rattle.cjc_export.specs.Working.Same.{same-fed, same-equivalence};
 ghost use Rattle.indexmap.specs.IndexSet.{insert_key};
 
 use cjc_bytes::NoMemory;

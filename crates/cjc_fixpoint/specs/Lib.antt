@@ -1,7 +1,6 @@
 pub mod Dataflow
-pub mod Edges
+pub mod Working
 pub mod Lattice
-pub mod NameLaws
 pub mod Names
 pub mod Steps
 pub mod Tables

@@ -52,7 +52,7 @@ fn edges_to(
 }
 
 impl Flow for NameFlow<'_> {
-    ghost use Rattle.cjc_fixpoint.specs.NameLaws.{name_laws};
+    ghost use Rattle.cjc_fixpoint.specs.Working.NameLaws.{name_laws};
     ghost use Rattle.cjc_fixpoint.specs.Names.{name_flow};
 
     type State = Row<u8>;

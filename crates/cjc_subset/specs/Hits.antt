@@ -1,5 +1,5 @@
 -- What the code tells of what a look-up finds.
-use Rattle.cjc_world.specs.Known.{class_of}
+use Rattle.cjc_world.specs.Working.Known.{class_of}
 use Rattle.cjc_subset.specs.declared.members.Hit.{Hit}
 use Rattle.cjc_subset.specs.Members.{Hit as Met}
 

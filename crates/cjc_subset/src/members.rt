@@ -4,7 +4,7 @@ ghost use Rattle.std.specs.Prelude.{◌≡◌, ◌&&◌, ◌||◌, ◌∷◌, �
 ghost use Rattle.std.specs.List.{list_any};
 ghost use Rattle.cjc_world.specs.Access.{is_accessible};
 ghost use Rattle.cjc_world.specs.Classes.{all_classes, class_named, is_abstract, is_interface, is_private, is_protected, is_public, is_static};
-ghost use Rattle.cjc_world.specs.Known.{class_of};
+ghost use Rattle.cjc_world.specs.Working.Known.{class_of};
 ghost use Rattle.cjc_world.specs.Rules.{is_desc_missing, is_element_missing, is_missing, is_type_missing};
 ghost use Rattle.cjc_subset.specs.Hits.{hit_of};
 ghost use Rattle.cjc_subset.specs.Members.{hit, imports, is_array, is_constant, is_constructor, is_declared_constant, is_descriptor, is_imported_constant, is_initialiser};

@@ -5,7 +5,7 @@ ghost use Rattle.cjc_classfile.specs.declared.tree.MethodTree.{MethodTree as Met
 ghost use Rattle.cjc_world.specs.Classes.{all_classes, class_named};
 ghost use Rattle.cjc_world.specs.Exported.{is_imported};
 ghost use Rattle.cjc_world.specs.Rules.{IsFirstRefusal, is_class_of, is_interface_of};
-ghost use Rattle.cjc_world.specs.Known.{class_of};
+ghost use Rattle.cjc_world.specs.Working.Known.{class_of};
 ghost use Rattle.cjc_subset.specs.Breaks.{break_of, spot_of};
 ghost use Rattle.cjc_subset.specs.Hits.{hit_of};
 ghost use Rattle.cjc_subset.specs.Places.{FilePlace, IsFirstOf, at_class, at_method, each};

@@ -2,7 +2,7 @@
 
 ghost use Rattle.std.specs.Prelude.{◌≡◌, ◌&&◌, ◌<◌, false, length, get_or, not, option_map, IfOk};
 ghost use Rattle.cjc_world.specs.Classes.{Member, all_classes, declared, imported, is_interface};
-ghost use Rattle.cjc_world.specs.Known.{class_of};
+ghost use Rattle.cjc_world.specs.Working.Known.{class_of};
 ghost use Rattle.cjc_world.specs.Lookup.{is_called, selected};
 ghost use Rattle.cjc_subset.specs.Breaks.{break_of, spot_of};
 ghost use Rattle.cjc_subset.specs.Hits.{hit_of};

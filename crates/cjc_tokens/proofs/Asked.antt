@@ -12,7 +12,7 @@ use Rattle.cjc_classfile.specs.declared.tree.ClassTree.{ClassTree}
 use Rattle.cjc_export.specs.declared.tree.ExportClass.{ExportClass}
 use Rattle.cjc_world.specs.declared.class.Known.{Known as AnyClass}
 use Rattle.cjc_world.specs.declared.class.Known.TheVariants as kinds
-use Rattle.cjc_world.specs.Known.{class_of}
+use Rattle.cjc_world.specs.Working.Known.{class_of}
 use Rattle.cjc_world.proofs.Rising.{known-append}
 use Rattle.cjc_tokens.specs.Methods.{interface_methods}
 use Rattle.cjc_tokens.specs.Members.{Signature, signature_of, is_initialiser}

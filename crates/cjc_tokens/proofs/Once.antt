@@ -10,7 +10,7 @@ use Rattle.cjc_world.specs.Kin.{Kin, IsKin, ends, unknown_here, known_here, kin,
 use Rattle.cjc_world.specs.Interfaces.{Interface, where_listed, gathered, is_among, each_once, known}
 use Rattle.cjc_world.specs.Added.{methods_of, own_methods}
 use Rattle.cjc_world.specs.Lookup.{first, or_else}
-use Rattle.cjc_world.specs.Places.{at_places}
+use Rattle.cjc_world.specs.Working.Places.{at_places}
 use Rattle.cjc_tokens.specs.declared.slot.Rows.{Rows}
 use Rattle.cjc_tokens.specs.Lines.{Imported}
 use Rattle.cjc_tokens.specs.Members.{Signature, signature_of, same, has, is_virtual, all_methods}

@@ -11,7 +11,7 @@ use Rattle.cjc_tokens.specs.Members.{Signature, signature_of, is_exposed, is_vir
 use Rattle.cjc_tokens.specs.Slots.{Slots, put, reserve, listed, listed_slots}
 use Rattle.cjc_tokens.specs.Working.{alone, one, overlay, signature_in, signs}
 use Rattle.cjc_world.specs.declared.class.Known.{Known as AnyClass}
-use Rattle.cjc_world.specs.Known.{class_of}
+use Rattle.cjc_world.specs.Working.Known.{class_of}
 use Rattle.cjc_tokens.proofs.Offers.{map_append}
 use Rattle.cjc_tokens.proofs.Walks.{drop-next, drop-past}
 

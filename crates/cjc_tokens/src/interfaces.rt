@@ -3,9 +3,9 @@
 ghost use Rattle.std.specs.Prelude.{◌≡◌, ◌+◌, ◌<◌, ◌++◌, ◌==◌, [], ◌∷◌, map, length, position, if◌then◌else◌, false, true, IfOk, IfSome, OnOk, Some};
 ghost use Rattle.cjc_world.specs.Classes.{all_classes, method_of_class, method_of_export};
 ghost use Rattle.cjc_world.specs.Kin.{kin};
-ghost use Rattle.cjc_world.specs.Known.{class_of};
+ghost use Rattle.cjc_world.specs.Working.Known.{class_of};
 ghost use Rattle.cjc_world.specs.Interfaces.{gathered, known};
-ghost use Rattle.cjc_world.specs.Places.{at_places};
+ghost use Rattle.cjc_world.specs.Working.Places.{at_places};
 ghost use Rattle.cjc_world.specs.Added.{by_token, methods_of, own_methods, with_token, without_initialiser};
 ghost use Rattle.cjc_tokens.specs.Members.{is_initialiser, signature_of};
 ghost use Rattle.cjc_tokens.specs.Methods.{interface_methods};

@@ -12,7 +12,7 @@ use Rattle.cjc_code.specs.declared.insn.JInsn.{JInsn}
 use Rattle.cjc_code.specs.declared.insn.JOp.{JOp}
 use Rattle.cjc_code.specs.declared.insn.JOp.TheVariants as jop
 use Rattle.cjc_fixpoint.specs.declared.flow.Edge.{Edge}
-use Rattle.cjc_fixpoint.specs.Edges.{contains_head, contains_tail}
+use Rattle.cjc_fixpoint.specs.Working.Edges.{contains_head, contains_tail}
 use Rattle.cjc_fixpoint.specs.Tables.{HasRow, Covers, IsClosed}
 use Rattle.cjc_types.specs.declared.cell.Cell.{Cell}
 use Rattle.cjc_types.specs.declared.cell.Cell.TheVariants.{Number, Refs, Unusable}
@@ -20,14 +20,14 @@ use Rattle.cjc_types.specs.declared.state.Stack.{Stack}
 use Rattle.cjc_types.specs.declared.state.Stack.TheVariants.{Cells, Clash}
 use Rattle.cjc_types.specs.declared.state.State.{State}
 use Rattle.cjc_types.specs.Names.{In, IsBefore, IsSet, IsWithin}
-use Rattle.cjc_types.specs.NameLaws.{insert_cases, length_within}
+use Rattle.cjc_types.specs.Working.NameLaws.{insert_cases, length_within}
 use Rattle.cjc_types.specs.Cells.{most_names, refs, IsNameSet, IsCell, IsCellBelow}
 use Rattle.cjc_types.specs.States.{most_cells, IsStack, IsStackBelow, states}
 use Rattle.cjc_types.specs.Types.{held, with_held, elements, element_of, as_reference}
 use Rattle.cjc_types.specs.Steps.{operand, takes, gives, local_value, stack_behind, stack_after, stored, locals_after, after, shuffled}
-use Rattle.cjc_types.specs.StepLaws.{AreBelow}
+use Rattle.cjc_types.specs.Working.StepLaws.{AreBelow}
 use Rattle.cjc_types.specs.Flow.{Body, arguments, entry, place_at, successors, edge, covers, caught_type, caught, handler_edge, place_edges, type_flow}
-use Rattle.cjc_types.specs.FlowLaws.{type_laws}
+use Rattle.cjc_types.specs.Working.FlowLaws.{type_laws}
 use Rattle.cjc_types.specs.Tables.{IsLeastTable}
 use Rattle.cjc_types.specs.Among.{IsAmong, AreAmong, IsStackAmong, IsStateAmong, HasNames}
 

@@ -21,7 +21,7 @@ use Rattle.cjc_types.specs.Cells.{IsCellBelow}
 use Rattle.cjc_types.specs.States.{states, IsStackBelow}
 use Rattle.cjc_types.specs.Types.{parts}
 use Rattle.cjc_types.specs.Steps.{operand, takes, stack_behind}
-use Rattle.cjc_types.specs.StepLaws.{AreBelow, operand_up, behind_up}
+use Rattle.cjc_types.specs.Working.StepLaws.{AreBelow, operand_up, behind_up}
 use Rattle.cjc_types.specs.Flow.{Body, type_flow}
 use Rattle.cjc_types.specs.Rules.{is_number, is_reference, all_types, is_of, is_value, is_array_for, tests_references, is_load_operand, is_store_operand, is_field_operand, is_argument, receiver_class, throwable, accepts, has_wrong, has_wrong_local, is_wrong_return, is_wrong, is_off, Breaks, clash, wrong, off}
 use Rattle.cjc_types.specs.Tables.{IsLeastTable, Breach}

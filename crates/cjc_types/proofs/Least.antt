@@ -22,7 +22,7 @@ use Rattle.cjc_types.specs.declared.table.Frame.{Frame}
 use Rattle.cjc_types.specs.declared.table.TypeTable.{TypeTable}
 use Rattle.cjc_types.specs.Flow.{Body, body_of, type_flow}
 use Rattle.cjc_types.specs.Search.{first_from, frames_of}
-use Rattle.cjc_types.specs.StateLaws.{same_state}
+use Rattle.cjc_types.specs.Working.StateLaws.{same_state}
 use Rattle.cjc_types.specs.Tables.{state_of, states_of, IsLeastTable, IsMethodOf, Breach, FirstBreach, IsTypeTable, IsRefusedBy, IsRefused, Answers}
 use Rattle.cjc_types.proofs.Answering.{first_breach, unbroken_rows, states-frames}
 

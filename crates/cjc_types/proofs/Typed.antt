@@ -8,7 +8,7 @@ use Rattle.cjc_classfile.specs.declared.tree.Catch.{Catch}
 use Rattle.cjc_code.specs.declared.insn.JInsn.{JInsn}
 use Rattle.cjc_code.specs.declared.insn.JOp.{JOp}
 use Rattle.cjc_fixpoint.specs.declared.flow.Edge.{Edge}
-use Rattle.cjc_fixpoint.specs.Edges.{contains_head, contains_tail, contains_cons}
+use Rattle.cjc_fixpoint.specs.Working.Edges.{contains_head, contains_tail, contains_cons}
 use Rattle.cjc_fixpoint.specs.Tables.{HasRow}
 use Rattle.cjc_world.specs.Classes.{Class}
 use Rattle.cjc_types.specs.declared.cell.Cell.{Cell}

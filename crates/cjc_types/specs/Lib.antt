@@ -1,15 +1,10 @@
 pub mod Names
-pub mod NameLaws
+pub mod Working
 pub mod Cells
-pub mod CellLaws
 pub mod States
-pub mod StateLaws
 pub mod Types
-pub mod TypeLaws
 pub mod Steps
-pub mod StepLaws
 pub mod Flow
-pub mod FlowLaws
 pub mod Index
 pub mod Rules
 pub mod Tables

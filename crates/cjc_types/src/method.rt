@@ -229,7 +229,7 @@ impl<'a> Method<'a> {
 
 impl Flow for Method<'_> {
     ghost use Rattle.cjc_types.specs.Flow.{type_flow};
-    ghost use Rattle.cjc_types.specs.FlowLaws.{type_laws};
+    ghost use Rattle.cjc_types.specs.Working.FlowLaws.{type_laws};
 
     type State = State;
 

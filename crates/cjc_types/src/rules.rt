@@ -4,7 +4,7 @@ ghost use Rattle.std.specs.Prelude.{◌≡◌, ◌+◌, ◌<◌, ◌≤◌, ◌|
 ghost use Rattle.std.specs.List.{list_all};
 ghost use Rattle.cjc_world.specs.Classes.{all_classes};
 ghost use Rattle.cjc_world.specs.Subtype.{is_subtype, starts};
-ghost use Rattle.cjc_world.specs.Known.{class_of};
+ghost use Rattle.cjc_world.specs.Working.Known.{class_of};
 ghost use Rattle.cjc_types.specs.Steps.{operand};
 ghost use Rattle.cjc_types.specs.Types.{parts};
 ghost use Rattle.cjc_types.specs.Rules.{is_number as is_number_cell, is_reference as is_reference_cell, all_types, is_of as is_of_class, is_value as is_value_by, is_array_by as is_array_of, is_array_for as is_array_loaded, names_private as names_private_method, is_private_in, is_super_call as is_called_by_super, receiver_class as class_of_receiver, is_argument as is_argument_at, tests_references as tests_references_by, is_load_operand as is_operand_of_load, is_store_operand as is_operand_of_store, is_field_operand as is_operand_of_field, accepts as accepts_cell, has_wrong, has_wrong_local as is_local_wrong, returns as returns_kind, is_wrong_return as is_return_wrong, is_wrong as is_stack_wrong, is_off as is_stack_off, first_rule as first_broken};

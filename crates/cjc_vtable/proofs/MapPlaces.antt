@@ -7,7 +7,7 @@ use Rattle.std.specs.Prelude.{true, false, Some, slice_get, option_to_list}
 use Rattle.cjc_world.specs.Classes.{Class}
 use Rattle.cjc_world.specs.Interfaces.{each_once, gathered, known}
 use Rattle.cjc_world.specs.Kin.{kin}
-use Rattle.cjc_world.specs.Places.{at_places}
+use Rattle.cjc_world.specs.Working.Places.{at_places}
 use Rattle.cjc_tokens.specs.Members.{Signature}
 use Rattle.cjc_tokens.specs.Methods.{interfaces_at, interface_methods}
 use Rattle.cjc_tokens.specs.Slots.{Slots, token}

@@ -3,8 +3,8 @@
 ghost use Rattle.std.specs.Prelude.{◌≡◌, ◌++◌, Bool, false, map, option_map, option_to_list, slice_get, IfOk, OnOk, Some};
 ghost use Rattle.cjc_world.specs.Classes.{all_classes, is_interface};
 ghost use Rattle.cjc_world.specs.Interfaces.{known};
-ghost use Rattle.cjc_world.specs.Known.{class_of};
-ghost use Rattle.cjc_world.specs.Places.{at_places};
+ghost use Rattle.cjc_world.specs.Working.Known.{class_of};
+ghost use Rattle.cjc_world.specs.Working.Places.{at_places};
 ghost use Rattle.cjc_tokens.specs.Lines.{line_at};
 ghost use Rattle.cjc_tokens.specs.Methods.{interfaces_at};
 ghost use Rattle.cjc_tokens.specs.Slots.{slots};

@@ -2,7 +2,7 @@
 
 ghost use Rattle.std.specs.Prelude.{◌≡◌, false, map, option_map, slice_get, IfOk, Some};
 ghost use Rattle.cjc_world.specs.Classes.{all_classes, class_at};
-ghost use Rattle.cjc_world.specs.Known.{class_of};
+ghost use Rattle.cjc_world.specs.Working.Known.{class_of};
 ghost use Rattle.cjc_tokens.specs.Members.{signature_of};
 ghost use Rattle.cjc_tokens.specs.Working.{signature_in, signs};
 ghost use Rattle.cjc_vtable.specs.Naming.{ids_at, method_named, named, named_where, signature_by};

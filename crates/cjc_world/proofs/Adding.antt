@@ -14,10 +14,10 @@ use Rattle.cjc_world.specs.Classes.{Member, Class, class_named, declared, all_cl
 use Rattle.cjc_world.specs.Kin.{Kin, IsKin, ends, unknown_here, known_here, kin, upwards}
 use Rattle.cjc_world.specs.Interfaces.{where_listed, gathered, known}
 use Rattle.cjc_world.specs.Lookup.{is_called}
-use Rattle.cjc_world.specs.Places.{place_named, places_of, is_in, joined}
-use Rattle.cjc_world.specs.Tables.{in_field_order, told, IsTable, row_at, pieces, above_at, is_row, is_ready_at, is_ready, AreRight}
+use Rattle.cjc_world.specs.Working.Places.{place_named, places_of, is_in, joined}
+use Rattle.cjc_world.specs.Working.Tables.{in_field_order, told, IsTable, row_at, pieces, above_at, is_row, is_ready_at, is_ready, AreRight}
 use Rattle.cjc_world.specs.Added.{takes_added, declares_open, own_methods, methods_of, asked_by, is_one_of, has_open, lacking, added, named_by, added_to, added_at}
-use Rattle.cjc_world.specs.Asked.{is_asked_of, is_asked_at, is_open_of, is_open_at, is_had, has_id, got_one, got, methods_of_option, got_all}
+use Rattle.cjc_world.specs.Working.Asked.{is_asked_of, is_asked_at, is_open_of, is_open_at, is_had, has_id, got_one, got, methods_of_option, got_all}
 use Rattle.cjc_world.proofs.Settled.{bytes-refl, kin-IsKin, IsKin-one, kin-known}
 use Rattle.cjc_world.proofs.Cycles.{class_named-name}
 use Rattle.cjc_world.proofs.Rising.{known-append}

@@ -10,7 +10,7 @@ use Rattle.cjc_bytes.specs.declared.fault.MemberId.{MemberId}
 use Rattle.cjc_world.specs.Classes.{Member, Class}
 use Rattle.cjc_world.specs.Lookup.{is_called}
 use Rattle.cjc_world.specs.Added.{with_token, by_token, without_initialiser, own_methods, is_one_of}
-use Rattle.cjc_world.specs.Asked.{unless_initialiser, positioned, asked, asked_from, IsNamed, got_one, got, methods_of_option, got_all}
+use Rattle.cjc_world.specs.Working.Asked.{unless_initialiser, positioned, asked, asked_from, IsNamed, got_one, got, methods_of_option, got_all}
 
 without-append : (xs ys : List Member) → without_initialiser (xs ++ ys) ≡ without_initialiser xs ++ without_initialiser ys
 without-append [] ys = refl

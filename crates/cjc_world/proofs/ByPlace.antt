@@ -4,9 +4,9 @@ use Rattle.std.specs.Prelude.{All, IfSome, Option, Some, None, option_map, optio
 use Rattle.std.specs.Str.{bytes_eq}
 use Rattle.cjc_world.specs.Classes.{Class, class_named}
 use Rattle.cjc_world.specs.declared.class.Known.{Known}
-use Rattle.cjc_world.specs.Known.{class_of}
-use Rattle.cjc_world.specs.Spots.{IsCounted}
-use Rattle.cjc_world.specs.Places.{place_named, places_of, at_places}
+use Rattle.cjc_world.specs.Working.Known.{class_of}
+use Rattle.cjc_world.specs.Working.Spots.{IsCounted}
+use Rattle.cjc_world.specs.Working.Places.{place_named, places_of, at_places}
 
 pub place-class : (w : List Class) (x : List ℕ) (p : ℕ) → place_named w x ≡ Some p → (c : Class) × (slice_get w p ≡ Some c) × (class_named w x ≡ Some c)
 unfolding place_named class_named

@@ -6,8 +6,8 @@ use Rattle.std.proofs.Math.ListN.{set}
 use Rattle.cjc_world.specs.declared.tables.Above.{Above}
 use Rattle.cjc_world.specs.Classes.{Class}
 use Rattle.cjc_world.specs.Kin.{kin, Lists, foremost, after, IsAcyclic}
-use Rattle.cjc_world.specs.Places.{place_named}
-use Rattle.cjc_world.specs.Tables.{told, IsTable, above_at, is_row, is_ready_at, is_ready, are_ready, AreRight, Closer}
+use Rattle.cjc_world.specs.Working.Places.{place_named}
+use Rattle.cjc_world.specs.Working.Tables.{told, IsTable, above_at, is_row, is_ready_at, is_ready, are_ready, AreRight, Closer}
 use Rattle.cjc_world.proofs.Settled.{Settles, nothing, something, every_settles, lists-front, lists-behind, kin-IsKin, IsKin-one}
 use Rattle.cjc_world.proofs.Cycles.{above-class}
 use Rattle.cjc_world.proofs.ByPlace.{place-class, class-place}

@@ -12,7 +12,7 @@ use Rattle.cjc_world.specs.Files.{Files}
 use Rattle.cjc_world.specs.Classes.{Class, class_named, declared, imported, all_classes}
 use Rattle.cjc_world.specs.Kin.{IsAcyclic, stands_above}
 use Rattle.cjc_world.specs.Added.{added, added_at, named_by}
-use Rattle.cjc_world.specs.Drafts.{AreTables}
+use Rattle.cjc_world.specs.Working.Drafts.{AreTables}
 use Rattle.cjc_world.specs.Rules.{is_own_super, has_cycle, is_desc_missing, gets_missing}
 use Rattle.cjc_world.proofs.Cycles.{class_named-name, above-class, stands_where_above}
 use Rattle.cjc_world.proofs.Indexing.{got_some}

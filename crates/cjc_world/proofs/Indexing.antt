@@ -12,7 +12,7 @@ use Rattle.cjc_export.specs.declared.tree.ExportClass.{ExportClass}
 use Rattle.cjc_export.specs.declared.tree.ExportTree.{ExportTree}
 use Rattle.cjc_world.specs.declared.spot.Spot.{Spot}
 use Rattle.cjc_world.specs.Classes.{Class, field_of_class, method_of_class, field_of_export, method_of_export, declared, imported, of_class_file, numbered, of_export_file, size, classes_from}
-use Rattle.cjc_world.specs.Spots.{at, stood, spots_from, IsCounted, Grows, IsIndexed}
+use Rattle.cjc_world.specs.Working.Spots.{at, stood, spots_from, IsCounted, Grows, IsIndexed}
 
 all_none : All IsCounted []
 all_none k d l = absurd (omega arith)

@@ -7,7 +7,7 @@ use Rattle.std.proofs.lemmas.Grind.{common_steps}
 use Rattle.std.proofs.lemmas.List.Folds.{list_any-append}
 use Rattle.std.proofs.lemmas.Bool.Decides.{nat_tests}
 use Rattle.cjc_world.specs.declared.found.Found.{Found}
-use Rattle.cjc_world.specs.Places.{is_in, joined, first_place}
+use Rattle.cjc_world.specs.Working.Places.{is_in, joined, first_place}
 use Rattle.cjc_world.specs.Lookup.{or_else}
 
 pub or-false : (b : Bool) → (b || false) ≡ b

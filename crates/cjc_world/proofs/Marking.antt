@@ -2,8 +2,8 @@
 use Rattle.std.proofs.Common.{◌≡◌, ℕ, zero, suc, ◌<◌, ◌≤◌, refl, sym, ap, ◌∙◌, arith, Bool, true, false, List, [], ◌∷◌, ◌++◌, length, slice_set, ⊎_elim}
 use Rattle.std.specs.Prelude.{◌||◌, ◌==◌, Some, slice_get}
 use Rattle.std.proofs.lemmas.Bool.Decides.{nat_tests}
-use Rattle.cjc_world.specs.Places.{is_in}
-use Rattle.cjc_world.specs.Tables.{AreMarked}
+use Rattle.cjc_world.specs.Working.Places.{is_in}
+use Rattle.cjc_world.specs.Working.Tables.{AreMarked}
 use Rattle.cjc_world.proofs.Joined.{in-append, or-false, same-refl}
 use Rattle.cjc_world.proofs.Filling.{same_or}
 

@@ -8,7 +8,7 @@ use Rattle.cjc_world.specs.declared.spot.Spot.{Spot}
 use Rattle.cjc_classfile.specs.declared.tree.ClassTree.{ClassTree}
 use Rattle.cjc_export.specs.declared.tree.ExportTree.{ExportTree}
 use Rattle.cjc_world.specs.Classes.{Class, class_named}
-use Rattle.cjc_world.specs.Spots.{at, stood, IsCounted}
+use Rattle.cjc_world.specs.Working.Spots.{at, stood, IsCounted}
 
 module _ (classes : List ClassTree) (exports : List ExportTree) (ss : List Spot) (i : ℕ) (d : Spot) (within : i < length ss) where
   pub stood_next : (o : Option Class) → at classes exports (get_or ss i d) ≡ o → stood classes exports (drop i ss) ≡ option_to_list o ++ stood classes exports (drop (i + 1) ss)

@@ -9,9 +9,9 @@ use Rattle.cjc_classfile.specs.declared.tree.ClassTree.{ClassTree}
 use Rattle.cjc_export.specs.declared.tree.ExportTree.{ExportTree}
 use Rattle.cjc_world.specs.declared.spot.Spot.{Spot}
 use Rattle.cjc_world.specs.Classes.{Class}
-use Rattle.cjc_world.specs.Names.{is_named, spot_named}
-use Rattle.cjc_world.specs.Places.{place_named}
-use Rattle.cjc_world.specs.Spots.{at, stood}
+use Rattle.cjc_world.specs.Working.Names.{is_named, spot_named}
+use Rattle.cjc_world.specs.Working.Places.{place_named}
+use Rattle.cjc_world.specs.Working.Spots.{at, stood}
 use Rattle.cjc_world.proofs.Settled.{bytes-true, bytes-refl}
 
 bytes-flip : (x y : List ℕ) → bytes_eq x y ≡ bytes_eq y x

@@ -8,8 +8,8 @@ use Rattle.cjc_world.specs.declared.tables.Order.TheVariants as orders
 use Rattle.cjc_world.specs.Classes.{Class, class_named}
 use Rattle.cjc_world.specs.Kin.{Kin, IsKin, ends, unknown_here, known_here, kin, upwards, is_one_named, once}
 use Rattle.cjc_world.specs.Interfaces.{Interface, where_listed, gathered, is_among, each_once, known}
-use Rattle.cjc_world.specs.Places.{place_named, places_of, at_places, is_in, joined}
-use Rattle.cjc_world.specs.Tables.{IsTable, pieces, above_at}
+use Rattle.cjc_world.specs.Working.Places.{place_named, places_of, at_places, is_in, joined}
+use Rattle.cjc_world.specs.Working.Tables.{IsTable, pieces, above_at}
 use Rattle.cjc_world.proofs.Settled.{bytes-true, bytes-refl, kin-IsKin}
 use Rattle.cjc_world.proofs.Cycles.{class_named-name}
 use Rattle.cjc_world.proofs.Rising.{known-append}

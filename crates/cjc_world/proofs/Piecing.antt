@@ -6,8 +6,8 @@ use Rattle.std.proofs.lemmas.Grind.{common_steps}
 use Rattle.cjc_world.specs.declared.tables.Above.{Above}
 use Rattle.cjc_world.specs.declared.tables.Order.{Order}
 use Rattle.cjc_world.specs.Classes.{Class}
-use Rattle.cjc_world.specs.Places.{place_named, joined}
-use Rattle.cjc_world.specs.Tables.{piece, pieces}
+use Rattle.cjc_world.specs.Working.Places.{place_named, joined}
+use Rattle.cjc_world.specs.Working.Tables.{piece, pieces}
 use Rattle.cjc_world.proofs.Joined.{joined-append, joined-nil}
 
 module _ (w : List Class) (order : Order) (listed : Bool) (rows : List (Option Above)) (old now : List ℕ) where

@@ -7,7 +7,7 @@ use Rattle.cjc_world.specs.declared.spot.Spot.{Spot}
 use Rattle.cjc_classfile.specs.declared.tree.ClassTree.{ClassTree}
 use Rattle.cjc_export.specs.declared.tree.ExportTree.{ExportTree}
 use Rattle.cjc_world.specs.Classes.{Class, class_at, is_at}
-use Rattle.cjc_world.specs.Spots.{at, stood, IsCounted}
+use Rattle.cjc_world.specs.Working.Spots.{at, stood, IsCounted}
 use Rattle.cjc_world.proofs.Named.{stood_next}
 
 module _ (classes : List ClassTree) (exports : List ExportTree) (ss : List Spot) (i : ℕ) (d : Spot) (within : i < length ss) (imported : Bool) (number : ℕ) where

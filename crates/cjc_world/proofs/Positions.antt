@@ -7,7 +7,7 @@ use Rattle.cjc_classfile.specs.declared.tree.MethodTree.{MethodTree}
 use Rattle.cjc_export.specs.declared.tree.ExportClass.{ExportClass}
 use Rattle.cjc_export.specs.declared.tree.ExportMethod.{ExportMethod}
 use Rattle.cjc_world.specs.Classes.{Member, method_of_class, method_of_export, declared, imported}
-use Rattle.cjc_world.specs.Asked.{IsNamed, positioned}
+use Rattle.cjc_world.specs.Working.Asked.{IsNamed, positioned}
 
 get-map : {A B : Type 0} (f : A → B) (xs : List A) (k : ℕ) → slice_get (map f xs) k ≡ option_map f (slice_get xs k)
 get-map f [] k = refl

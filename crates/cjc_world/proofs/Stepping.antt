@@ -9,8 +9,8 @@ use Rattle.std.proofs.lemmas.Option.{slice_get_within}
 use Rattle.cjc_world.specs.Classes.{Class, class_named}
 use Rattle.cjc_world.specs.Kin.{End, known_as, grown, kin, upwards, line, is_below, stands, above_of, stands_above}
 use Rattle.cjc_world.specs.Rules.{throwable}
-use Rattle.cjc_world.specs.Places.{place_named, has_name}
-use Rattle.cjc_world.specs.Steps.{standing, name_stands_at, name_stands, any_stands, class_stands, IsStep, IsBegun, IsDone}
+use Rattle.cjc_world.specs.Working.Places.{place_named, has_name}
+use Rattle.cjc_world.specs.Working.Steps.{standing, name_stands_at, name_stands, any_stands, class_stands, IsStep, IsBegun, IsDone}
 use Rattle.cjc_world.proofs.Rising.{stands-row, stands-empty, stands-unknown, stands-known, stands_of_both, below-row, below-empty, below-unknown, below-known}
 use Rattle.cjc_world.proofs.Cycles.{class_named-name}
 use Rattle.cjc_world.proofs.ByPlace.{place-class, place-none}

@@ -9,8 +9,8 @@ use Rattle.cjc_world.specs.declared.tables.Order.TheVariants as orders
 use Rattle.cjc_world.specs.Classes.{Class, class_named}
 use Rattle.cjc_world.specs.Kin.{Kin, End, Unknown, Known, IsKin, ends, unknown_here, known_here, Lists, foremost, after, Above as IsAbove, directly, onwards, upwards}
 use Rattle.cjc_world.specs.Interfaces.{Interface, where_listed, gathered, known}
-use Rattle.cjc_world.specs.Places.{place_named, places_of, joined}
-use Rattle.cjc_world.specs.Tables.{in_field_order, told, row_at, piece, pieces, above_at, is_row, is_ready_at, is_ready, are_ready, AreRight}
+use Rattle.cjc_world.specs.Working.Places.{place_named, places_of, joined}
+use Rattle.cjc_world.specs.Working.Tables.{in_field_order, told, row_at, piece, pieces, above_at, is_row, is_ready_at, is_ready, are_ready, AreRight}
 use Rattle.cjc_world.proofs.Settled.{IsKin-one}
 use Rattle.cjc_world.proofs.Cycles.{class_named-name}
 use Rattle.cjc_world.proofs.Rising.{known-append}

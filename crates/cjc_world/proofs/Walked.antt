@@ -14,8 +14,8 @@ use Rattle.cjc_world.specs.Kin.{Kin, End, Unknown, Known, IsKin, ends, unknown_h
 use Rattle.cjc_world.specs.Interfaces.{gathered, known}
 use Rattle.cjc_world.specs.Lookup.{or_else, first, own_field, field_in, find_field, own_method}
 use Rattle.cjc_world.specs.Subtype.{is_subclass}
-use Rattle.cjc_world.specs.Places.{place_named, places_of, joined, first_place, field_of, method_of, has_name, names, names_of}
-use Rattle.cjc_world.specs.Tables.{in_field_order, told, IsTable, row_at}
+use Rattle.cjc_world.specs.Working.Places.{place_named, places_of, joined, first_place, field_of, method_of, has_name, names, names_of}
+use Rattle.cjc_world.specs.Working.Tables.{in_field_order, told, IsTable, row_at}
 use Rattle.cjc_world.proofs.Settled.{kin-IsKin, kin-known}
 use Rattle.cjc_world.proofs.Cycles.{class_named-name}
 use Rattle.cjc_world.proofs.Rising.{first-append}

@@ -4,10 +4,10 @@ ghost use Rattle.std.specs.Prelude.{◌≡◌, ◌<◌, ◌&&◌, ℕ, IfOk, OnO
 ghost use Rattle.std.specs.List.{list_any};
 ghost use Rattle.std.specs.Str.{bytes_eq};
 ghost use Rattle.cjc_world.specs.Added.{added, added_at, is_one_of, named_by, own_methods};
-ghost use Rattle.cjc_world.specs.Asked.{got, got_all, got_one, has_id, is_asked_at, is_had, is_open_at};
+ghost use Rattle.cjc_world.specs.Working.Asked.{got, got_all, got_one, has_id, is_asked_at, is_had, is_open_at};
 ghost use Rattle.cjc_world.specs.Classes.{all_classes};
-ghost use Rattle.cjc_world.specs.Known.{class_of};
-ghost use Rattle.cjc_world.specs.Tables.{IsTable};
+ghost use Rattle.cjc_world.specs.Working.Known.{class_of};
+ghost use Rattle.cjc_world.specs.Working.Tables.{IsTable};
 
 use crate::class::Known;
 use crate::roster::Roster;

@@ -2,7 +2,7 @@
 
 ghost use Rattle.std.specs.Prelude.{◌≡◌, ◌⊎◌, ◌++◌, ◌∷◌, IfOk};
 ghost use Rattle.cjc_bytes.specs.declared.fault.Fault.TheVariants as faults;
-ghost use Rattle.cjc_world.specs.Broken.{refusal_of, text_of};
+ghost use Rattle.cjc_world.specs.Working.Broken.{refusal_of, text_of};
 
 use cjc_bytes::{Bytes, Fault, NoMemory, Place, Refusal, Rule};
 use std::alloc::Global;

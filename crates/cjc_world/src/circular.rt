@@ -5,9 +5,9 @@ ghost use Rattle.std.specs.Prelude.{◌≡◌, ◌||◌, false, true, ℕ, List,
 ghost use Rattle.cjc_world.specs.Classes.{all_classes};
 ghost use Rattle.cjc_world.specs.Kin.{is_below, stands_above};
 ghost use Rattle.cjc_world.specs.Rules.{throwable};
-ghost use Rattle.cjc_world.specs.Known.{class_of};
-ghost use Rattle.cjc_world.specs.Places.{has_name, place_named};
-ghost use Rattle.cjc_world.specs.Steps.{any_stands, AreCycles, class_stands, IsBegun, IsDone, IsStep, name_stands, name_stands_at};
+ghost use Rattle.cjc_world.specs.Working.Known.{class_of};
+ghost use Rattle.cjc_world.specs.Working.Places.{has_name, place_named};
+ghost use Rattle.cjc_world.specs.Working.Steps.{any_stands, AreCycles, class_stands, IsBegun, IsDone, IsStep, name_stands, name_stands_at};
 
 use crate::class::Known;
 use crate::roster::Roster;

@@ -5,11 +5,11 @@ ghost use Rattle.std.specs.Str.{bytes_eq};
 ghost use Rattle.std.specs.List.{find, list_any};
 ghost use Rattle.cjc_world.specs.Classes.{Member, has, is_interface};
 ghost use Rattle.cjc_world.specs.Added.{declares_open, is_open, takes_added};
-ghost use Rattle.cjc_world.specs.Asked.{IsNamed, asked, positioned};
+ghost use Rattle.cjc_world.specs.Working.Asked.{IsNamed, asked, positioned};
 ghost use Rattle.cjc_classfile.specs.declared.tree.MethodTree.{MethodTree as ClassMethod};
 ghost use Rattle.cjc_export.specs.declared.tree.ExportMethod.{ExportMethod as ImportedMethod};
 ghost use Rattle.cjc_world.specs.Rules.{members};
-ghost use Rattle.cjc_world.specs.Known.{class_of};
+ghost use Rattle.cjc_world.specs.Working.Known.{class_of};
 ghost use Rattle.cjc_world.specs.Lookup.{is_called, is_selectable, is_wanted, member_at, own_field, own_method};
 
 use crate::found::Found;

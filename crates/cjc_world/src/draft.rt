@@ -40,7 +40,7 @@ pub(crate) struct Draft<'a> {
 
 impl<'a> Model for Draft<'a> {
     ghost use Rattle.cjc_world.specs.Files.{Files};
-    ghost use Rattle.cjc_world.specs.Drafts.{IsKept};
+    ghost use Rattle.cjc_world.specs.Working.Drafts.{IsKept};
 
     ghost Value = { Files };
 

@@ -6,11 +6,11 @@ ghost use Rattle.std.specs.Str.{bytes_eq};
 ghost use Rattle.cjc_world.specs.Classes.{all_classes};
 ghost use Rattle.cjc_world.specs.Interfaces.{gathered, known};
 ghost use Rattle.cjc_world.specs.Kin.{is_below, kin, line};
-ghost use Rattle.cjc_world.specs.Known.{class_of};
+ghost use Rattle.cjc_world.specs.Working.Known.{class_of};
 ghost use Rattle.cjc_world.specs.Lookup.{find_field, find_method, first, own_method};
 ghost use Rattle.cjc_world.specs.Subtype.{is_subclass};
-ghost use Rattle.cjc_world.specs.Tables.{IsTable};
-ghost use Rattle.cjc_world.specs.Places.{field_of, first_place, has_name, method_of, names, names_of};
+ghost use Rattle.cjc_world.specs.Working.Tables.{IsTable};
+ghost use Rattle.cjc_world.specs.Working.Places.{field_of, first_place, has_name, method_of, names, names_of};
 
 use crate::class::Known;
 use crate::found::Found;

@@ -2,7 +2,7 @@
 
 ghost use Rattle.std.specs.Prelude.{◌≡◌, ◌<◌, ◌^◌, ℕ, List, length, IfOk, OnOk, cond};
 ghost use Rattle.std.specs.Str.{bytes_eq};
-ghost use Rattle.cjc_world.specs.Names.{place_in, spot_named};
+ghost use Rattle.cjc_world.specs.Working.Names.{place_in, spot_named};
 
 use crate::spot::{Spot, known};
 use cjc_bytes::NoMemory;

@@ -3,14 +3,14 @@
 
 ghost use Rattle.std.specs.Prelude.{◌≡◌, suc, [], ◌∷◌, length, slice_get, false, option_map, IfSome, IfOk};
 ghost use Rattle.cjc_world.specs.Classes.{all_classes, class_at, class_named, is_at};
-ghost use Rattle.cjc_world.specs.Places.{place_named};
+ghost use Rattle.cjc_world.specs.Working.Places.{place_named};
 ghost use Rattle.cjc_world.specs.Kin.{grown, is_below, kin, upwards, stands, stands_above};
 ghost use Rattle.cjc_world.specs.Files.{files_of};
 ghost use Rattle.std.specs.List.{list_any};
 ghost use Rattle.std.specs.Str.{bytes_eq};
 ghost use Rattle.cjc_world.specs.Interfaces.{gathered, known};
-ghost use Rattle.cjc_world.specs.Known.{class_of};
-ghost use Rattle.cjc_world.specs.Spots.{at, IsCounted, IsIndexed};
+ghost use Rattle.cjc_world.specs.Working.Known.{class_of};
+ghost use Rattle.cjc_world.specs.Working.Spots.{at, IsCounted, IsIndexed};
 ghost use Rattle.cjc_world.specs.Subtype.{is_subclass};
 ghost use Rattle.cjc_world.specs.Lookup.{first, own_field, own_method, field_in};
 
@@ -37,7 +37,7 @@ pub(crate) struct Roster<'a> {
 
 impl<'a> Model for Roster<'a> {
     ghost use Rattle.cjc_world.specs.Files.{Files};
-    ghost use Rattle.cjc_world.specs.Names.{IsRoster};
+    ghost use Rattle.cjc_world.specs.Working.Names.{IsRoster};
 
     ghost Value = { Files };
 

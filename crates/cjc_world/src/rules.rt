@@ -2,13 +2,13 @@
 //! the first that is met, since files, classes and members are walked in the order of refusals.
 
 ghost use Rattle.std.specs.Prelude.{◌≡◌, ◌<◌, ◌^◌, ◌+◌, ◌||◌, IfOk, length, slice_get, [], ◌∷◌, ◌++◌, not, option_map};
-ghost use Rattle.cjc_world.specs.Broken.{break_of, member_of, text_of};
+ghost use Rattle.cjc_world.specs.Working.Broken.{break_of, member_of, text_of};
 ghost use Rattle.std.specs.List.{list_any, list_all};
 ghost use Rattle.std.specs.Str.{bytes_eq};
 ghost use Rattle.cjc_world.specs.Classes.{all_classes, class_named, is_interface, numbered};
-ghost use Rattle.cjc_world.specs.Drafts.{IsHeld};
+ghost use Rattle.cjc_world.specs.Working.Drafts.{IsHeld};
 ghost use Rattle.cjc_world.specs.Kin.{is_below, stands_above};
-ghost use Rattle.cjc_world.specs.Known.{class_of};
+ghost use Rattle.cjc_world.specs.Working.Known.{class_of};
 ghost use Rattle.cjc_world.specs.Lookup.{object};
 ghost use Rattle.cjc_world.specs.Rules.{breaks, breaks_from, class_breaks, class_file_breaks, classes_breaks, export_file_breaks, is_second_package, class_rules, is_earlier, member_rules, members, members_before, members_from, told, gets_missing, has_array_exceptions, has_class, has_exception, has_language, has_needed, has_other_exceptions, has_roots, head, is_class_of, is_desc_missing, is_element_missing, is_interface_of, is_missing, is_of_class_file, is_of_package, is_part, is_part_byte, is_second, is_slash_part, is_type_missing, lists_missing, lists_wrong, same_place, throwable};
 

@@ -4,8 +4,8 @@ ghost use Rattle.std.specs.Prelude.{◌≡◌, ◌<◌, ◌^◌, ◌+◌, ◌++�
 ghost use Rattle.cjc_classfile.specs.declared.tree.ClassTree.{ClassTree as ClassFile};
 ghost use Rattle.cjc_export.specs.declared.tree.ExportTree.{ExportTree as ExportFile};
 ghost use Rattle.cjc_world.specs.Classes.{size, numbered, of_class_file, of_export_file};
-ghost use Rattle.cjc_world.specs.Known.{class_of};
-ghost use Rattle.cjc_world.specs.Spots.{at, Grows, IsCounted, IsIndexed, spots_from};
+ghost use Rattle.cjc_world.specs.Working.Known.{class_of};
+ghost use Rattle.cjc_world.specs.Working.Spots.{at, Grows, IsCounted, IsIndexed, spots_from};
 
 use crate::class::Known;
 use cjc_bytes::{FileLine, NoMemory, Row};

@@ -5,9 +5,9 @@ ghost use Rattle.std.specs.List.{list_all};
 ghost use Rattle.cjc_world.specs.Classes.{all_classes};
 ghost use Rattle.cjc_world.specs.Kin.{IsAcyclic};
 ghost use Rattle.cjc_world.specs.declared.tables.Order.TheVariants as orders;
-ghost use Rattle.cjc_world.specs.Known.{class_of};
-ghost use Rattle.cjc_world.specs.Places.{is_in, joined};
-ghost use Rattle.cjc_world.specs.Tables.{above_at, are_ready, Closer, is_ready, is_ready_at, is_row, IsTable, piece, pieces, row_at, row_in};
+ghost use Rattle.cjc_world.specs.Working.Known.{class_of};
+ghost use Rattle.cjc_world.specs.Working.Places.{is_in, joined};
+ghost use Rattle.cjc_world.specs.Working.Tables.{above_at, are_ready, Closer, is_ready, is_ready_at, is_row, IsTable, piece, pieces, row_at, row_in};
 
 use crate::class::Known;
 use crate::roster::Roster;
@@ -65,7 +65,7 @@ struct Places {
 
 impl Model for Places {
     ghost use Rattle.std.specs.Prelude.{ℕ, List};
-    ghost use Rattle.cjc_world.specs.Tables.{AreMarked};
+    ghost use Rattle.cjc_world.specs.Working.Tables.{AreMarked};
 
     ghost Value = { List ℕ };
 

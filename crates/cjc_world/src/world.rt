@@ -8,11 +8,11 @@ ghost use Rattle.cjc_world.specs.Added.{added_at};
 ghost use Rattle.cjc_world.specs.Exported.{is_exported, is_imported, is_shareable};
 ghost use Rattle.cjc_world.specs.Kin.{IsAcyclic, is_below, kin, once, upwards};
 ghost use Rattle.cjc_world.specs.Interfaces.{each_once, gathered, known};
-ghost use Rattle.cjc_world.specs.Known.{class_of};
-ghost use Rattle.cjc_world.specs.Places.{at_places};
-ghost use Rattle.cjc_world.specs.Spots.{IsCounted};
+ghost use Rattle.cjc_world.specs.Working.Known.{class_of};
+ghost use Rattle.cjc_world.specs.Working.Places.{at_places};
+ghost use Rattle.cjc_world.specs.Working.Spots.{IsCounted};
 ghost use Rattle.cjc_world.specs.Subtype.{element, inner, is_element, is_subclass, is_subtype, starts};
-ghost use Rattle.cjc_world.specs.Tables.{IsTable};
+ghost use Rattle.cjc_world.specs.Working.Tables.{IsTable};
 ghost use Rattle.cjc_world.specs.Lookup.{find_field, find_method, receiver, selected};
 
 use crate::class::{Known, has};
@@ -39,7 +39,7 @@ pub struct World<'a> {
 
 impl<'a> Model for World<'a> {
     ghost use Rattle.cjc_world.specs.Files.{Files};
-    ghost use Rattle.cjc_world.specs.Drafts.{AreTables};
+    ghost use Rattle.cjc_world.specs.Working.Drafts.{AreTables};
 
     ghost Value = { Files };
 

@@ -1,7 +1,7 @@
 use Rattle.std.proofs.Common.{◌≡◌, List, ℕ, sym, subst, ◌∙◌}
 use Rattle.std.specs.Prelude.{OnOk}
 use Rattle.cjc_world.specs.Classes.{all_classes}
-use Rattle.cjc_world.specs.Known.{class_of}
+use Rattle.cjc_world.specs.Working.Known.{class_of}
 use Rattle.cjc_subset.specs.Limits.{noted}
 use Rattle.cjc_subset.proofs.Noted.{listed_of_above, listed_of_other}
 use Rattle.cjc_subset.proofs.interfaces.note_above.Goals as goal

@@ -1,7 +1,7 @@
 use Rattle.std.proofs.Common.{◌≡◌, drop}
 use Rattle.std.specs.Prelude.{◌&&◌}
 use Rattle.std.specs.List.{list_any}
-use Rattle.cjc_world.specs.Known.{class_of}
+use Rattle.cjc_world.specs.Working.Known.{class_of}
 use Rattle.cjc_world.specs.Lookup.{is_called}
 use Rattle.cjc_subset.specs.Overriding.{changes_kind, is_of_other_kind}
 use Rattle.cjc_subset.proofs.overriding.changes_kind.Given as goal

@@ -1,7 +1,7 @@
 use Rattle.std.proofs.Common.{◌<◌, ◌≤◌, [], sym, subst, ◌∙◌}
 use Rattle.std.specs.Prelude.{◌&&◌}
 use Rattle.cjc_world.specs.Classes.{Member}
-use Rattle.cjc_world.specs.Known.{class_of}
+use Rattle.cjc_world.specs.Working.Known.{class_of}
 use Rattle.cjc_world.specs.Lookup.{is_called}
 use Rattle.cjc_subset.specs.Overriding.{is_out_of_sight}
 use Rattle.cjc_subset.proofs.Any.{any_here, any_on, any_end}

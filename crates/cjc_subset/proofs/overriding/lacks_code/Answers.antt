@@ -2,7 +2,7 @@ use Rattle.std.proofs.Common.{◌<◌, ◌≤◌, [], sym, ap, subst, ◌∙◌}
 use Rattle.std.specs.Prelude.{◌&&◌, not}
 use Rattle.std.specs.List.{list_any}
 use Rattle.cjc_world.specs.Classes.{Member, all_classes}
-use Rattle.cjc_world.specs.Known.{class_of}
+use Rattle.cjc_world.specs.Working.Known.{class_of}
 use Rattle.cjc_subset.specs.Overriding.{has_no_code}
 use Rattle.cjc_subset.proofs.Any.{any_here, any_on, any_end}
 use Rattle.cjc_subset.proofs.overriding.lacks_code.Goals as goal

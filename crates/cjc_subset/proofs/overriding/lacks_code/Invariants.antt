@@ -1,7 +1,7 @@
 use Rattle.std.proofs.Common.{◌≡◌, drop}
 use Rattle.std.specs.List.{list_any}
 use Rattle.cjc_world.specs.Classes.{all_classes}
-use Rattle.cjc_world.specs.Known.{class_of}
+use Rattle.cjc_world.specs.Working.Known.{class_of}
 use Rattle.cjc_subset.specs.Overriding.{has_no_code}
 use Rattle.cjc_subset.proofs.overriding.lacks_code.Given as goal
 

@@ -1,6 +1,6 @@
 use Rattle.std.proofs.Common.{◌≡◌, take}
 use Rattle.std.specs.Prelude.{option_map}
-use Rattle.cjc_world.specs.Known.{class_of}
+use Rattle.cjc_world.specs.Working.Known.{class_of}
 use Rattle.cjc_subset.specs.Breaks.{break_of, spot_of}
 use Rattle.cjc_subset.specs.Overriding.{method_against}
 use Rattle.cjc_subset.specs.Places.{FilePlace, IsFirstOf, at_class, each}

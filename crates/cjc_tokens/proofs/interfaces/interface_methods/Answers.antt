@@ -1,6 +1,6 @@
 use Rattle.std.proofs.Common.{ap}
 use Rattle.cjc_world.specs.Classes.{all_classes}
-use Rattle.cjc_world.specs.Known.{class_of}
+use Rattle.cjc_world.specs.Working.Known.{class_of}
 use Rattle.cjc_tokens.specs.Working.{signs}
 use Rattle.cjc_tokens.proofs.Asked.{methods-are}
 use Rattle.cjc_tokens.proofs.interfaces.interface_methods.Goals as goal

@@ -1,7 +1,7 @@
 use Rattle.std.proofs.Common.{◌≡◌, drop, map}
 use Rattle.cjc_world.specs.Added.{methods_of}
 use Rattle.cjc_world.specs.Classes.{all_classes}
-use Rattle.cjc_world.specs.Places.{at_places}
+use Rattle.cjc_world.specs.Working.Places.{at_places}
 use Rattle.cjc_tokens.specs.Members.{signature_of}
 use Rattle.cjc_tokens.specs.Slots.{with_new}
 use Rattle.cjc_tokens.specs.Working.{signs}

@@ -2,7 +2,7 @@ use Rattle.std.proofs.Common.{◌≡◌, ◌∙◌, Some, ap, sym, map, subst, [
 use Rattle.cjc_world.specs.Kin.{kin, once, upwards}
 use Rattle.std.proofs.lemmas.Result.{IfOk-weaker}
 use Rattle.cjc_world.specs.Classes.{all_classes, class_named, declared}
-use Rattle.cjc_world.specs.Known.{class_of}
+use Rattle.cjc_world.specs.Working.Known.{class_of}
 use Rattle.cjc_tokens.specs.Lines.{Imported}
 use Rattle.cjc_tokens.specs.Working.{AreRowsOf}
 use Rattle.cjc_tokens.proofs.Once.{rows-once}

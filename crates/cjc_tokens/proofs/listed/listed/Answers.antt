@@ -1,5 +1,5 @@
 use Rattle.std.proofs.Common.{map}
-use Rattle.cjc_world.specs.Known.{class_of}
+use Rattle.cjc_world.specs.Working.Known.{class_of}
 use Rattle.cjc_tokens.specs.Members.{all_methods}
 use Rattle.cjc_tokens.specs.Slots.{listed_slots}
 use Rattle.cjc_tokens.specs.Working.{signs}

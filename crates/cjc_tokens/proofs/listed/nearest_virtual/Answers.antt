@@ -1,5 +1,5 @@
 use Rattle.std.proofs.Common.{◌≡◌, arith, Some, None}
-use Rattle.cjc_world.specs.Known.{class_of}
+use Rattle.cjc_world.specs.Working.Known.{class_of}
 use Rattle.cjc_tokens.specs.Members.{is_virtual}
 use Rattle.cjc_tokens.specs.Slots.{own}
 use Rattle.cjc_tokens.proofs.Walks.{first-found, first-passed, first-ended}

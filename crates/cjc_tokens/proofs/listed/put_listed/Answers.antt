@@ -1,5 +1,5 @@
 use Rattle.std.proofs.Common.{arith, length, ◌≤◌, ◌<◌}
-use Rattle.cjc_world.specs.Known.{class_of}
+use Rattle.cjc_world.specs.Working.Known.{class_of}
 use Rattle.cjc_tokens.specs.Slots.{listed_slots}
 use Rattle.cjc_tokens.specs.Working.{overlay, signs}
 use Rattle.cjc_tokens.proofs.Overlays.{listed-next, listed-end, member-there}

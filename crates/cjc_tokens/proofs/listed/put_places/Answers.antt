@@ -1,8 +1,8 @@
 use Rattle.std.proofs.Common.{◌+◌, ◌∙◌, ◌++◌, [], ◌∷◌, drop, map, sym, ap, append-nil}
 use Rattle.std.specs.Prelude.{Some, None}
 use Rattle.cjc_world.specs.Classes.{all_classes}
-use Rattle.cjc_world.specs.Known.{class_of}
-use Rattle.cjc_world.specs.Places.{at_places}
+use Rattle.cjc_world.specs.Working.Known.{class_of}
+use Rattle.cjc_world.specs.Working.Places.{at_places}
 use Rattle.cjc_tokens.proofs.Offers.{map_append}
 use Rattle.cjc_tokens.proofs.Once.{put-at, put-past}
 use Rattle.cjc_tokens.proofs.listed.put_places.Goals as goal

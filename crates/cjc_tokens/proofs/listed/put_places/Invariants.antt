@@ -1,7 +1,7 @@
 use Rattle.std.proofs.Common.{◌≡◌, ◌++◌, drop, map}
 use Rattle.cjc_world.specs.Classes.{all_classes}
-use Rattle.cjc_world.specs.Known.{class_of}
-use Rattle.cjc_world.specs.Places.{at_places}
+use Rattle.cjc_world.specs.Working.Known.{class_of}
+use Rattle.cjc_world.specs.Working.Places.{at_places}
 use Rattle.cjc_tokens.proofs.listed.put_places.Given as goal
 
 abbrev pub invariant-loop-place : goal.invariant-loop-place

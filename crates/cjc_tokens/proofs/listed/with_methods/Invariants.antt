@@ -1,5 +1,5 @@
 use Rattle.std.proofs.Common.{◌≡◌, take, map}
-use Rattle.cjc_world.specs.Known.{class_of}
+use Rattle.cjc_world.specs.Working.Known.{class_of}
 use Rattle.cjc_world.specs.Lookup.{first}
 use Rattle.cjc_tokens.specs.Members.{is_virtual}
 use Rattle.cjc_tokens.specs.Slots.{meant_by, own}

@@ -1,7 +1,7 @@
 use Rattle.std.proofs.Common.{◌∙◌, ◌++◌, [], ◌∷◌, map, ap}
 use Rattle.cjc_world.specs.Classes.{all_classes}
-use Rattle.cjc_world.specs.Known.{class_of}
-use Rattle.cjc_world.specs.Places.{at_places}
+use Rattle.cjc_world.specs.Working.Known.{class_of}
+use Rattle.cjc_world.specs.Working.Places.{at_places}
 use Rattle.cjc_tokens.proofs.listed.with_supers.Goals as goal
 
 pub returns : goal.returns

@@ -1,5 +1,5 @@
 use Rattle.cjc_types.specs.Flow.{Body}
-use Rattle.cjc_types.specs.FlowLaws.{type_flow_stays}
+use Rattle.cjc_types.specs.Working.FlowLaws.{type_flow_stays}
 use Rattle.cjc_types.proofs.inference.infer_code.Goals as goal
 
 pub solve-requires : goal.solve-requires

@@ -1,4 +1,4 @@
-use Rattle.cjc_types.specs.FlowLaws as laws
+use Rattle.cjc_types.specs.Working.FlowLaws as laws
 use Rattle.cjc_types.proofs.laws.flow_laws.Goals as goal
 
 pub returns-clause-lawful : goal.returns-clause-lawful

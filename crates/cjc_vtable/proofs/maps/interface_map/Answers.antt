@@ -1,6 +1,6 @@
 use Rattle.std.proofs.Common.{◌∙◌, ap, map}
 use Rattle.cjc_world.specs.Classes.{all_classes}
-use Rattle.cjc_world.specs.Known.{class_of}
+use Rattle.cjc_world.specs.Working.Known.{class_of}
 use Rattle.cjc_tokens.specs.Working.{signs}
 use Rattle.cjc_vtable.specs.Naming.{index_of}
 use Rattle.cjc_vtable.proofs.MapPlaces.{map-is}

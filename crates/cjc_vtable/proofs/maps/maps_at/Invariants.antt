@@ -1,6 +1,6 @@
 use Rattle.std.proofs.Common.{◌≡◌, ◌++◌, drop, map}
 use Rattle.cjc_world.specs.Classes.{all_classes}
-use Rattle.cjc_world.specs.Places.{at_places}
+use Rattle.cjc_world.specs.Working.Places.{at_places}
 use Rattle.cjc_tokens.specs.Working.{signs}
 use Rattle.cjc_vtable.specs.Tables.{interface_map}
 use Rattle.cjc_vtable.proofs.maps.maps_at.Given as goal

@@ -1,7 +1,7 @@
 use Rattle.std.proofs.Common.{◌≡◌, ◌∙◌, ap, sym, subst, map, false, Some}
 use Rattle.std.specs.Prelude.{option_map, IfOk}
 use Rattle.cjc_world.specs.Classes.{all_classes, class_at, declared}
-use Rattle.cjc_world.specs.Known.{class_of}
+use Rattle.cjc_world.specs.Working.Known.{class_of}
 use Rattle.cjc_tokens.specs.Tokens.{public_methods_of}
 use Rattle.cjc_tokens.specs.Working.{signs}
 use Rattle.cjc_vtable.specs.Naming.{named_where}

@@ -1,7 +1,7 @@
 use Rattle.std.proofs.Common.{◌≡◌, ◌∙◌, ◌-◌, ◌<◌, ◌≤◌, ap, sym, length, arith, Some}
 use Rattle.std.specs.Prelude.{option_map}
 use Rattle.cjc_world.specs.Classes.{all_classes, class_at}
-use Rattle.cjc_world.specs.Known.{class_of}
+use Rattle.cjc_world.specs.Working.Known.{class_of}
 use Rattle.cjc_tokens.specs.Working.{signature_in}
 use Rattle.cjc_vtable.specs.Naming.{method_named}
 use Rattle.cjc_vtable.proofs.SlotNames.{named-in, named-nowhere, named-field, named-method}

@@ -1,7 +1,7 @@
 use Rattle.std.proofs.Common.{◌≡◌, ◌-◌, arith, length, sym, ap, ◌∙◌}
 use Rattle.cjc_world.specs.Added.{is_one_of}
-use Rattle.cjc_world.specs.Asked.{asked_from}
-use Rattle.cjc_world.specs.Known.{class_of}
+use Rattle.cjc_world.specs.Working.Asked.{asked_from}
+use Rattle.cjc_world.specs.Working.Known.{class_of}
 use Rattle.cjc_world.proofs.Asking.{asked-own, asked-none, asked-other, asked-same, asked-end}
 use Rattle.cjc_world.proofs.added.has_asked.Goals as goal
 use Rattle.cjc_world.proofs.added.has_asked.Goals.{in-Some+else-is_called, in_default}

@@ -1,7 +1,7 @@
 use Rattle.std.proofs.Common.{◌≡◌, ◌-◌}
 use Rattle.cjc_world.specs.Added.{is_one_of, own_methods}
-use Rattle.cjc_world.specs.Asked.{asked_from}
-use Rattle.cjc_world.specs.Known.{class_of}
+use Rattle.cjc_world.specs.Working.Asked.{asked_from}
+use Rattle.cjc_world.specs.Working.Known.{class_of}
 use Rattle.cjc_world.proofs.added.has_asked.Given as goal
 
 abbrev pub invariant-loop-position : goal.invariant-loop-position

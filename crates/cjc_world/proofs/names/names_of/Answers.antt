@@ -2,8 +2,8 @@ use Rattle.std.proofs.Common.{◌≡◌, cond, ℕ, List, ◌+◌, take, ap, sym
 use Rattle.std.specs.Prelude.{option_map, Some}
 use Rattle.std.specs.Str.{bytes_eq}
 use Rattle.cjc_world.specs.declared.names.Names.{Names}
-use Rattle.cjc_world.specs.Known.{class_of}
-use Rattle.cjc_world.specs.Names.{place_in, spot_named}
+use Rattle.cjc_world.specs.Working.Known.{class_of}
+use Rattle.cjc_world.specs.Working.Names.{place_in, spot_named}
 use Rattle.cjc_world.proofs.Noted.{none_noted, old_noted, new_noted}
 use Rattle.cjc_world.proofs.names.names_of.Goals as goal
 use Rattle.cjc_world.proofs.names.names_of.Goals.{in-Some+in-Some-get, in-Some+in-None+in_ok-note-in-None, in_default}

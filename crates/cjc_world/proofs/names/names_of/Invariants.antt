@@ -1,5 +1,5 @@
 use Rattle.std.proofs.Common.{◌≡◌, ℕ, List, take}
-use Rattle.cjc_world.specs.Names.{place_in, spot_named}
+use Rattle.cjc_world.specs.Working.Names.{place_in, spot_named}
 use Rattle.cjc_world.proofs.names.names_of.Given as goal
 
 abbrev pub invariant-loop-place : goal.invariant-loop-place

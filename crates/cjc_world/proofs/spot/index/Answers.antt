@@ -1,7 +1,7 @@
 use Rattle.std.proofs.Common.{◌≡◌, sym, subst, ◌∙◌, ◌<◌, ◌^◌, ◌+◌, length}
 use Rattle.std.specs.Prelude.{slice_get}
 use Rattle.cjc_world.specs.Classes.{size}
-use Rattle.cjc_world.specs.Spots.{IsIndexed}
+use Rattle.cjc_world.specs.Working.Spots.{IsIndexed}
 use Rattle.cjc_world.proofs.Indexing.{Indexing, indexing_starts, indexing_class, indexing_export, indexing_ends}
 use Rattle.cjc_world.proofs.spot.index.Goals as goal
 use Rattle.cjc_world.proofs.spot.index.Goals.{then-line+in_ok-put_class+in_ok-class_files, else-line+in_ok-put_export+in_ok-imports+in_ok-export_files}

@@ -1,6 +1,6 @@
 use Rattle.std.proofs.Common.{[], ◌∷◌, sym, subst}
 use Rattle.cjc_world.specs.Classes.{declared, of_class_file}
-use Rattle.cjc_world.specs.Spots.{Grows}
+use Rattle.cjc_world.specs.Working.Spots.{Grows}
 use Rattle.cjc_world.proofs.Indexing.{got_some, got_none, grows_not, grows_class}
 use Rattle.cjc_world.proofs.spot.put_class.Goals as goal
 

@@ -1,5 +1,5 @@
 use Rattle.std.proofs.Common.{◌+◌, ◌-◌, ◌++◌, ap, ◌∙◌}
-use Rattle.cjc_world.specs.Spots.{spots_from}
+use Rattle.cjc_world.specs.Working.Spots.{spots_from}
 use Rattle.cjc_world.proofs.Indexing.{spots_step, spots_end}
 use Rattle.cjc_world.proofs.spot.put_each.Goals as goal
 

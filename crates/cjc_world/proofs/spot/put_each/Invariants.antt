@@ -1,5 +1,5 @@
 use Rattle.std.proofs.Common.{◌≡◌, ◌-◌, ◌++◌}
-use Rattle.cjc_world.specs.Spots.{spots_from}
+use Rattle.cjc_world.specs.Working.Spots.{spots_from}
 use Rattle.cjc_world.proofs.spot.put_each.Given as goal
 
 abbrev pub invariant-loop-class : goal.invariant-loop-class

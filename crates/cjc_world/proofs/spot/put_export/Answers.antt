@@ -1,7 +1,7 @@
 use Rattle.std.proofs.Common.{ℕ, length, ◌++◌, sym, ap, subst, ◌∙◌}
 use Rattle.std.specs.Prelude.{All}
 use Rattle.cjc_world.specs.Classes.{numbered, of_export_file}
-use Rattle.cjc_world.specs.Spots.{Grows, IsCounted, spots_from}
+use Rattle.cjc_world.specs.Working.Spots.{Grows, IsCounted, spots_from}
 use Rattle.cjc_world.proofs.Indexing.{got_some, got_none, grows_not, grows_export}
 use Rattle.cjc_world.proofs.spot.put_export.Goals as goal
 

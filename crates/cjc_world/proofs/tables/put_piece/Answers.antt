@@ -1,7 +1,7 @@
 use Rattle.std.proofs.Common.{[], ◌∷◌, ◌++◌, sym, ap, ◌∙◌}
 use Rattle.std.specs.Prelude.{slice_get, if◌then◌else◌}
-use Rattle.cjc_world.specs.Places.{joined}
-use Rattle.cjc_world.specs.Tables.{piece, row_at}
+use Rattle.cjc_world.specs.Working.Places.{joined}
+use Rattle.cjc_world.specs.Working.Tables.{piece, row_at}
 use Rattle.cjc_world.proofs.Joined.{joined-append, joined-nil}
 use Rattle.cjc_world.proofs.tables.put_piece.Goals as goal
 

@@ -3,7 +3,7 @@ use Rattle.std.specs.Prelude.{◌&&◌}
 use Rattle.std.specs.List.{list_any}
 use Rattle.cjc_world.specs.Classes.{Member, method_of_class, method_of_export}
 use Rattle.cjc_world.specs.Added.{is_open}
-use Rattle.cjc_world.specs.Known.{class_of}
+use Rattle.cjc_world.specs.Working.Known.{class_of}
 use Rattle.cjc_world.specs.Lookup.{is_called}
 use Rattle.cjc_world.proofs.Mapped.{any_of_map}
 use Rattle.cjc_world.proofs.class.Known.declares_open.Goals as goal

@@ -1,7 +1,7 @@
 use Rattle.std.proofs.Common.{sym, ap, ◌∙◌}
 use Rattle.std.specs.Prelude.{position}
 use Rattle.cjc_world.specs.Classes.{Member, field_of_class, field_of_export}
-use Rattle.cjc_world.specs.Known.{class_of}
+use Rattle.cjc_world.specs.Working.Known.{class_of}
 use Rattle.cjc_world.specs.Lookup.{is_called}
 use Rattle.cjc_world.proofs.Places.{position_of_map}
 use Rattle.cjc_world.proofs.class.Known.field_place.Goals as goal

@@ -3,8 +3,8 @@ use Rattle.std.specs.Prelude.{◌==◌, MatchOption, None, Some, slice_get}
 use Rattle.std.specs.List.{find}
 use Rattle.cjc_classfile.specs.declared.tree.MethodTree.{MethodTree}
 use Rattle.cjc_export.specs.declared.tree.ExportMethod.{ExportMethod}
-use Rattle.cjc_world.specs.Asked.{IsNamed, positioned}
-use Rattle.cjc_world.specs.Known.{class_of}
+use Rattle.cjc_world.specs.Working.Asked.{IsNamed, positioned}
+use Rattle.cjc_world.specs.Working.Known.{class_of}
 use Rattle.cjc_world.proofs.Positions.{declared_at, imported_at}
 use Rattle.cjc_world.proofs.class.Known.positioned.Goals as goal
 

@@ -1,8 +1,8 @@
 use Rattle.std.proofs.Common.{ℕ, true, false, ◌++◌, sym, ap, ◌∙◌}
 use Rattle.std.specs.Prelude.{Some, map, option_map}
-use Rattle.cjc_world.specs.Broken.{break_of}
+use Rattle.cjc_world.specs.Working.Broken.{break_of}
 use Rattle.cjc_world.specs.Classes.{all_classes}
-use Rattle.cjc_world.specs.Known.{class_of}
+use Rattle.cjc_world.specs.Working.Known.{class_of}
 use Rattle.cjc_world.specs.Rules.{at_class, class_breaks, class_rules, members_from}
 use Rattle.cjc_world.proofs.Heads.{head_some, head_none, head_of_map}
 use Rattle.cjc_world.proofs.draft.Draft.class_break.Goals as goal

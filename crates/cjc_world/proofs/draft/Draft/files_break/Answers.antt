@@ -1,6 +1,6 @@
 use Rattle.std.proofs.Common.{◌≡◌, ◌<◌, ◌≤◌, ◌+◌, length, get_or, sym, ap, subst, ◌∙◌}
 use Rattle.std.specs.Prelude.{None, option_map, slice_get}
-use Rattle.cjc_world.specs.Broken.{break_of}
+use Rattle.cjc_world.specs.Working.Broken.{break_of}
 use Rattle.cjc_world.specs.Classes.{all_classes, size}
 use Rattle.cjc_world.specs.Rules.{export_file_breaks, head}
 use Rattle.cjc_world.proofs.Heads.{class_line_breaks, class_line_keeps, export_line_breaks, export_line_keeps, lines_end}

@@ -1,6 +1,6 @@
 use Rattle.std.proofs.Common.{inl, inr, ⊎_elim, sym, ap, ◌∙◌}
 use Rattle.std.specs.Prelude.{option_map}
-use Rattle.cjc_world.specs.Broken.{break_of}
+use Rattle.cjc_world.specs.Working.Broken.{break_of}
 use Rattle.cjc_world.specs.Rules.{breaks}
 use Rattle.cjc_world.proofs.Sorted.{first_is_first}
 use Rattle.cjc_world.proofs.Heads.{head_empty}

@@ -3,9 +3,9 @@ use Rattle.std.specs.List.{list_any}
 use Rattle.std.proofs.lemmas.Option.{slice_get_within}
 use Rattle.cjc_world.specs.declared.class.Known.TheVariants as kinds
 use Rattle.cjc_world.specs.Classes.{all_classes}
-use Rattle.cjc_world.specs.Drafts.{AreTables, IsHeld}
+use Rattle.cjc_world.specs.Working.Drafts.{AreTables, IsHeld}
 use Rattle.cjc_world.specs.Kin.{IsAcyclic}
-use Rattle.cjc_world.specs.Known.{class_of}
+use Rattle.cjc_world.specs.Working.Known.{class_of}
 use Rattle.cjc_world.specs.Rules.{is_desc_missing, gets_missing}
 use Rattle.cjc_world.proofs.Gets.{gets-declared, gets-imported, gets-cyclic}
 use Rattle.cjc_world.proofs.draft.Draft.gets_missing.Goals as goal

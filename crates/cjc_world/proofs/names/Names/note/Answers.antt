@@ -1,7 +1,7 @@
 use Rattle.std.proofs.Common.{ap, cond, ◌∙◌}
 use Rattle.std.specs.Prelude.{Some}
 use Rattle.std.specs.Str.{bytes_eq}
-use Rattle.cjc_world.specs.Names.{place_in}
+use Rattle.cjc_world.specs.Working.Names.{place_in}
 use Rattle.cjc_world.proofs.Noted.{noted}
 use Rattle.cjc_world.proofs.names.Names.note.Goals as goal
 

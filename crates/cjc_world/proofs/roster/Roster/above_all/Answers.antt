@@ -2,7 +2,7 @@ use Rattle.std.proofs.Common.{◌≡◌, true, sym, ap, subst, arith, ◌∙◌}
 use Rattle.std.specs.Prelude.{is_some, slice_get}
 use Rattle.std.specs.List.{list_all}
 use Rattle.cjc_world.specs.Classes.{all_classes}
-use Rattle.cjc_world.specs.Tables.{IsTable, is_row}
+use Rattle.cjc_world.specs.Working.Tables.{IsTable, is_row}
 use Rattle.cjc_world.proofs.Filling.{closer-still, reached-none, reached-next, filled, unfilled}
 use Rattle.cjc_world.proofs.roster.Roster.above_all.Goals as goal
 

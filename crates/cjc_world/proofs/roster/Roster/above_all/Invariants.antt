@@ -1,6 +1,6 @@
 use Rattle.std.proofs.Common.{◌≡◌, length}
 use Rattle.cjc_world.specs.Classes.{all_classes}
-use Rattle.cjc_world.specs.Tables.{AreRight}
+use Rattle.cjc_world.specs.Working.Tables.{AreRight}
 use Rattle.cjc_world.proofs.Filling.{Reached}
 use Rattle.cjc_world.proofs.roster.Roster.above_all.Given as goal
 

@@ -1,8 +1,8 @@
 use Rattle.std.proofs.Common.{ℕ, List, Bool, [], sym, ap, ◌∙◌}
-use Rattle.cjc_world.specs.Asked.{got_all, is_had}
+use Rattle.cjc_world.specs.Working.Asked.{got_all, is_had}
 use Rattle.cjc_world.specs.Classes.{all_classes}
-use Rattle.cjc_world.specs.Tables.{above_at}
-use Rattle.cjc_world.specs.Known.{class_of}
+use Rattle.cjc_world.specs.Working.Tables.{above_at}
+use Rattle.cjc_world.specs.Working.Known.{class_of}
 use Rattle.cjc_world.proofs.Adding.{gets-added, gets-none}
 use Rattle.cjc_world.proofs.roster.Roster.added_row.Goals as goal
 use Rattle.cjc_world.proofs.roster.Roster.added_row.Goals.{then-takes_added+in_ok-interfaces+in_ok-line+in_ok-get_all, else-takes_added}

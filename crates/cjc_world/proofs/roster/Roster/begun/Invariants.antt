@@ -1,7 +1,7 @@
 use Rattle.std.proofs.Common.{◌≡◌, ◌<◌, ℕ, length}
 use Rattle.std.specs.Prelude.{Some, slice_get}
 use Rattle.cjc_world.specs.Classes.{all_classes}
-use Rattle.cjc_world.specs.Places.{has_name}
+use Rattle.cjc_world.specs.Working.Places.{has_name}
 use Rattle.cjc_world.proofs.roster.Roster.begun.Given as goal
 
 abbrev pub invariant-loop-place : goal.invariant-loop-place

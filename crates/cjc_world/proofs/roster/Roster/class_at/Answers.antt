@@ -1,7 +1,7 @@
 use Rattle.std.proofs.Common.{sym, ap, ◌∙◌}
 use Rattle.std.specs.Prelude.{option_map}
 use Rattle.cjc_world.specs.Classes.{all_classes, class_at}
-use Rattle.cjc_world.specs.Known.{class_of}
+use Rattle.cjc_world.specs.Working.Known.{class_of}
 use Rattle.cjc_world.proofs.Placed.{placed_here, placed_on, placed_over, placed_end, placed_counted}
 use Rattle.cjc_world.proofs.roster.Roster.class_at.Goals as goal
 use Rattle.cjc_world.proofs.roster.Roster.class_at.Goals.{in-Some+else-is_at, in_default}

@@ -1,6 +1,6 @@
 use Rattle.std.proofs.Common.{◌≡◌, drop}
 use Rattle.cjc_world.specs.Classes.{all_classes, class_at}
-use Rattle.cjc_world.specs.Spots.{stood}
+use Rattle.cjc_world.specs.Working.Spots.{stood}
 use Rattle.cjc_world.proofs.roster.Roster.class_at.Given as goal
 
 abbrev pub invariant-loop-spot : goal.invariant-loop-spot

@@ -1,7 +1,7 @@
 use Rattle.std.proofs.Common.{length, sym, ap, subst, ◌≤◌, ◌∙◌}
 use Rattle.std.specs.Prelude.{option_map, slice_get}
 use Rattle.cjc_world.specs.Classes.{all_classes}
-use Rattle.cjc_world.specs.Known.{class_of}
+use Rattle.cjc_world.specs.Working.Known.{class_of}
 use Rattle.cjc_world.proofs.Indexing.{got_some, got_none}
 use Rattle.cjc_world.proofs.ByPlace.{placed-counted}
 use Rattle.cjc_world.proofs.Noted.{spot-class}

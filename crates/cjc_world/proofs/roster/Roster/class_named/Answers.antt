@@ -1,7 +1,7 @@
 use Rattle.std.proofs.Common.{sym, ap, ◌∙◌}
 use Rattle.std.specs.Prelude.{option_map}
 use Rattle.cjc_world.specs.Classes.{all_classes}
-use Rattle.cjc_world.specs.Known.{class_of}
+use Rattle.cjc_world.specs.Working.Known.{class_of}
 use Rattle.cjc_world.proofs.ByPlace.{place-class, place-none}
 use Rattle.cjc_world.proofs.roster.Roster.class_named.Goals as goal
 

@@ -2,7 +2,7 @@ use Rattle.std.proofs.Common.{◌≡◌, ◌<◌, ℕ, List, length}
 use Rattle.std.specs.Prelude.{Some, slice_get}
 use Rattle.cjc_world.specs.Classes.{all_classes}
 use Rattle.cjc_world.specs.Kin.{stands_above}
-use Rattle.cjc_world.specs.Places.{place_named}
+use Rattle.cjc_world.specs.Working.Places.{place_named}
 use Rattle.cjc_world.proofs.roster.Roster.cycles.Given as goal
 
 abbrev pub invariant-loop-place : goal.invariant-loop-place

@@ -1,6 +1,6 @@
 use Rattle.std.specs.Prelude.{slice_get}
 use Rattle.cjc_world.specs.Classes.{all_classes}
-use Rattle.cjc_world.specs.Places.{field_of}
+use Rattle.cjc_world.specs.Working.Places.{field_of}
 use Rattle.cjc_world.proofs.Walked.{first-here, first-on, first-end}
 use Rattle.cjc_world.proofs.roster.Roster.first_field.Goals as goal
 

@@ -1,7 +1,7 @@
 use Rattle.std.proofs.Common.{◌≡◌, drop}
 use Rattle.std.specs.Prelude.{slice_get}
 use Rattle.cjc_world.specs.Classes.{all_classes}
-use Rattle.cjc_world.specs.Places.{field_of, first_place}
+use Rattle.cjc_world.specs.Working.Places.{field_of, first_place}
 use Rattle.cjc_world.proofs.roster.Roster.first_field.Given as goal
 
 abbrev pub invariant-loop-place : goal.invariant-loop-place

@@ -1,7 +1,7 @@
 use Rattle.std.proofs.Common.{ℕ, List, Bool, ◌+◌, drop, sym, ap, ◌∙◌}
-use Rattle.cjc_world.specs.Asked.{got_all, is_had}
+use Rattle.cjc_world.specs.Working.Asked.{got_all, is_had}
 use Rattle.cjc_world.specs.Classes.{all_classes}
-use Rattle.cjc_world.specs.Known.{class_of}
+use Rattle.cjc_world.specs.Working.Known.{class_of}
 use Rattle.cjc_world.proofs.Asking.{all-some, all-none, all-end}
 use Rattle.cjc_world.proofs.roster.Roster.get_all.Goals as goal
 use Rattle.cjc_world.proofs.roster.Roster.get_all.Goals.{in-Some+in_ok-get_methods, in_default}

@@ -1,7 +1,7 @@
 use Rattle.std.proofs.Common.{◌≡◌, drop}
-use Rattle.cjc_world.specs.Asked.{got_all, is_had}
+use Rattle.cjc_world.specs.Working.Asked.{got_all, is_had}
 use Rattle.cjc_world.specs.Classes.{all_classes}
-use Rattle.cjc_world.specs.Known.{class_of}
+use Rattle.cjc_world.specs.Working.Known.{class_of}
 use Rattle.cjc_world.proofs.roster.Roster.get_all.Given as goal
 
 abbrev pub invariant-loop-place : goal.invariant-loop-place

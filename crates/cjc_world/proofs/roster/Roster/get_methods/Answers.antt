@@ -1,7 +1,7 @@
 use Rattle.std.proofs.Common.{◌≡◌, ℕ, List, Bool, ◌-◌, ◌+◌, arith, length, ap, ◌∙◌}
-use Rattle.cjc_world.specs.Asked.{asked_from, got, is_had}
+use Rattle.cjc_world.specs.Working.Asked.{asked_from, got, is_had}
 use Rattle.cjc_world.specs.Classes.{all_classes}
-use Rattle.cjc_world.specs.Known.{class_of}
+use Rattle.cjc_world.specs.Working.Known.{class_of}
 use Rattle.cjc_world.proofs.Asking.{asked-own, got-none, got-some, got-end}
 use Rattle.cjc_world.proofs.roster.Roster.get_methods.Goals as goal
 use Rattle.cjc_world.proofs.roster.Roster.get_methods.Goals.{in-Some+in_ok-get_one, in_default}

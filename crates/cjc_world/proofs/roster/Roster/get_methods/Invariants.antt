@@ -1,8 +1,8 @@
 use Rattle.std.proofs.Common.{◌≡◌, ◌-◌}
 use Rattle.cjc_world.specs.Added.{own_methods}
-use Rattle.cjc_world.specs.Asked.{asked_from, got, is_had}
+use Rattle.cjc_world.specs.Working.Asked.{asked_from, got, is_had}
 use Rattle.cjc_world.specs.Classes.{all_classes}
-use Rattle.cjc_world.specs.Known.{class_of}
+use Rattle.cjc_world.specs.Working.Known.{class_of}
 use Rattle.cjc_world.proofs.roster.Roster.get_methods.Given as goal
 
 abbrev pub invariant-loop-position : goal.invariant-loop-position

@@ -1,7 +1,7 @@
 use Rattle.std.proofs.Common.{sym, ap, ◌∙◌}
 use Rattle.std.specs.List.{list_any}
 use Rattle.std.specs.Prelude.{slice_get}
-use Rattle.cjc_world.specs.Places.{has_name}
+use Rattle.cjc_world.specs.Working.Places.{has_name}
 use Rattle.cjc_world.proofs.Walked.{line-has, none-below}
 use Rattle.cjc_world.specs.Classes.{all_classes}
 use Rattle.cjc_world.proofs.roster.Roster.is_below.Goals as goal

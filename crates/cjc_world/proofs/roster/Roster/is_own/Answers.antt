@@ -1,7 +1,7 @@
 use Rattle.std.proofs.Common.{false, sym, ap, subst, ◌||◌, ◌∙◌}
 use Rattle.cjc_world.specs.Classes.{all_classes}
-use Rattle.cjc_world.specs.Known.{class_of}
-use Rattle.cjc_world.specs.Steps.{any_stands, IsDone}
+use Rattle.cjc_world.specs.Working.Known.{class_of}
+use Rattle.cjc_world.specs.Working.Steps.{any_stands, IsDone}
 use Rattle.cjc_world.proofs.Stepping.{own-stands, not-own}
 use Rattle.cjc_world.proofs.roster.Roster.is_own.Goals as goal
 

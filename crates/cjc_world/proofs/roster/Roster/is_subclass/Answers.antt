@@ -1,7 +1,7 @@
 use Rattle.std.proofs.Common.{sym, ap, ◌∙◌}
 use Rattle.std.specs.List.{list_any}
 use Rattle.std.specs.Prelude.{slice_get}
-use Rattle.cjc_world.specs.Places.{names_of}
+use Rattle.cjc_world.specs.Working.Places.{names_of}
 use Rattle.cjc_world.proofs.Walked.{fields-stand, none-stands}
 use Rattle.cjc_world.specs.Classes.{all_classes}
 use Rattle.cjc_world.proofs.roster.Roster.is_subclass.Goals as goal

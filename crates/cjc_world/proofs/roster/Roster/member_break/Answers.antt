@@ -1,8 +1,8 @@
 use Rattle.std.proofs.Common.{◌≡◌, ◌<◌, ◌≤◌, ◌+◌, [], length, get_or, sym, ap, subst, ◌∙◌}
 use Rattle.std.specs.Prelude.{Some}
-use Rattle.cjc_world.specs.Broken.{member_of, text_of}
+use Rattle.cjc_world.specs.Working.Broken.{member_of, text_of}
 use Rattle.cjc_world.specs.Classes.{Member, all_classes}
-use Rattle.cjc_world.specs.Known.{class_of}
+use Rattle.cjc_world.specs.Working.Known.{class_of}
 use Rattle.cjc_world.specs.Rules.{at_member, head, member_rules, members, members_before, told}
 use Rattle.cjc_world.proofs.Heads.{member_breaks, member_keeps, members_end}
 use Rattle.cjc_world.proofs.roster.Roster.member_break.Goals as goal

@@ -1,6 +1,6 @@
 use Rattle.std.proofs.Common.{sym, ap, ◌∙◌}
 use Rattle.std.specs.Prelude.{slice_get}
-use Rattle.cjc_world.specs.Places.{first_place, method_of}
+use Rattle.cjc_world.specs.Working.Places.{first_place, method_of}
 use Rattle.cjc_world.proofs.Walked.{line-finds, none-line}
 use Rattle.cjc_world.specs.Classes.{all_classes}
 use Rattle.cjc_world.proofs.roster.Roster.method_above.Goals as goal

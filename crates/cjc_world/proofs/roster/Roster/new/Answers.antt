@@ -1,7 +1,7 @@
 use Rattle.std.proofs.Common.{length, sym, ap, subst, ◌∙◌}
-use Rattle.cjc_world.specs.Names.{spot_named}
-use Rattle.cjc_world.specs.Places.{place_named}
-use Rattle.cjc_world.specs.Spots.{IsIndexed}
+use Rattle.cjc_world.specs.Working.Names.{spot_named}
+use Rattle.cjc_world.specs.Working.Places.{place_named}
+use Rattle.cjc_world.specs.Working.Spots.{IsIndexed}
 use Rattle.cjc_world.proofs.Noted.{spot-place}
 use Rattle.cjc_world.proofs.roster.Roster.new.Goals as goal
 

@@ -1,5 +1,5 @@
 use Rattle.cjc_world.specs.Classes.{all_classes}
-use Rattle.cjc_world.specs.Tables.{Closer}
+use Rattle.cjc_world.specs.Working.Tables.{Closer}
 use Rattle.cjc_world.proofs.roster.Roster.pass.Given as goal
 
 abbrev pub invariant-loop-place : goal.invariant-loop-place

@@ -1,6 +1,6 @@
 use Rattle.std.proofs.Common.{ap, ◌∙◌}
 use Rattle.cjc_world.specs.Classes.{all_classes}
-use Rattle.cjc_world.specs.Places.{place_named}
+use Rattle.cjc_world.specs.Working.Places.{place_named}
 use Rattle.cjc_world.proofs.roster.Roster.place_named.Goals as goal
 
 pub returns : goal.returns

@@ -1,7 +1,7 @@
 use Rattle.std.proofs.Common.{◌≡◌, drop}
 use Rattle.cjc_world.specs.Classes.{all_classes}
-use Rattle.cjc_world.specs.Places.{joined}
-use Rattle.cjc_world.specs.Tables.{pieces}
+use Rattle.cjc_world.specs.Working.Places.{joined}
+use Rattle.cjc_world.specs.Working.Tables.{pieces}
 use Rattle.cjc_world.proofs.roster.Roster.put_pieces.Given as goal
 
 abbrev pub invariant-loop-name : goal.invariant-loop-name

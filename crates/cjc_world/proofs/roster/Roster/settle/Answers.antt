@@ -2,8 +2,8 @@ use Rattle.std.proofs.Common.{◌+◌, sym, ap, subst, ◌∙◌}
 use Rattle.std.specs.Prelude.{Some}
 use Rattle.std.proofs.Math.ListN.{set}
 use Rattle.cjc_world.specs.Classes.{all_classes}
-use Rattle.cjc_world.specs.Known.{class_of}
-use Rattle.cjc_world.specs.Tables.{Closer, above_at, are_ready}
+use Rattle.cjc_world.specs.Working.Known.{class_of}
+use Rattle.cjc_world.specs.Working.Tables.{Closer, above_at, are_ready}
 use Rattle.cjc_world.proofs.Filling.{closer-set}
 use Rattle.cjc_world.proofs.roster.Roster.settle.Goals as goal
 

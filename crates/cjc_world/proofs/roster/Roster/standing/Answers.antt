@@ -1,6 +1,6 @@
 use Rattle.std.proofs.Common.{◌≡◌, ◌+◌, ◌-◌, suc, length, arith, sym, subst, ◌∙◌}
 use Rattle.cjc_world.specs.Classes.{all_classes}
-use Rattle.cjc_world.specs.Steps.{IsStep}
+use Rattle.cjc_world.specs.Working.Steps.{IsStep}
 use Rattle.cjc_world.proofs.Stepping.{begun-told, step-told, fixed-told, done-told}
 use Rattle.cjc_world.proofs.roster.Roster.standing.Goals as goal
 

@@ -1,7 +1,7 @@
 use Rattle.std.proofs.Common.{[], ◌∷◌, length, length-append, arith, ap, ◌∙◌}
 use Rattle.std.specs.Prelude.{slice_get}
 use Rattle.cjc_world.specs.Classes.{all_classes}
-use Rattle.cjc_world.specs.Steps.{class_stands}
+use Rattle.cjc_world.specs.Working.Steps.{class_stands}
 use Rattle.cjc_world.proofs.Stepping.{made-more}
 use Rattle.cjc_world.proofs.roster.Roster.step.Goals as goal
 

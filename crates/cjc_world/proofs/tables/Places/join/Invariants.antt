@@ -1,5 +1,5 @@
 use Rattle.std.proofs.Common.{◌≡◌, drop}
-use Rattle.cjc_world.specs.Places.{joined}
+use Rattle.cjc_world.specs.Working.Places.{joined}
 use Rattle.cjc_world.proofs.tables.Places.join.Given as goal
 
 abbrev pub invariant-loop-place : goal.invariant-loop-place

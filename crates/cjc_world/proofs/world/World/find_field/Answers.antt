@@ -1,6 +1,6 @@
 use Rattle.std.proofs.Common.{sym, subst}
 use Rattle.cjc_world.specs.Classes.{all_classes}
-use Rattle.cjc_world.specs.Tables.{IsTable}
+use Rattle.cjc_world.specs.Working.Tables.{IsTable}
 use Rattle.cjc_world.proofs.world.World.find_field.Goals as goal
 
 pub find_field-requires : goal.find_field-requires

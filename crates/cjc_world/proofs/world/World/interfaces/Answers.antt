@@ -1,8 +1,8 @@
 use Rattle.std.proofs.Common.{ap, ◌∙◌}
 use Rattle.cjc_world.specs.Classes.{all_classes}
-use Rattle.cjc_world.specs.Known.{class_of}
-use Rattle.cjc_world.specs.Places.{at_places}
-use Rattle.cjc_world.specs.Tables.{above_at}
+use Rattle.cjc_world.specs.Working.Known.{class_of}
+use Rattle.cjc_world.specs.Working.Places.{at_places}
+use Rattle.cjc_world.specs.Working.Tables.{above_at}
 use Rattle.cjc_world.proofs.Once.{interfaces-at}
 use Rattle.cjc_world.proofs.world.World.interfaces.Goals as goal
 

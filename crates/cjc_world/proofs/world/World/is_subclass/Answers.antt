@@ -1,6 +1,6 @@
 use Rattle.std.proofs.Common.{sym, subst}
 use Rattle.cjc_world.specs.Classes.{all_classes}
-use Rattle.cjc_world.specs.Tables.{IsTable}
+use Rattle.cjc_world.specs.Working.Tables.{IsTable}
 use Rattle.cjc_world.proofs.world.World.is_subclass.Goals as goal
 
 pub is_subclass-requires : goal.is_subclass-requires

@@ -1,9 +1,9 @@
 use Rattle.std.proofs.Common.{[], false, ap, ◌∙◌}
 use Rattle.cjc_world.specs.declared.tables.Order.TheVariants as orders
 use Rattle.cjc_world.specs.Classes.{all_classes}
-use Rattle.cjc_world.specs.Known.{class_of}
-use Rattle.cjc_world.specs.Places.{at_places, joined}
-use Rattle.cjc_world.specs.Tables.{pieces}
+use Rattle.cjc_world.specs.Working.Known.{class_of}
+use Rattle.cjc_world.specs.Working.Places.{at_places, joined}
+use Rattle.cjc_world.specs.Working.Tables.{pieces}
 use Rattle.cjc_world.proofs.Once.{superclasses-at}
 use Rattle.cjc_world.proofs.world.World.superclasses.Goals as goal
 

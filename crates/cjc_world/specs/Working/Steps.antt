@@ -5,7 +5,7 @@ use Rattle.std.specs.Str.{bytes_eq}
 use Rattle.cjc_world.specs.declared.circular.Cycles.{Cycles}
 use Rattle.cjc_world.specs.Classes.{Class}
 use Rattle.cjc_world.specs.Kin.{Kin, kin, upwards, stands, stands_above, is_below}
-use Rattle.cjc_world.specs.Places.{place_named, has_name}
+use Rattle.cjc_world.specs.Working.Places.{place_named, has_name}
 use Rattle.cjc_world.specs.Rules.{throwable}
 
 -- whether the name stands in the tree, or is that of a class which is reached by supers alone

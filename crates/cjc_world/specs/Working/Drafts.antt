@@ -6,11 +6,11 @@ use Rattle.cjc_world.specs.declared.circular.Cycles.{Cycles}
 use Rattle.cjc_world.specs.declared.draft.Kept.{Kept}
 use Rattle.cjc_world.specs.declared.draft.Kept.TheVariants as kepts
 use Rattle.cjc_world.specs.declared.draft.Tables.{Tables}
-use Rattle.cjc_world.specs.Steps.{AreCycles}
+use Rattle.cjc_world.specs.Working.Steps.{AreCycles}
 use Rattle.cjc_world.specs.Files.{Files}
 use Rattle.cjc_world.specs.Classes.{all_classes}
 use Rattle.cjc_world.specs.Kin.{IsAcyclic}
-use Rattle.cjc_world.specs.Tables.{IsTable}
+use Rattle.cjc_world.specs.Working.Tables.{IsTable}
 use Rattle.cjc_world.specs.Added.{added_at}
 
 pub record AreTables (files : Files) (t : Tables) : Type 0 where

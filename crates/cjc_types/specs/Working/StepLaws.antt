@@ -14,11 +14,11 @@ use Rattle.cjc_types.specs.declared.state.Stack.{Stack}
 use Rattle.cjc_types.specs.declared.state.Stack.TheVariants.{Cells, Clash}
 use Rattle.cjc_types.specs.declared.state.State.{State}
 use Rattle.cjc_types.specs.Cells.{IsCell, IsCellBelow, cells}
-use Rattle.cjc_types.specs.CellLaws.{below_refl}
+use Rattle.cjc_types.specs.Working.CellLaws.{below_refl}
 use Rattle.cjc_types.specs.States.{IsStack, IsStackBelow, states}
-use Rattle.cjc_types.specs.StateLaws.{own_stack_of, stack_of_up}
+use Rattle.cjc_types.specs.Working.StateLaws.{own_stack_of, stack_of_up}
 use Rattle.cjc_types.specs.Types.{parts, result_of}
-use Rattle.cjc_types.specs.TypeLaws.{own_one, own_null, own_result, own_element, element_up, own_reference, reference_up}
+use Rattle.cjc_types.specs.Working.TypeLaws.{own_one, own_null, own_result, own_element, element_up, own_reference, reference_up}
 use Rattle.cjc_types.specs.Steps.{operand, takes, shuffled, local_value, gives, stack_behind, stack_after, stored, locals_after, after}
 
 -- ---- lists of cells

@@ -12,7 +12,7 @@ use Rattle.cjc_types.specs.declared.state.Stack.{Stack}
 use Rattle.cjc_types.specs.declared.state.Stack.TheVariants.{Cells, Clash}
 use Rattle.cjc_types.specs.declared.state.State.{State}
 use Rattle.cjc_types.specs.Cells.{most_names, IsCell, IsCellBelow, joined_cell, cell_rank, cells}
-use Rattle.cjc_types.specs.CellLaws.{cell_lattice, rank_bounded, same_cell}
+use Rattle.cjc_types.specs.Working.CellLaws.{cell_lattice, rank_bounded, same_cell}
 use Rattle.cjc_types.specs.States.{most_cells, stack_of, IsCellStack, IsStack, IsStackBelow, joined_stack, clash_rank, stack_rank, stacks, states}
 
 lists : (n : ℕ) → IsLattice (lists_of cells n)

@@ -6,7 +6,7 @@ use Rattle.cjc_bytes.specs.declared.fault.MemberId.{MemberId}
 use Rattle.cjc_world.specs.declared.tables.Above.{Above}
 use Rattle.cjc_world.specs.declared.tables.Order.TheVariants as orders
 use Rattle.cjc_world.specs.Classes.{Member, Class}
-use Rattle.cjc_world.specs.Tables.{row_at}
+use Rattle.cjc_world.specs.Working.Tables.{row_at}
 use Rattle.cjc_world.specs.Added.{takes_added, declares_open, own_methods, is_one_of}
 
 abbrev pub unless_initialiser : Option Member → Option Member

@@ -7,9 +7,9 @@ use Rattle.cjc_bytes.specs.declared.names.Kind.TheVariants as kinds
 use Rattle.cjc_types.specs.declared.cell.Cell.{Cell}
 use Rattle.cjc_types.specs.declared.cell.Cell.TheVariants.{Number, Refs, Unusable}
 use Rattle.cjc_types.specs.Names.{In, IsSet, IsWithin}
-use Rattle.cjc_types.specs.NameLaws.{insert_new, insert_old, insert_cases, set_insert}
+use Rattle.cjc_types.specs.Working.NameLaws.{insert_new, insert_old, insert_cases, set_insert}
 use Rattle.cjc_types.specs.Cells.{most_names, refs, IsCell, IsCellBelow}
-use Rattle.cjc_types.specs.CellLaws.{own_refs, refs_up}
+use Rattle.cjc_types.specs.Working.CellLaws.{own_refs, refs_up}
 use Rattle.cjc_types.specs.Types.{cell_of, value_of, is_void, result_of, held, with_held, elements, element_of, as_reference}
 
 one_name : 1 ≤ most_names

@@ -7,7 +7,7 @@ use Rattle.cjc_world.specs.declared.tables.Order.TheVariants as orders
 use Rattle.cjc_world.specs.Classes.{Class}
 use Rattle.cjc_world.specs.Kin.{Kin, End, Unknown, Known, IsKin, IsAcyclic, kin, upwards}
 use Rattle.cjc_world.specs.Interfaces.{gathered, known}
-use Rattle.cjc_world.specs.Places.{place_named, places_of, is_in, joined}
+use Rattle.cjc_world.specs.Working.Places.{place_named, places_of, is_in, joined}
 
 -- The classes in which a field is looked up, in order: each, then those of its interfaces, then those of its supers.
 abbrev pub in_field_order : Kin → List Class

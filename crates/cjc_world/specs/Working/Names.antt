@@ -8,8 +8,8 @@ use Rattle.cjc_export.specs.declared.tree.ExportTree.{ExportTree}
 use Rattle.cjc_world.specs.declared.names.Names.{Names}
 use Rattle.cjc_world.specs.declared.spot.Spot.{Spot}
 use Rattle.cjc_world.specs.Classes.{Class, classes_from}
-use Rattle.cjc_world.specs.Places.{place_named}
-use Rattle.cjc_world.specs.Spots.{at, IsIndexed}
+use Rattle.cjc_world.specs.Working.Places.{place_named}
+use Rattle.cjc_world.specs.Working.Spots.{at, IsIndexed}
 
 -- the place that is noted for a name
 abbrev pub place_in : Names → List ℕ → Option ℕ

@@ -10,7 +10,7 @@ use Rattle.cjc_code.specs.declared.insn.JInsn.{JInsn}
 use Rattle.cjc_code.specs.declared.insn.JOp.TheVariants as jop
 use Rattle.cjc_fixpoint.specs.declared.flow.Edge.{Edge}
 use Rattle.cjc_fixpoint.specs.Dataflow.{IsLawful, StaysWithin, AreBelow}
-use Rattle.cjc_fixpoint.specs.Edges.{AreBelowInTurn, below_from_zip, AreBelow-append, AreBelow-map}
+use Rattle.cjc_fixpoint.specs.Working.Edges.{AreBelowInTurn, below_from_zip, AreBelow-append, AreBelow-map}
 use Rattle.cjc_fixpoint.proofs.Lattices.{flow_laws}
 use Rattle.cjc_world.specs.Classes.{is_static}
 use Rattle.cjc_types.specs.declared.cell.Cell.{Cell}
@@ -18,11 +18,11 @@ use Rattle.cjc_types.specs.declared.cell.Cell.TheVariants.{Refs, Unusable}
 use Rattle.cjc_types.specs.declared.state.State.{State}
 use Rattle.cjc_types.specs.Cells.{IsCell}
 use Rattle.cjc_types.specs.States.{most_cells, states}
-use Rattle.cjc_types.specs.StateLaws.{state_lattice}
+use Rattle.cjc_types.specs.Working.StateLaws.{state_lattice}
 use Rattle.cjc_types.specs.Types.{parts, value_of}
-use Rattle.cjc_types.specs.TypeLaws.{own_one, own_value}
+use Rattle.cjc_types.specs.Working.TypeLaws.{own_one, own_value}
 use Rattle.cjc_types.specs.Steps.{after, goes_on, targets}
-use Rattle.cjc_types.specs.StepLaws.{own_after, after_up}
+use Rattle.cjc_types.specs.Working.StepLaws.{own_after, after_up}
 use Rattle.cjc_types.specs.Flow.{Body, arguments, entry, place_at, next_place, successors, edge, covers, caught_type, caught, handler_edge, place_edges, type_flow}
 
 -- ---- lists of edges

@@ -5,7 +5,7 @@ use Rattle.cjc_fixpoint.specs.Lattice.{IsLattice}
 use Rattle.cjc_types.specs.declared.cell.Cell.{Cell}
 use Rattle.cjc_types.specs.declared.cell.Cell.TheVariants.{Number, Refs, Unusable}
 use Rattle.cjc_types.specs.Names.{IsSet, IsWithin, union}
-use Rattle.cjc_types.specs.NameLaws.{union_left, union_right, union_least, set_union, length_within, same_within}
+use Rattle.cjc_types.specs.Working.NameLaws.{union_left, union_right, union_least, set_union, length_within, same_within}
 use Rattle.cjc_types.specs.Cells.{most_names, refs, IsNameSet, IsCell, IsCellBelow, joined_cell, cell_rank, cells}
 
 pub below_refl : (x : Cell) → IsCellBelow x x

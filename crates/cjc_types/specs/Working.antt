@@ -1,0 +1,7 @@
+-- What the code and its proofs keep for themselves; a reader of the contracts may pass over it.
+pub mod NameLaws
+pub mod CellLaws
+pub mod StateLaws
+pub mod TypeLaws
+pub mod StepLaws
+pub mod FlowLaws
