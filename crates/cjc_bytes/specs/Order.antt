@@ -1,11 +1,38 @@
 -- The order of refusals: the first that is broken is answered.
-use Rattle.std.specs.Prelude.{◌≡◌, ◌⊎◌, ◌<◌, ℕ, List, [], ◌∷◌}
+use Rattle.std.specs.Prelude.{◌≡◌, ◌⊎◌, ◌<◌, ◌+◌, ◌^◌, ℕ, zero, suc, List, [], ◌∷◌, if◌then◌else◌}
+use Rattle.cjc_bytes.specs.declared.order.FileKey.{FileKey}
+use Rattle.cjc_bytes.specs.declared.order.FileKey.TheVariants as keys
+use Rattle.cjc_bytes.specs.declared.settings.FileLine.{FileLine}
+
+-- The number by which files are compared: the list, then the files of its lines, the components by their tags, the
+-- script. A list has fewer than 2 ^ 64 lines, and tags begin with 1.
+abbrev pub file_number : FileKey → ℕ
+file_number keys.List = 0
+file_number (keys.Line i) = i + 1
+file_number (keys.Component tag) = 2 ^ 64 + tag
+file_number keys.Script = 2 ^ 64 + 256
+
+-- a file, and its name as a refusal tells it
+pub record FilePlace : Type 0 where
+  pub key : FileKey
+  pub name : List ℕ
+
+-- The file of the class file of this number among those of these lines, where so many lines stand before them. Where
+-- there is none it stands behind all files of the list, and has no name.
+abbrev pub file_from : (before : ℕ) → List FileLine → (number : ℕ) → FilePlace
+file_from n [] k = record { key = keys.Line n; name = [] }
+file_from n (line ∷ lines) zero = if line.class_file then record { key = keys.Line n; name = line.name } else file_from (n + 1) lines zero
+file_from n (line ∷ lines) (suc k) = if line.class_file then file_from (n + 1) lines k else file_from (n + 1) lines (suc k)
+
+-- the file of the package's class of this number
+abbrev pub file_of : List FileLine → ℕ → FilePlace
+file_of lines number = file_from 0 lines number
 
 -- Where a broken rule stands. The first number that differs decides.
 pub record Rank : Type 0 where
   -- the hundreds digit of the rule
   pub family : ℕ
-  -- the list is 0; then the files in list order, the components in tag order, the script
+  -- by the file's number
   pub file : ℕ
   -- the class's place in its file, from 1; the empty class is 0
   pub class : ℕ

@@ -1,5 +1,5 @@
 -- The lines of a text, the words of a line, and decimal numbers.
-use Rattle.std.specs.Prelude.{Bool, true, false, not, ◌&&◌, ◌||◌, if◌then◌else◌, ◌==◌, nat_le, ℕ, ◌+◌, ◌-◌, ◌*◌, List, [], ◌∷◌, length, filter, slice_index, Option, Some, None}
+use Rattle.std.specs.Prelude.{Bool, true, false, not, ◌&&◌, ◌||◌, if◌then◌else◌, ◌==◌, nat_le, nat_lt, ℕ, ◌+◌, ◌-◌, ◌*◌, List, [], ◌∷◌, length, filter, slice_index, Option, Some, None}
 use Rattle.std.specs.List.{slice_split}
 use Rattle.std.specs.Str.Lines.{strip_carriage_return}
 
@@ -64,3 +64,7 @@ decimal_from limit n (c ∷ cs) = if is_digit c && nat_le (n * 10 + (c - 48)) li
 abbrev pub decimal : ℕ → List ℕ → Option ℕ
 decimal limit [] = None
 decimal limit (c ∷ cs) = decimal_from limit 0 (c ∷ cs)
+
+-- the same of at most so many digits
+abbrev pub short_decimal : (digits limit : ℕ) → List ℕ → Option ℕ
+short_decimal digits limit text = if nat_lt digits (length text) then None else decimal limit text

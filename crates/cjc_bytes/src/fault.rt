@@ -1,12 +1,10 @@
 //! Refusals: a rule, and the place where it is broken.
 
-ghost use Rattle.std.specs.Prelude.{◌≡◌, ◌⊎◌};
+ghost use Rattle.std.specs.Prelude.{◌≡◌};
 ghost use Rattle.cjc_bytes.specs.declared.fault.Fault.TheVariants as faults;
-ghost use Rattle.cjc_bytes.specs.Refused.{refusal};
 
 use crate::row::Bytes;
 use crate::stop::NoMemory;
-use std::alloc::Global;
 
 /// The number of a rule.
 #[derive(Clone, Copy, Debug)]
@@ -55,23 +53,4 @@ pub struct MemberId {
     pub class: Bytes,
     pub name: Bytes,
     pub desc: Bytes,
-}
-
-/// The refusal of a file by a rule at an offset, with no class and no member, or that there is no memory
-/// to say so.
-pub fn refused(alloc: Global, file: &[u8], rule: u16, offset: u32) -> Fault
-    ensures { (result ≡ faults.Refused (refusal file.now rule offset)) ⊎ (result ≡ faults.NoMemory) }
-{
-    match Bytes::copy_of(alloc, file) {
-        Ok(file) => Fault::Refused(Refusal {
-            rule: Rule(rule),
-            place: Place {
-                file,
-                class: Bytes::new(alloc),
-                member: Bytes::new(alloc),
-                offset,
-            },
-        }),
-        Err(NoMemory) => Fault::NoMemory,
-    }
 }

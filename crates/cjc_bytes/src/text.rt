@@ -3,7 +3,7 @@
 
 ghost use Rattle.std.specs.Prelude.{◌≡◌, ◌==◌, ◌++◌, ◌∷◌, [], ◌<◌, ◌^◌, length, filter, position, IfOk, OnOk, IfSome, ◌≤◌, List, ℕ};
 ghost use Rattle.std.specs.Str.Lines.{strip_carriage_return};
-ghost use Rattle.cjc_bytes.specs.Text.{TextLine, is_kept, kept, is_filled, is_spaced, filled_parts, words, decimal, kept_lines, lines_from, parts_of_text};
+ghost use Rattle.cjc_bytes.specs.Text.{TextLine, is_kept, kept, is_filled, is_spaced, filled_parts, words, decimal, short_decimal, kept_lines, lines_from, parts_of_text};
 ghost use Rattle.cjc_bytes.specs.TextGrammar.{AreLines, AreWords};
 
 use crate::row::Row;
@@ -173,6 +173,17 @@ pub fn decimal(text: &[u8], limit: u32) -> Option<u32>
         }
     }
     Some(value as u32)
+}
+
+/// The number that decimal digits spell, as `decimal` has it, where there are at most so many digits.
+pub fn short_decimal(text: &[u8], digits: usize, limit: u32) -> Option<u32>
+    ensures spelt { result ≡ short_decimal digits limit text.now }
+    ensures within { IfSome result (λ n. n ≤ limit) }
+{
+    if text.len() > digits {
+        return None;
+    }
+    decimal(text, limit)
 }
 
 /// A text has one list of lines, and a line one list of words.

@@ -1,7 +1,7 @@
 -- The low word of a result of 32 bits is the low word of the operation on the low words, for each
 -- operation that commutes with it; and what 32, 16 and 8 bits leave of a number.
-use Rattle.std.proofs.Common.{◌≡◌, ℕ, suc, ◌+◌, ◌-◌, ◌*◌, ◌/◌, ◌%◌, ◌^◌, ◌<◌, ◌≤◌, refl, sym, ap, ◌∙◌, ⊎_elim, arith, ℤ, pos, negsuc, neg_ℤ, ◌+ℤ◌, ◌-ℤ◌, ◌*ℤ◌, bit_and, bit_or, bit_xor}
-use Rattle.std.specs.Prelude.{◌≤ℤ◌, FitsSigned, unsigned_abs, int_rem}
+use Rattle.std.proofs.Common.{◌≡◌, ℕ, suc, ◌+◌, ◌-◌, ◌*◌, ◌/◌, ◌%◌, ◌^◌, ◌<◌, ◌≤◌, refl, sym, ap, subst, ◌∙◌, ⊎_elim, arith, ℤ, pos, negsuc, neg_ℤ, ◌+ℤ◌, ◌-ℤ◌, ◌*ℤ◌, bit_and, bit_or, bit_xor}
+use Rattle.std.specs.Prelude.{◌↔◌, ◌≤ℤ◌, FitsSigned, unsigned_abs, int_rem}
 use Rattle.std.specs.Int.{Width, w8, w16, w32, int_wrap, cast_signed, cast_unsigned, int_shl, int_shr, int_bit_and, int_bit_or, int_bit_xor}
 use Rattle.std.specs.Int.Signed.{mag, mag_rem, mag_shr}
 use Rattle.std.proofs.lemmas.Int.{ints, int_wrap_fits, int_wrap-add_left, int_wrap-add_right, int_wrap-sub_right, int_wrap-mul_left, int_wrap-mul_right, SFits-int_wrap, int_rem_euclid_is, to_z-of_z, of_z-to_z}
@@ -9,12 +9,12 @@ use Rattle.std.proofs.lemmas.Nat.{and_mod, or_mod, xor_mod, or_lt, xor_lt}
 use Rattle.std.specs.Int.Bits.{and_lt}
 use Rattle.std.proofs.lemmas.Bool.{cases_lt}
 use Rattle.std.proofs.Math.Facts.{to_z-neg}
-use native.Mathlib.Nat.{div-add-mod', mod-lt, mul-le-mul_left}
+use native.Mathlib.Nat.{add-mul-mod_self_right, div-add-mod', mod-lt, mul-le-mul_left}
 use lib.Pow.{pow_pos}
 use mir.Val.{bits, hbits}
 use mir.ValLaws as laws
 use borrow.Author.Differences.{up, down, same_in, same_out, sum_is_lem}
-use Rattle.cjc_words.specs.Words.{wide, low_word, low_byte}
+use Rattle.cjc_words.specs.Words.{wide, low_word, low_byte, shift_distance, IsInside}
 
 -- a and b differ by a multiple of 2 ^ bits w
 wrapped_same : (w : Width) (a b : ℤ) (j k : ℕ) → a +ℤ pos (j * 2 ^ bits w) ≡ b +ℤ pos (k * 2 ^ bits w) → int_wrap w a ≡ int_wrap w b
@@ -225,3 +225,51 @@ int_rem_fits x y f = let a = f.sfits in let b = mag_rem x y in record { sfits = 
 
 pub int_shr_fits : (x : ℤ) (k : ℕ) → FitsSigned w32 x → FitsSigned w32 (int_shr x k)
 int_shr_fits x k f = let a = f.sfits in let b = mag_shr x (2 ^ k) in record { sfits = omega (arith, a, b) }
+
+-- ---- distances
+
+mod_low : (a : ℕ) → a % 2 ^ 16 % 32 ≡ a % 32
+mod_low a =
+    let e : a ≡ a % 65536 + a / 65536 * 2048 * 32 = omega (arith, div-add-mod' a 65536) in
+    sym (ap (λ n. n % 32) e ∙ add-mul-mod_self_right (a % 65536) (a / 65536 * 2048) 32)
+
+bits_low : (x : ℤ) → FitsSigned w32 x → cast_unsigned w32 (low_word x) % 2 ^ 16 ≡ cast_unsigned w32 x % 2 ^ 16
+bits_low x f =
+    let small = (low_word_fits x).sfits in
+    let fits : FitsSigned w32 (low_word x) = record { sfits = omega (arith, small) } in
+    sym (low_bits (low_word x) fits) ∙ ap (cast_unsigned w16) (low_word_fixed (low_word x) (low_word_fits x)) ∙ low_bits x f
+
+-- the distance of a shift comes from the low word
+pub shift_distance-low_word : (x : ℤ) → FitsSigned w32 x → shift_distance (low_word x) ≡ shift_distance x
+shift_distance-low_word x f = sym (mod_low (cast_unsigned w32 (low_word x))) ∙ ap (λ n. n % 32) (bits_low x f) ∙ mod_low (cast_unsigned w32 x)
+
+-- ---- indices
+
+index_up : (n i : ℕ) → n ≤ 32767 → i ≤ 65535 → (IsInside n (low_word (pos i)) → i < n) × (i < n → IsInside n (low_word (pos i)))
+index_up n i few within = ⊎_elim small large (cases_lt i 32768)
+  where
+    both : (z : ℤ) → low_word (pos i) ≡ z → (IsInside n z → i < n) × (i < n → IsInside n z) → (IsInside n (low_word (pos i)) → i < n) × (i < n → IsInside n (low_word (pos i)))
+    both z e h = subst (λ w. (IsInside n w → i < n) × (i < n → IsInside n w)) (sym e) h
+
+    small : i < 32768 → (IsInside n (low_word (pos i)) → i < n) × (i < n → IsInside n (low_word (pos i)))
+    small lt = both (pos i) (low_word_same (pos i) (omega (arith, ints)) (omega (arith, ints))) (λ h. h, λ h. h)
+
+    large : 32768 ≤ i → (IsInside n (low_word (pos i)) → i < n) × (i < n → IsInside n (low_word (pos i)))
+    large le = both (negsuc (65535 - i)) (low_word_above i le within) (λ h. absurd h, λ h. absurd (omega arith))
+
+index_down : (n i : ℕ) → n ≤ 32767 → i ≤ 32768 → IsInside n (low_word (negsuc i)) → ⊥
+index_down n i few within h = ⊎_elim small last (cases_lt i 32768)
+  where
+    small : i < 32768 → ⊥
+    small lt = subst (IsInside n) (low_word_same (negsuc i) (omega (arith, ints)) (omega (arith, ints))) h
+
+    last : 32768 ≤ i → ⊥
+    last le =
+        let is : i ≡ 32768 = omega arith in
+        let inside : 32767 < n = subst (IsInside n) (ap (λ k. low_word (negsuc k)) is ∙ low_word_below) h in
+        omega (arith, few, inside)
+
+-- an index from -32,769 to 65,535 is inside an array of at most 32,767 elements exactly where its low word is
+pub index-low_word : (n : ℕ) (i : ℤ) → n ≤ 32767 → negsuc 32768 ≤ℤ i → i ≤ℤ pos 65535 → IsInside n (low_word i) ↔ IsInside n i
+index-low_word n (pos i) few low high = let h = index_up n i few (omega (arith, ints, high)) in (h.0, h.1)
+index-low_word n (negsuc i) few low high = (λ h. index_down n i few (omega (arith, ints, low)) h, λ h. absurd h)

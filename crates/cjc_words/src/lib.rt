@@ -2,9 +2,9 @@
 //! words of its operands. It has laws alone, for whoever narrows: no code of it runs.
 #![tactic(auto)]
 
-ghost use Rattle.std.specs.Prelude.{◌≡◌, ℕ, ℤ, pos, ◌^◌, neg_ℤ, FitsSigned, ◌+ℤ◌, ◌-ℤ◌, ◌*ℤ◌};
+ghost use Rattle.std.specs.Prelude.{◌≡◌, ◌≤◌, ◌≤ℤ◌, ◌↔◌, ℕ, ℤ, pos, negsuc, ◌^◌, neg_ℤ, FitsSigned, ◌+ℤ◌, ◌-ℤ◌, ◌*ℤ◌};
 ghost use Rattle.std.specs.Int.{w16, w32, int_bit_and, int_bit_or, int_bit_xor};
-ghost use Rattle.cjc_words.specs.Words.{wide, low_word, low_byte};
+ghost use Rattle.cjc_words.specs.Words.{wide, low_word, low_byte, shift_distance, IsInside};
 
 /// The low word of a sum is that of the sum of the low words, and so for each operation that goes from the
 /// low end up. A quotient, a remainder and a shift to the right are none of them.
@@ -27,4 +27,10 @@ pub fn cuts_fit()
     ensures wide_word { (z : ℤ) → FitsSigned w32 (wide z) }
     ensures same { (z : ℤ) → FitsSigned w16 z → low_word z ≡ z }
     ensures wide_same { (z : ℤ) → FitsSigned w32 z → wide z ≡ z }
+{}
+
+/// A narrow machine that keeps low words shifts by the same distance, and finds the same indices inside an array.
+pub fn low_words_choose()
+    ensures distance { (x : ℤ) → FitsSigned w32 x → shift_distance (low_word x) ≡ shift_distance x }
+    ensures index { (n : ℕ) (i : ℤ) → n ≤ 32767 → negsuc 32768 ≤ℤ i → i ≤ℤ pos 65535 → IsInside n (low_word i) ↔ IsInside n i }
 {}

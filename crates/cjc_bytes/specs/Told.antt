@@ -1,0 +1,29 @@
+-- What the code's places and broken rules are, whose names are lent.
+use Rattle.std.specs.Prelude.{ℕ, List, []}
+use Rattle.cjc_bytes.specs.declared.breaks.Break.{Break as Broken}
+use Rattle.cjc_bytes.specs.declared.breaks.Part.{Part}
+use Rattle.cjc_bytes.specs.declared.breaks.Part.TheVariants as parts
+use Rattle.cjc_bytes.specs.declared.breaks.PlaceRef.{PlaceRef}
+use Rattle.cjc_bytes.specs.declared.breaks.Spot.{Spot as SpotRef}
+use Rattle.cjc_bytes.specs.declared.fault.Place.{Place}
+use Rattle.cjc_bytes.specs.declared.order.FileRef.{FileRef}
+use Rattle.cjc_bytes.specs.Order.{FilePlace}
+use Rattle.cjc_bytes.specs.Refused.{field_text, in_class, method_text}
+use Rattle.cjc_bytes.specs.Breaks.{Break, Spot, broken_at}
+
+abbrev pub text_of : Part → List ℕ
+text_of parts.Whole = []
+text_of (parts.Field name desc) = field_text name.now desc.now
+text_of (parts.Method name desc) = method_text name.now desc.now
+
+abbrev pub file_place_of : FileRef → FilePlace
+file_place_of f = record { key = f.key; name = f.name.now }
+
+abbrev pub place_of : PlaceRef → Place
+place_of p = in_class p.file.now p.class.now (text_of p.part) p.offset
+
+abbrev pub spot_of : SpotRef → Spot
+spot_of s = record { file = s.file; class = s.class; member = s.member; place = place_of s.place }
+
+abbrev pub break_of : Broken → Break
+break_of b = broken_at (spot_of b.spot) b.rule
