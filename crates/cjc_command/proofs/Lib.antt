@@ -2,4 +2,5 @@ pub mod Gathering
 pub mod Each
 pub mod Ahead
 pub mod Judging
+pub mod Published
 pub mod Acting

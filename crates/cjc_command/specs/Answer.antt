@@ -1,12 +1,12 @@
 -- What a command is, and what each answer of a run of it says.
-use Rattle.std.specs.Prelude.{◌≡◌, ◌≢◌, ◌⊎◌, ℕ, ◌+◌, ◌<◌, List, length, Some, None, IfSome, IfNone, IsSomeAnd, Contains, Result, Ok, Err}
+use Rattle.std.specs.Prelude.{◌≡◌, ◌≢◌, ◌⊎◌, ℕ, ◌+◌, ◌<◌, List, length, Option, None, IfSome, IfNone, IsSomeAnd, Result, Ok, Err}
 use Rattle.std.specs.FinMap.{get}
 use Rattle.cjc_bytes.specs.declared.fault.Refusal.{Refusal}
 use Rattle.cjc_shelf.specs.Count.{Rose}
-use Rattle.cjc_shelf.specs.Shelf.{Files, Shelved}
+use Rattle.cjc_shelf.specs.Shelf.{Files, Shelved, longest_file}
 use Rattle.cjc_shelf.specs.Sink.{Sunk}
-use Rattle.cjc_shelf.specs.declared.shelf.TheConstants.{LONGEST}
-use Rattle.cjc_command.specs.Plan.{Plan, verdict, names_read, absent, too_long, refused, complete}
+use Rattle.cjc_command.specs.Plan.{Plan, Verdict, EndsBy, IsRead, known_end, absent, too_long, refused, complete}
+use Rattle.cjc_command.specs.Gather.{IsLast, StaysOrReads}
 use Rattle.cjc_command.specs.Publish.{Quiet, BreaksOff, LacksRoom, IsWritten, IsPrinted, IsPartlyPrinted}
 use Rattle.cjc_command.specs.declared.status.Status.{Status}
 use Rattle.cjc_command.specs.declared.status.Status.TheVariants as status
@@ -21,7 +21,7 @@ pub record Command : Type 1 where
 -- Why the answer came, over each shelf and each sink.
 abbrev pub Cause : Shelved → Shelved → Sunk → Sunk → Status → Type 0
 Cause old new from to (status.Absent name) = Rose old.misses new.misses
-Cause old new from to (status.TooLong name) = IfNone old.files (new.taken ≡ LONGEST + 1)
+Cause old new from to (status.TooLong name) = IfNone old.files (new.taken ≡ longest_file + 1)
 Cause old new from to (status.ShelfFault name) = Rose old.faults new.faults
 Cause old new from to status.SinkFault = Rose from.faults to.faults
 Cause old new from to (status.Refused r) = Unit {0}
@@ -29,58 +29,86 @@ Cause old new from to status.NoMemory = Unit {0}
 Cause old new from to status.Done = Unit {0}
 Cause old new from to status.Usage = Unit {0}
 
--- All files were read, no rule is broken, and this is to be written and printed.
-pub record IsReady (command : Command) (files : Files) (todo : Todo) : Type 0 where
+-- All was read, no rule is broken, and this is to be written and printed.
+pub record IsReady (command : Command) (told : Option Files) (todo : Todo) : Type 0 where
   pub inputs : command.Inputs
-  pub read : verdict files command.plan ≡ complete inputs
+  pub read : EndsBy told command.plan (complete inputs)
   pub made : command.Makes inputs (Ok todo)
 
 -- A rule is broken, by a list that was read or by all that was read.
-abbrev pub IsRefused : Command → Files → Refusal → Type 0
-IsRefused command files r =
-    (verdict files command.plan ≡ refused r)
-    ⊎ ((inputs : command.Inputs) × (verdict files command.plan ≡ complete inputs) × command.Makes inputs (Err r))
+abbrev pub IsRefused : Command → Option Files → Refusal → Type 0
+IsRefused command told r =
+    EndsBy told command.plan (refused r) ⊎ ((inputs : command.Inputs) × EndsBy told command.plan (complete inputs) × command.Makes inputs (Err r))
 
--- This name is the last that was read, and one that the command reads.
-pub record StopsAt (command : Command) (files : Files) (name : List ℕ) (new : Shelved) : Type 0 where
-  pub last : new.last ≡ name
-  pub is_read : Contains (names_read files command.plan) name
-  pub kept : new.files ≡ Some files
+-- The name is one that the command reads and the last that was read. The files are as before.
+pub record StopsAt (command : Command) (name : List ℕ) (old new : Shelved) : Type 0 where
+  pub is_read : IsRead old.files command.plan name
+  pub last : IsLast old.files name new
+  pub kept : new.files ≡ old.files
 
--- Over a shelf that tells its files, and where it does a sink that tells what it got.
-abbrev pub Answers : Command → Files → Shelved → Shelved → Sunk → Sunk → Status → Type 0
-Answers command files old new from to status.Usage = ⊥
-Answers command files old new from to (status.Refused r) = IsRefused command files r × (new.files ≡ Some files)
-Answers command files old new from to (status.Absent name) =
-    (verdict files command.plan ≡ absent name) × StopsAt command files name new × (get files name ≡ None)
-Answers command files old new from to (status.TooLong name) =
-    (verdict files command.plan ≡ too_long name) × StopsAt command files name new × IsSomeAnd (get files name) (λ bytes. LONGEST < length bytes)
-Answers command files old new from to (status.ShelfFault name) =
-    StopsAt command files name new ⊎ ((todo : Todo) × IsReady command files todo × BreaksOff files todo name new)
-Answers command files old new from to status.NoMemory =
-    (new.files ≡ Some files) ⊎ ((todo : Todo) × IsReady command files todo × LacksRoom files todo new × Rose old.wants new.wants)
-Answers command files old new from to status.SinkFault =
-    (todo : Todo) × IsReady command files todo × IsWritten files todo new × IsPartlyPrinted todo from to
-Answers command files old new from to status.Done =
-    (todo : Todo) × IsReady command files todo × IsWritten files todo new × IsPrinted todo from to
+-- No write was begun: the files and the count of wants are as before, and the last name is the one before or one that
+-- the command reads. A write under such a name can't be told from a read by this.
+pub record NothingBegun (command : Command) (old new : Shelved) : Type 0 where
+  pub kept : new.files ≡ old.files
+  pub wants : new.wants ≡ old.wants
+  pub last : StaysOrReads old.files command.plan old new
 
--- What the words and the told files decide, want of memory and faults aside.
-abbrev pub Decides : Command → Files → Status → Type 0
-Decides command files (status.Absent name) = verdict files command.plan ≡ absent name
-Decides command files (status.TooLong name) = verdict files command.plan ≡ too_long name
-Decides command files (status.Refused r) = IsRefused command files r
-Decides command files status.Done = (todo : Todo) × IsReady command files todo
-Decides command files status.Usage = ⊥
-Decides command files (status.ShelfFault name) = ⊥
-Decides command files status.SinkFault = ⊥
-Decides command files status.NoMemory = ⊥
+-- What each answer says over each shelf and each sink: of the files where the shelf tells them, and of what is printed
+-- where the sink tells it.
+abbrev pub Answers : Command → Shelved → Shelved → Sunk → Sunk → Status → Type 0
+Answers command old new from to status.Usage = ⊥
+Answers command old new from to (status.Refused r) = IsRefused command old.files r × (new.files ≡ old.files)
+Answers command old new from to (status.Absent name) =
+    EndsBy old.files command.plan (absent name) × StopsAt command name old new × IfSome old.files (λ files. get files name ≡ None)
+Answers command old new from to (status.TooLong name) =
+    EndsBy old.files command.plan (too_long name) × StopsAt command name old new
+    × IfSome old.files (λ files. IsSomeAnd (get files name) (λ bytes. longest_file < length bytes))
+Answers command old new from to (status.ShelfFault name) =
+    StopsAt command name old new ⊎ ((todo : Todo) × IsReady command old.files todo × BreaksOff old.files todo name new)
+Answers command old new from to status.NoMemory =
+    NothingBegun command old new ⊎ ((todo : Todo) × IsReady command old.files todo × LacksRoom old.files todo new × Rose old.wants new.wants)
+Answers command old new from to status.SinkFault =
+    (todo : Todo) × IsReady command old.files todo × IsWritten old.files todo new × IsPartlyPrinted todo from to
+Answers command old new from to status.Done =
+    (todo : Todo) × IsReady command old.files todo × IsWritten old.files todo new × IsPrinted todo from to
+
+-- What is made of the inputs gives this answer, want of memory and faults aside.
+abbrev pub IsMade : (Result Todo Refusal → Type 0) → Status → Type 0
+IsMade Makes (status.Refused r) = Makes (Err r)
+IsMade Makes status.Done = (todo : Todo) × Makes (Ok todo)
+IsMade Makes (status.Absent name) = ⊥
+IsMade Makes (status.TooLong name) = ⊥
+IsMade Makes status.Usage = ⊥
+IsMade Makes (status.ShelfFault name) = ⊥
+IsMade Makes status.SinkFault = ⊥
+IsMade Makes status.NoMemory = ⊥
+
+-- How the plan ends decides this answer, want of memory and faults aside.
+abbrev pub Decides : (command : Command) → Verdict command.Inputs → Status → Type 0
+Decides command (absent name) answer = answer ≡ status.Absent name
+Decides command (too_long name) answer = answer ≡ status.TooLong name
+Decides command (refused r) answer = answer ≡ status.Refused r
+Decides command (complete inputs) answer = IsMade (command.Makes inputs) answer
+
+-- Where no fault count rises and the end of the plan is known, it decides the answer.
+abbrev pub IsDecided : Command → Shelved → Shelved → Sunk → Sunk → Status → Type 0
+IsDecided command old new from to answer =
+    (Rose old.faults new.faults → ⊥) → (Rose from.faults to.faults → ⊥)
+    → IfSome (known_end old.files command.plan) (λ end. (answer ≡ status.NoMemory) ⊎ Decides command end answer)
+
+-- Where moreover all is read and no rule is broken, all is done.
+abbrev pub IsComplete : Command → Shelved → Shelved → Sunk → Sunk → Status → Type 0
+IsComplete command old new from to answer =
+    (Rose old.faults new.faults → ⊥) → (Rose from.faults to.faults → ⊥)
+    → IfSome (known_end old.files command.plan) (λ end. (inputs : command.Inputs) → end ≡ complete inputs
+    → ((r : Refusal) → command.Makes inputs (Err r) → ⊥) → (answer ≡ status.NoMemory) ⊎ (answer ≡ status.Done))
 
 -- What acting on a command gives.
 pub record Acts (command : Command) (old new : Shelved) (from to : Sunk) (answer : Status) : Type 0 where
   pub form : answer ≢ status.Usage
   pub cause : Cause old new from to answer
   pub quiet : Quiet from to answer
-  pub told : IfSome old.files (λ files. Answers command files old new from to answer)
+  pub answers : Answers command old new from to answer
 
 -- the exit statuses, in the order of the answers
 abbrev pub code_of : Status → ℕ

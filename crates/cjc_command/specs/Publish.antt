@@ -1,7 +1,7 @@
 -- The writing half of a command, which is the same for all.
-use Rattle.std.specs.Prelude.{◌≡◌, ℕ, ◌≤◌, ◌<◌, List, [], ◌∷◌, ◌++◌, length, take, slice_index_or, Some, IfSome, IsSomeAnd, IfErr, Result, Ok, Err}
+use Rattle.std.specs.Prelude.{◌≡◌, false, bytes_eq, ℕ, ◌≤◌, ◌<◌, List, [], ◌∷◌, ◌++◌, length, take, slice_index_or, Option, Some, IfSome, IsSomeAnd, IfErr, Result, Ok, Err}
 use Rattle.std.specs.List.{concat}
-use Rattle.std.specs.FinMap.{insert}
+use Rattle.std.specs.FinMap.{get, insert}
 use Rattle.cjc_command.specs.declared.status.File.{File}
 use Rattle.cjc_shelf.specs.Count.{Rose}
 use Rattle.cjc_shelf.specs.Shelf.{Files, Shelved, SameBut, GoesOn}
@@ -52,22 +52,36 @@ status_of list at write.Failed = status.ShelfFault (name_at list at)
 status_of list at write.NoMemory = status.NoMemory
 
 -- The files before one are written, what stands under its name is unknown, and the others are as before.
-pub record BreaksOff (files : Files) (todo : Todo) (name : List ℕ) (new : Shelved) : Type 0 where
+pub record BreaksOff (told : Option Files) (todo : Todo) (name : List ℕ) (new : Shelved) : Type 0 where
   pub count : ℕ
   pub within : count < length todo.files
   pub named : name_at todo.files count ≡ name
-  pub last : new.last ≡ name
-  pub written : IsSomeAnd new.files (SameBut name (written_files (take count todo.files) files))
+  pub written : IfSome told (λ files. (new.last ≡ name) × IsSomeAnd new.files (SameBut name (written_files (take count todo.files) files)))
 
 -- The files before one are written, and it and the others are as before.
-pub record LacksRoom (files : Files) (todo : Todo) (new : Shelved) : Type 0 where
+pub record LacksRoom (told : Option Files) (todo : Todo) (new : Shelved) : Type 0 where
   pub count : ℕ
   pub within : count < length todo.files
-  pub written : new.files ≡ Some (written_files (take count todo.files) files)
+  pub written : IfSome told (λ files. new.files ≡ Some (written_files (take count todo.files) files))
 
--- All files are written.
-abbrev pub IsWritten : Files → Todo → Shelved → Type 0
-IsWritten files todo new = new.files ≡ Some (written_files todo.files files)
+-- All files are written, where the shelf tells them.
+abbrev pub IsWritten : Option Files → Todo → Shelved → Type 0
+IsWritten told todo new = IfSome told (λ files. new.files ≡ Some (written_files todo.files files))
+
+-- Each of these files stands under its name.
+abbrev pub Stand : Files → List File → Type 0
+Stand files [] = Unit {0}
+Stand files (file ∷ rest) = (get files file.name ≡ Some file.bytes) × Stand files rest
+
+-- The name is none of the files' names.
+abbrev pub IsNew : List ℕ → List File → Type 0
+IsNew name [] = Unit {0}
+IsNew name (file ∷ files) = (bytes_eq name file.name ≡ false) × IsNew name files
+
+-- No name stands twice.
+abbrev pub AreDistinct : List File → Type 0
+AreDistinct [] = Unit {0}
+AreDistinct (file ∷ files) = IsNew file.name files × AreDistinct files
 
 -- All of the text is printed, where the sink tells it.
 abbrev pub IsPrinted : Todo → Sunk → Sunk → Type 0
@@ -98,19 +112,20 @@ PublishCause old new from to (status.Refused r) = ⊥
 PublishCause old new from to (status.Absent name) = ⊥
 PublishCause old new from to (status.TooLong name) = ⊥
 
-abbrev pub PublishTold : Files → Todo → Shelved → Sunk → Sunk → Status → Type 0
-PublishTold files todo new from to status.Done = IsWritten files todo new × IsPrinted todo from to
-PublishTold files todo new from to status.SinkFault = IsWritten files todo new × IsPartlyPrinted todo from to
-PublishTold files todo new from to (status.ShelfFault name) = BreaksOff files todo name new
-PublishTold files todo new from to status.NoMemory = LacksRoom files todo new
-PublishTold files todo new from to status.Usage = ⊥
-PublishTold files todo new from to (status.Refused r) = ⊥
-PublishTold files todo new from to (status.Absent name) = ⊥
-PublishTold files todo new from to (status.TooLong name) = ⊥
+-- What stands and what is printed at each end.
+abbrev pub PublishEnds : Option Files → Todo → Shelved → Sunk → Sunk → Status → Type 0
+PublishEnds told todo new from to status.Done = IsWritten told todo new × IsPrinted todo from to
+PublishEnds told todo new from to status.SinkFault = IsWritten told todo new × IsPartlyPrinted todo from to
+PublishEnds told todo new from to (status.ShelfFault name) = BreaksOff told todo name new
+PublishEnds told todo new from to status.NoMemory = LacksRoom told todo new
+PublishEnds told todo new from to status.Usage = ⊥
+PublishEnds told todo new from to (status.Refused r) = ⊥
+PublishEnds told todo new from to (status.Absent name) = ⊥
+PublishEnds told todo new from to (status.TooLong name) = ⊥
 
 pub record Publishes (todo : Todo) (old new : Shelved) (from to : Sunk) (status : Status) : Type 0 where
   pub goes_on : GoesOn old new
   pub sink_goes_on : from.faults ≤ to.faults
   pub cause : PublishCause old new from to status
   pub quiet : Quiet from to status
-  pub told : IfSome old.files (λ files. PublishTold files todo new from to status)
+  pub ends : PublishEnds old.files todo new from to status

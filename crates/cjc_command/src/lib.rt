@@ -7,6 +7,6 @@ mod publishing;
 mod reading;
 mod status;
 
-pub use publishing::{publish, put_pieces};
+pub use publishing::{publish, put_pieces, writes};
 pub use reading::{fetch, fetch_each};
 pub use status::{File, Status, Todo};

@@ -1,9 +1,11 @@
 //! Writes and prints what was computed. Nothing here takes memory.
 
-ghost use Rattle.std.specs.Prelude.{◌≡◌, ◌<◌, length, map};
+ghost use Rattle.std.specs.Prelude.{◌≡◌, ◌<◌, List, length, map};
 ghost use Rattle.std.specs.List.{concat};
 ghost use Rattle.cjc_shelf.specs.Sink.{Puts};
-ghost use Rattle.cjc_command.specs.Publish.{WritesAll, Publishes, status_of};
+ghost use Rattle.cjc_shelf.specs.Shelf.{Files};
+ghost use Rattle.cjc_command.specs.declared.status.File.{File as Named};
+ghost use Rattle.cjc_command.specs.Publish.{WritesAll, Publishes, status_of, written_files, AreDistinct, Stand};
 
 use crate::status::{File, Status, Todo};
 use cjc_bytes::Bytes;
@@ -81,3 +83,8 @@ pub fn put_pieces<O: Sink>(pieces: &[&[u8]], out: &mut O) -> Result<(), SinkFail
     }
     Ok(())
 }
+
+/// Files that are written under names of their own all stand.
+pub fn writes()
+    ensures { (list : List Named) (files : Files) → AreDistinct list → Stand (written_files list files) list }
+{}

@@ -1,18 +1,19 @@
 //! Reads, each with the status that ends a run where it fails.
 
 ghost use Rattle.std.specs.Prelude.{◌≡◌, ◌≤◌, length, IfOk};
+ghost use Rattle.cjc_shelf.specs.Shelf.{longest_file};
 ghost use Rattle.cjc_command.specs.Plan.{read, read_each};
 ghost use Rattle.cjc_command.specs.Gather.{Gathers, IsSame, AreShort};
 
 use crate::status::Status;
 use cjc_bytes::{Bytes, Row};
-use cjc_shelf::{LONGEST, ReadEnd, Shelf};
+use cjc_shelf::{ReadEnd, Shelf};
 use std::alloc::Global;
 
 /// Reads one file.
 pub fn fetch<S: Shelf>(alloc: Global, shelf: &mut S, name: &[u8]) -> Result<Bytes, Status>
     ensures gathers { Gathers (read name.now) IsSame (S.shelved shelf.old) (S.shelved shelf.new) result }
-    ensures short { IfOk result (λ bytes. length bytes ≤ LONGEST) }
+    ensures short { IfOk result (λ bytes. length bytes ≤ longest_file) }
 {
     let copy = Bytes::copy_of(alloc, name)?;
     match shelf.read(alloc, name) {

@@ -5,8 +5,6 @@
 mod line;
 mod listing;
 mod read;
-#[cfg(test)]
-mod tests;
 
 pub use listing::List;
 pub use read::{listings, read_list};

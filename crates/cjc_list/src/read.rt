@@ -1,6 +1,6 @@
 //! The whole list.
 
-ghost use Rattle.std.specs.Prelude.{◌≡◌, ◌<◌, ◌^◌, ◌⊎◌, length, IfOk, IfErr};
+ghost use Rattle.std.specs.Prelude.{◌≡◌, ◌<◌, ◌^◌, ◌⊎◌, ◌↔◌, length, IfOk, IfErr};
 ghost use Rattle.cjc_bytes.specs.Found.{Finds};
 ghost use Rattle.cjc_bytes.specs.Text.{kept_lines};
 ghost use Rattle.cjc_bytes.specs.Refused.{IsUnlessNoMemory};
@@ -86,8 +86,11 @@ pub fn read_list(alloc: Global, name: &[u8], bytes: &[u8]) -> Result<List, Fault
     decided(alloc, name, bytes)
 }
 
-/// A text spells one list at most, or breaks a rule at one place, and not both.
+/// What is listed of a text, as a function, is the list that it spells or the rule that it breaks. A text spells one
+/// list at most, or breaks a rule at one place, and not both.
 pub fn listings()
+    ensures spells { (name text : Codes) (t : ListTree) → (listed name text ≡ Ok t) ↔ IsSpelt name t text }
+    ensures breaks { (name text : Codes) (r : Refused) → (listed name text ≡ Err r) ↔ IsBroken name text r }
     ensures list { (name text : Codes) (s t : ListTree) → IsSpelt name s text → IsSpelt name t text → s ≡ t }
     ensures refusal { (name text : Codes) (r s : Refused) → IsBroken name text r → IsBroken name text s → r ≡ s }
     ensures both { (name text : Codes) (t : ListTree) (r : Refused) → IsSpelt name t text → IsBroken name text r → ⊥ }

@@ -4,7 +4,6 @@ use Rattle.std.specs.Ordering.{nat_cmp}
 use Rattle.std.specs.Cmp.Lexicographic.{slice_cmp}
 use Rattle.std.specs.FinMap.{FinMap, get, insert}
 use Rattle.cjc_shelf.specs.Count.{Rose}
-use Rattle.cjc_shelf.specs.declared.shelf.TheConstants.{LONGEST}
 use Rattle.cjc_shelf.specs.declared.shelf.ReadEnd.{ReadEnd}
 use Rattle.cjc_shelf.specs.declared.shelf.ReadEnd.TheVariants as read
 use Rattle.cjc_shelf.specs.declared.shelf.WriteEnd.{WriteEnd}
@@ -13,6 +12,10 @@ use Rattle.cjc_shelf.specs.declared.shelf.WriteEnd.TheVariants as write
 -- the bytes under each name
 abbrev pub Files : Type 0
 Files = FinMap (slice_cmp nat_cmp) (List ℕ)
+
+-- the length of the longest file that is read, in bytes
+abbrev pub longest_file : ℕ
+longest_file = 262144
 
 -- What is known of a shelf at one moment.
 pub record Shelved : Type 0 where
@@ -41,9 +44,9 @@ pub record GoesOn (old new : Shelved) : Type 0 where
 
 -- Why a read ended as it did, over each shelf.
 abbrev pub ReadCause : Shelved → Shelved → Result (List ℕ) ReadEnd → Type 0
-ReadCause old new (Ok bytes) = (length bytes ≤ LONGEST) × (new.taken ≡ length bytes)
+ReadCause old new (Ok bytes) = (length bytes ≤ longest_file) × (new.taken ≡ length bytes)
 ReadCause old new (Err read.Absent) = Rose old.misses new.misses
-ReadCause old new (Err read.TooLong) = IfNone old.files (new.taken ≡ LONGEST + 1)
+ReadCause old new (Err read.TooLong) = IfNone old.files (new.taken ≡ longest_file + 1)
 ReadCause old new (Err read.Failed) = Rose old.faults new.faults
 ReadCause old new (Err read.NoMemory) = Unit {0}
 
@@ -51,7 +54,7 @@ ReadCause old new (Err read.NoMemory) = Unit {0}
 abbrev pub ReadTold : Files → List ℕ → Shelved → Shelved → Result (List ℕ) ReadEnd → Type 0
 ReadTold files name old new (Ok bytes) = (new.last ≡ name) × (get files name ≡ Some bytes)
 ReadTold files name old new (Err read.Absent) = (new.last ≡ name) × (new.faults ≡ old.faults) × (get files name ≡ None)
-ReadTold files name old new (Err read.TooLong) = (new.last ≡ name) × (new.faults ≡ old.faults) × IsSomeAnd (get files name) (λ bytes. LONGEST < length bytes)
+ReadTold files name old new (Err read.TooLong) = (new.last ≡ name) × (new.faults ≡ old.faults) × IsSomeAnd (get files name) (λ bytes. longest_file < length bytes)
 ReadTold files name old new (Err read.Failed) = new.last ≡ name
 ReadTold files name old new (Err read.NoMemory) = new.last ≡ old.last
 

@@ -8,12 +8,10 @@ mod memory;
 mod shelf;
 mod sink;
 mod stream;
-#[cfg(test)]
-mod tests;
 
 pub use disk::DiskShelf;
 pub use mem_sink::{MemSink, ROOM};
 pub use memory::{CleanShelf, MemShelf};
-pub use shelf::{LONGEST, ReadEnd, Shelf, WriteEnd};
+pub use shelf::{LONGEST, ReadEnd, Shelf, WriteEnd, limits};
 pub use sink::{Sink, SinkFailed};
 pub use stream::StdSink;

@@ -1,6 +1,6 @@
 //! A sink in memory, for tests and for runs whose text is wanted as bytes.
 
-ghost use Rattle.std.specs.Prelude.{◌==◌, if◌then◌else◌, ◌≡◌, ◌≤◌, length, Some, vec_capacity, vec_len, OnOk};
+ghost use Rattle.std.specs.Prelude.{◌==◌, if◌then◌else◌, ◌≡◌, ◌≤◌, length, Some, vec_capacity, vec_len, OnOk, OnErr};
 ghost use Rattle.cjc_shelf.specs.Sink.{Puts};
 
 use crate::memory::is_listed;
@@ -51,6 +51,7 @@ impl MemSink {
     pub fn reserve(&mut self) -> Result<(), NoMemory>
         ensures same { sink_sunk self.new ≡ sink_sunk self.old }
         ensures room { OnOk result (room_of self.new ≡ (if room_of self.old == 0 then ROOM else room_of self.old)) }
+        ensures no_room { OnErr result (room_of self.new ≡ room_of self.old) }
         ensures next { next_put self.new ≡ next_put self.old }
         ensures failing { failing_puts self.new ≡ failing_puts self.old }
     {

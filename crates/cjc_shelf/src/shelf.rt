@@ -1,6 +1,7 @@
 //! What a shelf of files is, whatever keeps them.
 
-ghost use Rattle.cjc_shelf.specs.Shelf.{Shelved, Reads, Writes};
+ghost use Rattle.std.specs.Prelude.{◌≡◌};
+ghost use Rattle.cjc_shelf.specs.Shelf.{Shelved, Reads, Writes, longest_file};
 
 use cjc_bytes::Bytes;
 use std::alloc::Global;
@@ -48,3 +49,8 @@ pub trait Shelf {
     fn write(&mut self, name: &[u8], bytes: &[u8]) -> Result<(), WriteEnd>
         ensures { Writes name.now bytes.now (shelved self.old) (shelved self.new) result };
 }
+
+/// The longest file that is read is as long as the definition of a shelf says.
+pub fn limits()
+    ensures { LONGEST ≡ longest_file }
+{}

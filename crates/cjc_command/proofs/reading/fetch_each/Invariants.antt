@@ -1,11 +1,12 @@
-use Rattle.std.proofs.Common.{◌≡◌, drop, length}
+use Rattle.std.proofs.Common.{◌≡◌, false, drop, length}
+use Rattle.cjc_command.specs.Plan.{for_each, read_behind, read_each}
 use Rattle.cjc_command.specs.Gather.{AreShort}
 use Rattle.cjc_command.proofs.Each.{GoesBack}
 use Rattle.cjc_command.proofs.reading.fetch_each.Given as goal
 
 abbrev pub invariant-loop-name : goal.invariant-loop-name
 invariant-loop-name g l = record {
-  back : GoesBack l.names l.files (drop l.name-index l.names) (g.S.Shelf.shelved l.fn.shelf) (g.S.Shelf.shelved l.shelf);
+  back : GoesBack (read_each l.names) (for_each (λ front. false) read_behind l.files (drop l.name-index l.names)) (g.S.Shelf.shelved l.fn.shelf) (g.S.Shelf.shelved l.shelf);
   count : length l.files ≡ l.name-index;
   short : AreShort l.files;
 }

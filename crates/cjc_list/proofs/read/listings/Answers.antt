@@ -1,5 +1,11 @@
-use Rattle.cjc_list.proofs.Decided.{one_list, one_refusal, not_both, always_one}
+use Rattle.cjc_list.proofs.Decided.{listed_spelt, spelt_listed, listed_broken, broken_listed, one_list, one_refusal, not_both, always_one}
 use Rattle.cjc_list.proofs.read.listings.Goals as goal
+
+pub returns-clause-spells : goal.returns-clause-spells
+returns-clause-spells c = λ name text t. (listed_spelt name text t, spelt_listed name text t)
+
+pub returns-clause-breaks : goal.returns-clause-breaks
+returns-clause-breaks c = λ name text r. (listed_broken name text r, broken_listed name text r)
 
 pub returns-clause-list : goal.returns-clause-list
 returns-clause-list c = λ name text s t. one_list name text s t
