@@ -1,7 +1,8 @@
 -- Fields and attributes (Java Virtual Machine Specification, sections 4.5, 4.7 and 4.7.2).
-use Rattle.std.specs.Prelude.{ℕ, ℤ, Bool, true, false, List, Option, Some, None, option_and_then, slice_get, is_some, nat_lt, ◌==◌, ◌&&◌, if◌then◌else◌, codes, bit_and}
+use Rattle.std.specs.Prelude.{ℕ, ℤ, Bool, true, false, List, Option, Some, None, option_and_then, slice_get, is_some, ◌==◌, ◌&&◌, if◌then◌else◌, codes}
 use Rattle.std.specs.Int.{w16, w32}
 use Rattle.std.specs.Str.{bytes_eq}
+use Rattle.cjc_bytes.specs.AccessFlags.{is_static}
 use Rattle.cjc_bytes.specs.Format.{Format, number, gives, ◌>>=◌, iterated, u2, u4, raw}
 use Rattle.cjc_classfile.specs.declared.tree.FieldTree.{FieldTree}
 use Rattle.cjc_classfile.specs.Entry.{Entry, integer, float, wide, string}
@@ -16,9 +17,6 @@ desc_field pool is_method = number w16 (desc_of_at pool is_method)
 
 unfoldable pub class_field : List Entry → Format (List ℕ)
 class_field pool = number w16 (class_name_at pool)
-
-abbrev pub has : ℕ → ℕ → Bool
-has flags flag = nat_lt 0 (bit_and flags flag)
 
 -- an attribute behind its name, whatever it says
 unfoldable pub skipped : Format Unit
@@ -84,5 +82,5 @@ field_tree pool = do
   name ← text_field pool
   desc ← desc_field pool false
   count ← u2
-  constant ← iterated count (field_attribute pool (has flags 0x0008)) None
+  constant ← iterated count (field_attribute pool (is_static flags)) None
   gives (record { flags = flags; name = name; desc = desc; constant = value_of constant })

@@ -8,7 +8,8 @@ use Rattle.cjc_classfile.specs.Code.{CodeTree}
 use Rattle.cjc_classfile.specs.CodeAttribute.{code}
 use Rattle.cjc_classfile.specs.Entry.{Entry}
 use Rattle.cjc_classfile.specs.Items.{text_at}
-use Rattle.cjc_classfile.specs.Members.{has, text_field, desc_field, skipped}
+use Rattle.cjc_classfile.specs.Members.{text_field, desc_field, skipped}
+use Rattle.cjc_bytes.specs.AccessFlags.{acc_native, has, is_abstract}
 
 -- whether an attribute of a method is its code. A method that needs code has it once, and no other method
 -- has it; where it has not come yet, the last attribute has to be it
@@ -39,7 +40,7 @@ attribute_count needed n = if needed && (n == 0) then None else Some n
 
 -- neither abstract nor native
 abbrev pub needs_code : ℕ → Bool
-needs_code flags = if has flags 0x0400 then false else (if has flags 0x0100 then false else true)
+needs_code flags = if is_abstract flags then false else (if has flags acc_native then false else true)
 
 unfoldable pub method_tree : List Entry → Format MethodTree
 method_tree pool = do

@@ -3,7 +3,7 @@
 ghost use Rattle.std.specs.Prelude.{◌≡◌, ◌<◌, ◌^◌, ◌⊎◌, ℕ, List, length, IfOk, IfErr};
 ghost use Rattle.cjc_bytes.specs.Format.{repeated, FileSpells, FileBreaks};
 ghost use Rattle.cjc_bytes.specs.Found.{Finds};
-ghost use Rattle.cjc_bytes.specs.Reading.{Reads, read_file};
+ghost use Rattle.cjc_bytes.specs.Reading.{Reads, IsReading, read_file};
 ghost use Rattle.cjc_bytes.specs.Refused.{IsUnlessNoMemory, IsBreak};
 ghost use Rattle.cjc_bytes.specs.declared.fault.Fault.TheVariants as faults;
 ghost use Rattle.cjc_classfile.specs.declared.tree.ClassTree.{ClassTree as Tree};
@@ -148,12 +148,14 @@ pub fn read<'a>(alloc: Global, file: &[u8], bytes: &'a [u8]) -> Result<ClassTree
     }
 }
 
-/// The bytes of a file spell one class at most, or break at one place, and not both.
+/// The bytes of a file spell one class at most, or break at one place, and not both; and reading as a function of the
+/// bytes gives that class or place.
 pub fn readings()
     ensures class { (s t : Tree) (bytes : List ℕ) → FileSpells class_file s bytes → FileSpells class_file t bytes → s ≡ t }
     ensures place { (j k : ℕ) (bytes : List ℕ) → FileBreaks class_file bytes j → FileBreaks class_file bytes k → j ≡ k }
     ensures both { (t : Tree) (k : ℕ) (bytes : List ℕ) → FileSpells class_file t bytes → FileBreaks class_file bytes k → ⊥ }
     ensures either { (bytes : List ℕ) → ((t : Tree) × FileSpells class_file t bytes) ⊎ ((k : ℕ) × FileBreaks class_file bytes k) }
+    ensures reading { (bytes : List ℕ) → IsReading class_file bytes }
 {}
 
 /// A class that the bytes of a file spell keeps to the widths of the file's fields: its texts have at most 65,535

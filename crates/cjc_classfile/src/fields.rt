@@ -4,19 +4,13 @@ ghost use Rattle.std.specs.Prelude.{◌≡◌, None};
 ghost use Rattle.std.specs.Option.{option_copied};
 ghost use Rattle.cjc_bytes.specs.Format.{iterated, repeated};
 ghost use Rattle.cjc_bytes.specs.Reading.{Reads};
-ghost use Rattle.cjc_classfile.specs.Members.{text_field, desc_field, class_field, has, skipped, attribute, constant_at, constant_content, constant_name_at, field_attribute, field_tree};
+ghost use Rattle.cjc_classfile.specs.Members.{text_field, desc_field, class_field, skipped, attribute, constant_at, constant_content, constant_name_at, field_attribute, field_tree};
 
 use crate::items::{class_name_at, desc_of_at, text_at};
 use crate::pool::{Entry, EntryKind};
 use crate::tree::FieldTree;
-use cjc_bytes::{Bytes, Cursor, Row, Stop};
+use cjc_bytes::{Bytes, Cursor, Row, Stop, is_static};
 use std::alloc::Global;
-
-pub(crate) fn has(flags: u16, flag: u16) -> bool
-    ensures { result ≡ has flags flag }
-{
-    flags & flag > 0
-}
 
 #[tactic(auto, unfolding(crate::specs::Members::text_field))]
 pub(crate) fn read_text<'a>(pool: &[Entry<'a>], cursor: &mut Cursor<'_>) -> Result<&'a [u8], Stop>
@@ -160,7 +154,7 @@ fn read_field(alloc: Global, pool: &[Entry<'_>], cursor: &mut Cursor<'_>) -> Res
     let name = read_text(pool, cursor)?;
     let desc = read_desc(pool, false, cursor)?;
     let count = cursor.u2()?;
-    let constant = read_field_attributes(pool, has(flags, 0x0008), count, cursor)?;
+    let constant = read_field_attributes(pool, is_static(flags), count, cursor)?;
     Ok(FieldTree {
         flags,
         name: Bytes::copy_of(alloc, name)?,

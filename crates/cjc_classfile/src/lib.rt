@@ -12,6 +12,3 @@ mod tree;
 
 pub use class::{read, readings, spelt_classes_fit};
 pub use tree::{Catch, ClassTree, Code, FieldTree, MethodTree, PoolItem};
-
-#[cfg(test)]
-mod tests;

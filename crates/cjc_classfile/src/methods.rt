@@ -6,11 +6,11 @@ ghost use Rattle.cjc_bytes.specs.Reading.{Reads};
 ghost use Rattle.cjc_classfile.specs.Methods.{code_name_at, method_content, method_attribute, needs_code, method_tree};
 
 use crate::code::read_code;
-use crate::fields::{has, read_desc, read_text, skip_content};
+use crate::fields::{read_desc, read_text, skip_content};
 use crate::items::text_at;
 use crate::pool::Entry;
 use crate::tree::{Code, MethodTree};
-use cjc_bytes::{Bytes, Cursor, Row, Stop};
+use cjc_bytes::{ACC_NATIVE, Bytes, Cursor, Row, Stop, has, is_abstract};
 use std::alloc::Global;
 
 #[tactic(auto, unfolding(crate::specs::Methods::code_name_at))]
@@ -84,7 +84,7 @@ fn read_method_attributes<'a>(
 fn needs_code(flags: u16) -> bool
     ensures { result ≡ needs_code flags }
 {
-    !has(flags, 0x0400) && !has(flags, 0x0100)
+    !is_abstract(flags) && !has(flags, ACC_NATIVE)
 }
 
 #[tactic(auto, unfolding(crate::specs::Methods::method_tree, cjc_bytes::specs::Format::u2))]

@@ -44,7 +44,6 @@ pub struct Catch {
 }
 
 /// The code of a method (section 4.7.3).
-#[derive(Drop)]
 pub struct Code<'a> {
     /// In words.
     pub max_stack: u16,
@@ -57,6 +56,18 @@ pub struct Code<'a> {
     pub attributes: u16,
 }
 
+impl Drop for Code<'_> {
+    fn drop(self) {
+        let Code {
+            max_stack: _max_stack,
+            max_locals: _max_locals,
+            bytes: _bytes,
+            catches: _catches,
+            attributes: _attributes,
+        } = self;
+    }
+}
+
 impl<'a> Model for Code<'a> {
     ghost use Rattle.cjc_classfile.specs.Code.{CodeTree};
 
@@ -66,7 +77,6 @@ impl<'a> Model for Code<'a> {
 }
 
 /// A method (section 4.6).
-#[derive(Drop)]
 pub struct MethodTree<'a> {
     pub flags: u16,
     pub name: Bytes,
@@ -77,8 +87,19 @@ pub struct MethodTree<'a> {
     pub attributes: u16,
 }
 
+impl Drop for MethodTree<'_> {
+    fn drop(self) {
+        let MethodTree {
+            flags: _flags,
+            name: _name,
+            desc: _desc,
+            code: _code,
+            attributes: _attributes,
+        } = self;
+    }
+}
+
 /// A class or interface (section 4.1).
-#[derive(Drop)]
 pub struct ClassTree<'a> {
     /// The major version, 45 to 52.
     pub major: u16,
@@ -92,4 +113,20 @@ pub struct ClassTree<'a> {
     pub methods: Row<MethodTree<'a>>,
     /// How many attributes the class has.
     pub attributes: u16,
+}
+
+impl Drop for ClassTree<'_> {
+    fn drop(self) {
+        let ClassTree {
+            major: _major,
+            flags: _flags,
+            name: _name,
+            superclass: _superclass,
+            interfaces: _interfaces,
+            pool: _pool,
+            fields: _fields,
+            methods: _methods,
+            attributes: _attributes,
+        } = self;
+    }
 }

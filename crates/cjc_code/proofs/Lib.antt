@@ -1,3 +1,4 @@
+pub mod TableRows
 pub mod Loops
 pub mod OneCut
 pub mod Marks

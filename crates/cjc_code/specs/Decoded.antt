@@ -9,8 +9,8 @@ use Rattle.cjc_classfile.specs.declared.tree.MethodTree.{MethodTree}
 use Rattle.cjc_classfile.specs.Code.{CodeTree}
 use Rattle.cjc_code.specs.declared.insn.JInsn.{JInsn}
 use Rattle.cjc_code.specs.declared.decoding.Broken.{Broken}
-use Rattle.cjc_code.specs.declared.decoding.Halt.{Halt}
-use Rattle.cjc_code.specs.declared.decoding.Halt.TheVariants as halts
+use Rattle.cjc_code.specs.declared.decoding.DecodeError.{DecodeError}
+use Rattle.cjc_code.specs.declared.decoding.DecodeError.TheVariants as errors
 use Rattle.cjc_code.specs.Cut.{cut}
 use Rattle.cjc_code.specs.Unfit.{unfit_code}
 use Rattle.cjc_code.specs.Named.{all_named}
@@ -52,10 +52,10 @@ unfoldable pub decoded : ClassTree → MethodTree → CodeTree → List JInsn
 decoded class method code = insns_of (decoding class method code)
 
 -- A call answered this, unless memory ran out.
-abbrev pub Answers : Result (List JInsn) Broken → Result (List JInsn) Halt → Type 0
+abbrev pub Answers : Result (List JInsn) Broken → Result (List JInsn) DecodeError → Type 0
 Answers found (Ok insns) = found ≡ Ok insns
-Answers found (Err (halts.Broken broken)) = found ≡ Err broken
-Answers found (Err halts.NoMemory) = Unit {0}
+Answers found (Err (errors.Broken broken)) = found ≡ Err broken
+Answers found (Err errors.NoMemory) = Unit {0}
 
 -- ---- what a call is asked for
 
@@ -71,15 +71,6 @@ of_method class None = Ok []
 abbrev pub decoding_at : ClassTree → ℕ → Result (List JInsn) Broken
 decoding_at class k = of_method class (slice_get class.methods k)
 
--- as in each class file
-abbrev pub HasShortBytes : Option CodeTree → Type 0
-HasShortBytes (Some code) = length code.bytes ≤ 65535
-HasShortBytes None = Unit {0}
-
-pub record HasShortCode (method : MethodTree) : Type 0 where
-  pub bytes : HasShortBytes method.code
-  pub desc : length method.desc < 2 ^ 32
-
 -- The method is there and has code, whose length and whose descriptor's length are as in each class file that is read.
 pub record HasCode (class : ClassTree) (k : ℕ) : Type 0 where
   pub method : MethodTree
@@ -89,25 +80,20 @@ pub record HasCode (class : ClassTree) (k : ℕ) : Type 0 where
   pub bytes : length code.bytes ≤ 65535
   pub desc : length method.desc < 2 ^ 32
 
--- the refusal of a method's code
-abbrev pub refusal_in : (file : List ℕ) → ClassTree → MethodTree → Broken → Refusal
-refusal_in file class method broken = record {
-  rule = record { 0 = broken.rule };
-  place = record { file = file; class = class.name; member = method.name ++ method.desc; offset = broken.offset };
-}
-
 abbrev pub no_method : MethodTree
 no_method = record { flags = 0; name = []; desc = []; code = None; attributes = 0 }
 
--- of the method at this place of the class
+-- the method at this place of the class
+abbrev pub method_at : ClassTree → ℕ → MethodTree
+method_at class k = get_or class.methods k no_method
+
+-- the refusal of the code of the method at this place of the class
 abbrev pub refusal_of : (file : List ℕ) → ClassTree → ℕ → Broken → Refusal
-refusal_of file class k broken = refusal_in file class (get_or class.methods k no_method) broken
+refusal_of file class k broken = record {
+  rule = record { 0 = broken.rule };
+  place = record { file = file; class = class.name; member = (method_at class k).name ++ (method_at class k).desc; offset = broken.offset };
+}
 
 -- The error says which rule the code breaks and where, or that memory ran out.
 abbrev pub IsBroken : Result (List JInsn) Broken → (Broken → Refusal) → Fault → Type 0
 IsBroken found refused e = (e ≡ faults.NoMemory) ⊎ ((broken : Broken) × (found ≡ Err broken) × (e ≡ faults.Refused (refused broken)))
-
--- A call answered this, or the refusal of it, unless memory ran out.
-abbrev pub Decides : Result (List JInsn) Broken → (Broken → Refusal) → Result (List JInsn) Fault → Type 0
-Decides found refused (Ok insns) = found ≡ Ok insns
-Decides found refused (Err e) = IsBroken found refused e

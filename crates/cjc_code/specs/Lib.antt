@@ -6,6 +6,6 @@ pub mod Numbers
 pub mod Unfit
 pub mod Named
 pub mod Decoded
-pub mod Lengths
 pub mod Samples
 pub mod Rules
+pub mod PackageCodes

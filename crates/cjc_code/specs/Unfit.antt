@@ -1,7 +1,8 @@
 -- Rule 103: code that is not a run of instructions (Java Virtual Machine Specification, 4.9.1). Each case is a
 -- test, and its places are offsets in the code, in bytes.
-use Rattle.std.specs.Prelude.{ℕ, zero, suc, ◌+◌, ◌-◌, Bool, true, false, not, ◌&&◌, ◌||◌, nat_lt, nat_le, int_lt, ◌==◌, if◌then◌else◌, List, [], ◌∷◌, ◌++◌, length, map, flat_map, Option, Some, None, slice_get, get_or, bit_and, ℤ, pos, negsuc}
+use Rattle.std.specs.Prelude.{ℕ, zero, suc, ◌+◌, ◌-◌, Bool, true, false, not, ◌&&◌, ◌||◌, nat_lt, nat_le, int_lt, ◌==◌, if◌then◌else◌, List, [], ◌∷◌, ◌++◌, length, map, flat_map, Option, Some, None, slice_get, get_or, ℤ, pos, negsuc}
 use Rattle.std.specs.List.{list_any, list_all}
+use Rattle.cjc_bytes.specs.AccessFlags.{is_static}
 use Rattle.cjc_bytes.specs.Descriptor.{Parts}
 use Rattle.cjc_bytes.specs.Spots.{desc_of}
 use Rattle.cjc_classfile.specs.declared.tree.Catch.{Catch}
@@ -110,10 +111,6 @@ last_places insns = where_it_may (slice_get insns (length insns - 1))
 
 abbrev pub fall_places : Cut → (size : ℕ) → List ℕ
 fall_places c size = if c.stop == size then last_places c.insns else []
-
--- ACC_STATIC (Table 4.6-A)
-abbrev pub is_static : ℕ → Bool
-is_static flags = nat_lt 0 (bit_and flags 0x0008)
 
 abbrev pub params_of : Option Parts → ℕ
 params_of (Some d) = length d.params

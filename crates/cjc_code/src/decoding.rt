@@ -1,11 +1,11 @@
 //! The instructions of a method.
 
-ghost use Rattle.std.specs.Prelude.{◌≡◌, ◌≤◌, ◌<◌, ◌^◌, ◌⊎◌, List, length, IfOk, IfErr, Ok, Err};
+ghost use Rattle.std.specs.Prelude.{◌≡◌, ◌≤◌, ◌<◌, ◌^◌, List, length, IfOk, IfErr, Ok, Err};
 ghost use Rattle.cjc_bytes.specs.Refused.{IsUnlessNoMemory};
 ghost use Rattle.cjc_bytes.specs.declared.fault.Fault.TheVariants as faults;
 ghost use Rattle.cjc_code.specs.declared.insn.JInsn.{JInsn as Insn};
 ghost use Rattle.cjc_code.specs.declared.decoding.Broken.{Broken};
-ghost use Rattle.cjc_code.specs.Decoded.{least as least_lem, decoding, decoding_at, of_code, Answers, Decides, IsBroken, HasCode, HasShortCode, refusal_in, refusal_of};
+ghost use Rattle.cjc_code.specs.Decoded.{least, decoding, decoding_at, Answers, IsBroken, HasCode, refusal_of};
 
 use crate::cutting::cut;
 use crate::insn::JInsn;
@@ -25,28 +25,28 @@ pub struct Broken {
     pub offset: u32,
 }
 
-/// Why a code gave no instructions.
+/// Why the code of a method gave no instructions.
 #[derive(Clone, Copy)]
-pub(crate) enum Halt {
+pub enum DecodeError {
     Broken(Broken),
     NoMemory,
 }
 
-impl From<NoMemory> for Halt {
+impl From<NoMemory> for DecodeError {
     ghost use Rattle.std.specs.Prelude.{◌≡◌};
-    ghost use Rattle.cjc_code.specs.declared.decoding.Halt.TheVariants as halts;
+    ghost use Rattle.cjc_code.specs.declared.decoding.DecodeError.TheVariants as errors;
 
-    ghost from_gives = { λ _ e. e ≡ halts.NoMemory };
+    ghost from_gives = { λ _ e. e ≡ errors.NoMemory };
 
-    fn from(_: NoMemory) -> Halt {
-        Halt::NoMemory
+    fn from(_: NoMemory) -> DecodeError {
+        DecodeError::NoMemory
     }
 }
 
 /// The least of some numbers.
 #[tactic(auto, unfolding(crate::specs::Decoded::least))]
 fn least(numbers: &[u32]) -> Option<u32>
-    ensures { result ≡ least_lem numbers.now }
+    ensures { result ≡ least numbers.now }
 {
     match numbers {
         [] => None,
@@ -67,7 +67,7 @@ fn decode_code(
     class: &ClassTree<'_>,
     method: &MethodTree<'_>,
     code: &Code<'_>,
-) -> Result<Row<JInsn>, Halt>
+) -> Result<Row<JInsn>, DecodeError>
     requires desc { length method.now.desc < 2 ^ 32 }
     requires bytes { length code.now.bytes ≤ 65535 }
     ensures { Answers (decoding class.now method.now code.now) result }
@@ -76,25 +76,52 @@ fn decode_code(
     let starts = starts(alloc, &cut, code.bytes.len())?;
     let places = places(alloc, class, method, code, &cut, &starts)?;
     if let Some(offset) = least(places.items()) {
-        return Err(Halt::Broken(Broken { rule: 103, offset }));
+        return Err(DecodeError::Broken(Broken { rule: 103, offset }));
     }
     match all_named(alloc, class.pool.items(), cut.insns.items()) {
         Ok(insns) => Ok(insns),
-        Err(Stop::Broken(offset)) => Err(Halt::Broken(Broken { rule: 303, offset })),
-        Err(Stop::NoMemory) => Err(Halt::NoMemory),
+        Err(Stop::Broken(offset)) => Err(DecodeError::Broken(Broken { rule: 303, offset })),
+        Err(Stop::NoMemory) => Err(DecodeError::NoMemory),
     }
 }
 
-/// The refusal of a method's code.
-fn refused(
+/// The instructions of the code of a method, by its place among the methods of its class, with their offsets
+/// and the names that they stand for.
+///
+/// # Errors
+///
+/// Rule 103 where the code is not a run of instructions, at the least offset where it is broken; else rule
+/// 303 where an instruction is not converted, at the first such.
+pub fn decode_method(
+    alloc: Global,
+    class: &ClassTree<'_>,
+    method: u32,
+) -> Result<Row<JInsn>, DecodeError>
+    requires { HasCode class.now method }
+
+    // The answer is what the code says, its instructions or the rule that it breaks, unless memory runs out.
+    ensures { Answers (decoding_at class.now method) result }
+{
+    let method = &class.methods.items()[method as usize];
+    match &method.code {
+        Some(code) => decode_code(alloc, class, method, code),
+        None => Ok(Row::new(alloc)),
+    }
+}
+
+/// The refusal of the code of a method, by its place among the methods of its class. Its place has the file, the class,
+/// the method's name and descriptor, and the offset in the code in bytes.
+pub fn refusal_of(
     alloc: Global,
     file: &[u8],
     class: &ClassTree<'_>,
-    method: &MethodTree<'_>,
+    method: u32,
     broken: Broken,
 ) -> Result<Refusal, NoMemory>
-    ensures { IfOk result (λ r. r ≡ refusal_in file.now class.now method.now broken) }
+    requires { method < length class.now.methods }
+    ensures { IfOk result (λ r. r ≡ refusal_of file.now class.now method broken) }
 {
+    let method = &class.methods.items()[method as usize];
     let mut member = Vec::from_slice(alloc, method.name.items())?;
     member.extend_from_slice(method.desc.items())?;
     Ok(Refusal {
@@ -108,36 +135,7 @@ fn refused(
     })
 }
 
-fn decode_method(
-    alloc: Global,
-    file: &[u8],
-    class: &ClassTree<'_>,
-    method: &MethodTree<'_>,
-) -> Result<Row<JInsn>, Fault>
-    requires { HasShortCode method.now }
-    ensures { Decides (of_code class.now method.now method.now.code) (refusal_in file.now class.now method.now) result }
-{
-    let code = match &method.code {
-        Some(code) => code,
-        None => return Ok(Row::new(alloc)),
-    };
-    match decode_code(alloc, class, method, code) {
-        Ok(insns) => Ok(insns),
-        Err(Halt::Broken(broken)) => {
-            Err(Fault::Refused(refused(alloc, file, class, method, broken)?))
-        }
-        Err(Halt::NoMemory) => Err(Fault::NoMemory),
-    }
-}
-
-/// The instructions of the code of a method, by its place among the methods of its class, with their offsets
-/// and the names that they stand for.
-///
-/// # Errors
-///
-/// Rule 103 where the code is not a run of instructions, at the least offset where it is broken; else rule
-/// 303 where an instruction is not converted, at the first such. The place has the file, the class, the
-/// method's name and descriptor, and the offset in the code in bytes.
+/// As `decode_method`, with a broken rule as the refusal of `refusal_of`.
 pub fn decode(
     alloc: Global,
     file: &[u8],
@@ -154,5 +152,11 @@ pub fn decode(
     ensures refused { IfErr result (IsBroken (decoding_at class.now method) (refusal_of file.now class.now method)) }
     ensures breaks { (b : Broken) → decoding_at class.now method ≡ Err b → IsUnlessNoMemory result (Err (faults.Refused (refusal_of file.now class.now method b))) }
 {
-    decode_method(alloc, file, class, &class.methods.items()[method as usize])
+    match decode_method(alloc, class, method) {
+        Ok(insns) => Ok(insns),
+        Err(DecodeError::Broken(broken)) => {
+            Err(Fault::Refused(refusal_of(alloc, file, class, method, broken)?))
+        }
+        Err(DecodeError::NoMemory) => Err(Fault::NoMemory),
+    }
 }

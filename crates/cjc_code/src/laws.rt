@@ -1,9 +1,9 @@
 //! What the definitions of this crate come to.
 
-ghost use Rattle.std.specs.Prelude.{◌≡◌, ◌↔◌, true, List, Some, None, Ok, Err, ℕ, map};
+ghost use Rattle.std.specs.Prelude.{◌≡◌, ◌<◌, ◌↔◌, true, List, Some, None, Ok, Err, ℕ, map, slice_get};
 ghost use Rattle.cjc_code.specs.declared.raw.Cut.{Cut as Parts};
 ghost use Rattle.cjc_code.specs.declared.table.TheConstants.{TABLE};
-ghost use Rattle.cjc_code.specs.Lengths.{length_of, lengths, is_converted, converted};
+ghost use Rattle.cjc_code.specs.Table.{row};
 ghost use Rattle.cjc_code.specs.Cut.{IsCut, cut};
 ghost use Rattle.cjc_classfile.specs.declared.tree.ClassTree.{ClassTree};
 ghost use Rattle.cjc_classfile.specs.declared.tree.MethodTree.{MethodTree};
@@ -13,10 +13,9 @@ ghost use Rattle.cjc_code.specs.Decoded.{decoding};
 ghost use Rattle.cjc_code.specs.Rules.{IsStart, starts_at, IsFirstUnfit, IsFirstForeignCode, IsDecoded};
 ghost use Rattle.cjc_code.specs.Samples.{sample, broken, unfit, foreign, good, others};
 
-/// The opcodes are those of the Java Virtual Machine with their lengths, and those that are converted.
+/// The table by which code is cut has for each opcode what the ranges of the standard say.
 pub fn opcodes()
-    ensures lengths { map length_of TABLE ≡ lengths }
-    ensures converted { map is_converted TABLE ≡ converted }
+    ensures { (opcode : ℕ) → opcode < 256 → slice_get TABLE opcode ≡ Some (row opcode) }
 {}
 
 /// The bytes of a code are cut in one way, and in one only.

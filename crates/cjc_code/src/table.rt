@@ -2,8 +2,8 @@
 //! and what its instruction is.
 
 ghost use Rattle.std.specs.Prelude.{◌≡◌};
-ghost use Rattle.cjc_code.specs.Table.{row as row_lem, heads as heads_lem, wide as wide_lem};
-ghost use Rattle.cjc_code.specs.Instruction.{is_unknown as is_unknown_lem, opcode_at as opcode_at_lem, wide_opcode_at as wide_opcode_at_lem};
+ghost use Rattle.cjc_code.specs.Table.{row, heads, wide};
+ghost use Rattle.cjc_code.specs.Instruction.{is_unknown, opcode_at, wide_opcode_at};
 
 /// A number behind an opcode, with its bytes.
 #[derive(Clone, Copy)]
@@ -366,13 +366,13 @@ pub(crate) static TABLE: [(Operands, Family); 256] = [
 ];
 
 fn row(number: u8) -> (Operands, Family)
-    ensures { result ≡ row_lem number }
+    ensures { result ≡ row number }
 {
     TABLE[usize::from(number)]
 }
 
 fn is_unknown(family: Family) -> bool
-    ensures { result ≡ is_unknown_lem family }
+    ensures { result ≡ is_unknown family }
 {
     matches!(family, Unknown)
 }
@@ -380,7 +380,7 @@ fn is_unknown(family: Family) -> bool
 /// The opcode of this number, where there is one.
 #[tactic(auto, unfolding(crate::specs::Instruction::opcode_at))]
 pub(crate) fn opcode_at(number: u8) -> Option<Opcode>
-    ensures { result ≡ opcode_at_lem number }
+    ensures { result ≡ opcode_at number }
 {
     let (operands, family) = row(number);
     if is_unknown(family) {
@@ -394,7 +394,7 @@ pub(crate) fn opcode_at(number: u8) -> Option<Opcode>
 }
 
 fn wide(operands: Operands, family: Family) -> Option<Operands>
-    ensures { result ≡ wide_lem (operands, family) }
+    ensures { result ≡ wide (operands, family) }
 {
     match (operands, family) {
         (U1, Load(_) | Store(_) | ForeignLocal | Ret) => Some(U2),
@@ -406,7 +406,7 @@ fn wide(operands: Operands, family: Family) -> Option<Operands>
 /// The opcode of this number behind the prefix, where it may stand there.
 #[tactic(auto, unfolding(crate::specs::Instruction::wide_opcode_at))]
 pub(crate) fn wide_opcode_at(number: u8) -> Option<Opcode>
-    ensures { result ≡ wide_opcode_at_lem number }
+    ensures { result ≡ wide_opcode_at number }
 {
     let (narrow, family) = row(number);
     let operands = wide(narrow, family)?;
@@ -419,7 +419,7 @@ pub(crate) fn wide_opcode_at(number: u8) -> Option<Opcode>
 
 /// The operands of fixed number.
 pub(crate) fn heads(operands: Operands) -> &'static [Operand]
-    ensures { result.now ≡ heads_lem operands }
+    ensures { result.now ≡ heads operands }
 {
     match operands {
         Nothing => &[],

@@ -3,14 +3,14 @@
 ghost use Rattle.std.specs.Prelude.{◌≡◌, ◌++◌, ◌≤◌, ◌^◌, ◌<◌, length, OnOk, IfOk, map, pos};
 ghost use Rattle.std.specs.List.{flat_map};
 ghost use Rattle.cjc_bytes.specs.Spots.{desc_of};
-ghost use Rattle.cjc_code.specs.Unfit.{rise as rise_lem, has_wrong_item as has_wrong_item_lem, has_wrong_jump as has_wrong_jump_lem, has_wrong_local as has_wrong_local_lem, has_wrong_values as has_wrong_values_lem, has_wrong_type as has_wrong_type_lem, is_unfit as is_unfit_lem, where_true, unfit_places, may_go_on as may_go_on_lem, last_places, is_static as is_static_lem, arguments as arguments_lem, catch_places, cut_places};
+ghost use Rattle.cjc_code.specs.Unfit.{rise as rise_lem, has_wrong_item as has_wrong_item_lem, has_wrong_jump as has_wrong_jump_lem, has_wrong_local as has_wrong_local_lem, has_wrong_values as has_wrong_values_lem, has_wrong_type as has_wrong_type_lem, is_unfit as is_unfit_lem, where_true, unfit_places, may_go_on as may_go_on_lem, last_places, arguments as arguments_lem, catch_places, cut_places};
 
 use crate::items::{meets, needed};
 use crate::numbers::{first, local, u8_of, u16_of};
 use crate::raw::{Cut, Raw};
 use crate::starts::{is_start, jumps_land};
 use crate::table::Family;
-use cjc_bytes::{Desc, NoMemory, Row};
+use cjc_bytes::{Desc, NoMemory, Row, is_static};
 use cjc_classfile::{Catch, ClassTree, Code, MethodTree, PoolItem};
 use std::alloc::Global;
 
@@ -135,12 +135,6 @@ fn put_last(insns: &[Raw], places: &mut Row<u32>) -> Result<(), NoMemory>
         [] => Ok(()),
         [.., last] => put(places, may_go_on(last.family), u32::from(last.at)),
     }
-}
-
-fn is_static(flags: u16) -> bool
-    ensures { result ≡ is_static_lem flags }
-{
-    flags & 0x0008 > 0
 }
 
 /// How many locals the arguments take, one for each parameter and one for `this`.

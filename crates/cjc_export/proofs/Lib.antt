@@ -8,3 +8,4 @@ pub mod Spelling
 pub mod Worth
 pub mod Entries
 pub mod Spelt
+pub mod Upwards

@@ -17,7 +17,8 @@ use Rattle.cjc_export.specs.declared.tree.ExportMethod.{ExportMethod}
 use Rattle.cjc_export.specs.declared.tree.ExportClass.{ExportClass}
 use Rattle.cjc_export.specs.declared.tree.ExportTree.{ExportTree}
 use Rattle.cjc_export.specs.declared.file.Package.{Package}
-use Rattle.cjc_export.specs.Words.{is_static, is_final, is_interface, exactly, broken_where}
+use Rattle.cjc_export.specs.Words.{exactly, broken_where}
+use Rattle.cjc_bytes.specs.AccessFlags.{is_static, is_final, is_interface}
 use Rattle.cjc_export.specs.Entry.{Entry, package_info}
 use Rattle.cjc_export.specs.Entry as entries
 use Rattle.cjc_export.specs.Pool.{tag_of, counted, index, aid_length, is_library, content, entry, as_text, as_class, text_at, tested_name, tested, class_name_at}

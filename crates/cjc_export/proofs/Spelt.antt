@@ -19,7 +19,8 @@ use Rattle.cjc_export.specs.declared.tree.ExportMethod.{ExportMethod}
 use Rattle.cjc_export.specs.declared.tree.ExportClass.{ExportClass}
 use Rattle.cjc_export.specs.declared.tree.ExportTree.{ExportTree}
 use Rattle.cjc_export.specs.declared.file.Package.{Package}
-use Rattle.cjc_export.specs.Words.{is_interface, broken_where}
+use Rattle.cjc_export.specs.Words.{broken_where}
+use Rattle.cjc_bytes.specs.AccessFlags.{is_interface}
 use Rattle.cjc_export.specs.Entry.{Entry}
 use Rattle.cjc_export.specs.Entry as entries
 use Rattle.cjc_export.specs.Pool.{aid_length, as_text, as_class, text_at, class_name_at}

@@ -7,7 +7,8 @@ use Rattle.cjc_bytes.specs.Format.{Format, number, looked_up, gives, ◌>>=◌, 
 use Rattle.cjc_bytes.specs.Found.{all_of}
 use Rattle.cjc_export.specs.declared.tree.ExportClass.{ExportClass}
 use Rattle.cjc_export.specs.declared.tree.ExportTree.{ExportTree}
-use Rattle.cjc_export.specs.Words.{is_interface, exactly}
+use Rattle.cjc_export.specs.Words.{exactly}
+use Rattle.cjc_bytes.specs.AccessFlags.{is_interface}
 use Rattle.cjc_export.specs.Entry.{Entry}
 use Rattle.cjc_export.specs.Pool.{entry, tested, class_name_at}
 use Rattle.cjc_export.specs.Package.{package_field}

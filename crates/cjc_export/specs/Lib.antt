@@ -11,3 +11,4 @@ pub mod Working
 pub mod Writable
 pub mod Lookup
 pub mod Tokens
+pub mod Supers

@@ -7,7 +7,8 @@ use Rattle.cjc_bytes.specs.Format.{Format, number, here, looked_up, gives, ◌>>
 use Rattle.cjc_bytes.specs.Spots.{desc_of}
 use Rattle.cjc_export.specs.declared.tree.ExportField.{ExportField}
 use Rattle.cjc_export.specs.declared.tree.ExportMethod.{ExportMethod}
-use Rattle.cjc_export.specs.Words.{is_static, is_final, exactly, broken_where}
+use Rattle.cjc_export.specs.Words.{exactly, broken_where}
+use Rattle.cjc_bytes.specs.AccessFlags.{is_static, is_final}
 use Rattle.cjc_export.specs.Entry.{Entry, integer}
 use Rattle.cjc_export.specs.Pool.{text_at, class_name_at}
 

@@ -6,7 +6,7 @@ use Rattle.cjc_bytes.specs.Found.{◌>>=◌ as ◌>>>◌, kept}
 use Rattle.cjc_export.specs.declared.pool.Index.{Index}
 use Rattle.cjc_export.specs.declared.pool.Tag.{Tag}
 use Rattle.cjc_export.specs.declared.pool.Tag.TheVariants as tags
-use Rattle.cjc_export.specs.Words.{has}
+use Rattle.cjc_bytes.specs.AccessFlags.{has}
 use Rattle.cjc_export.specs.Entry.{Entry, text, integer, class, package_info}
 
 abbrev pub tag_of : ℕ → Option Tag

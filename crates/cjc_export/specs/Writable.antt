@@ -6,7 +6,7 @@ use Rattle.cjc_export.specs.declared.tree.ExportField.{ExportField}
 use Rattle.cjc_export.specs.declared.tree.ExportMethod.{ExportMethod}
 use Rattle.cjc_export.specs.declared.tree.ExportClass.{ExportClass}
 use Rattle.cjc_export.specs.declared.tree.ExportTree.{ExportTree}
-use Rattle.cjc_export.specs.Words.{is_interface}
+use Rattle.cjc_bytes.specs.AccessFlags.{is_interface}
 use Rattle.cjc_export.specs.Pool.{aid_length}
 use Rattle.cjc_export.specs.Members.{as_desc, may_be_constant, field_token_taken, is_unbound, method_token_wrong, interface_token, not_special}
 use Rattle.cjc_export.specs.ExportFile.{class_token, new_name, method_count}

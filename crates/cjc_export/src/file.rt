@@ -4,7 +4,7 @@ ghost use Rattle.std.specs.Prelude.{◌≡◌, ◌<◌, ◌≤◌, ◌^◌, ◌�
 ghost use Rattle.std.specs.Option.{option_copied};
 ghost use Rattle.cjc_bytes.specs.Format.{repeated, iterated, FileSpells, FileBreaks};
 ghost use Rattle.cjc_bytes.specs.Found.{Finds};
-ghost use Rattle.cjc_bytes.specs.Reading.{Reads, read_file};
+ghost use Rattle.cjc_bytes.specs.Reading.{Reads, IsReading, read_file};
 ghost use Rattle.cjc_bytes.specs.Refused.{IsUnlessNoMemory, IsBreak, refusal};
 ghost use Rattle.cjc_bytes.specs.declared.fault.Fault.TheVariants as faults;
 ghost use Rattle.cjc_export.specs.declared.tree.ExportTree.{ExportTree as Tree};
@@ -14,11 +14,10 @@ ghost use Rattle.cjc_export.specs.Writable.{AreBytes, IsWritable};
 ghost use Rattle.cjc_export.specs.Written.{written};
 ghost use Rattle.cjc_export.specs.ExportFile.{token_taken, class_token, name_taken, new_name_at, class_tree, front_part, export_file};
 
-use crate::flags::is_interface;
 use crate::members::{read_class, read_fields, read_methods};
 use crate::pool::{Entry, Kind, class_name_at, read_pool, test_entries, text_at};
 use crate::tree::{ExportClass, ExportTree};
-use cjc_bytes::{Bytes, Cursor, Fault, Row, Stop, refused};
+use cjc_bytes::{Bytes, Cursor, Fault, Row, Stop, is_interface, refused};
 use std::alloc::Global;
 
 /// What the pool says of the package.
@@ -145,27 +144,28 @@ fn read_class_tree(
     let at = cursor.at();
     let index = cursor.u2()?;
     let name = new_name_at(pool, so_far.items(), index).ok_or(Stop::Broken(at))?;
+    let mut class = ExportClass {
+        token,
+        flags,
+        name: Bytes::copy_of(alloc, name)?,
+        supers: Row::new(alloc),
+        interfaces: Row::new(alloc),
+        fields: Row::new(alloc),
+        methods: Row::new(alloc),
+    };
     let count = cursor.u2()?;
-    let supers = read_classes(alloc, pool, count, cursor)?;
+    class.supers = read_classes(alloc, pool, count, cursor)?;
     let count = cursor.u1()?;
-    let interfaces = read_classes(alloc, pool, u16::from(count), cursor)?;
+    class.interfaces = read_classes(alloc, pool, u16::from(count), cursor)?;
     let count = cursor.u2()?;
-    let fields = read_fields(alloc, pool, count, cursor)?;
+    class.fields = read_fields(alloc, pool, count, cursor)?;
     let at = cursor.at();
     let count = cursor.u2()?;
     if is_interface(flags) && count > 255 {
         return Err(Stop::Broken(at));
     }
-    let methods = read_methods(alloc, pool, is_interface(flags), count, cursor)?;
-    Ok(ExportClass {
-        token,
-        flags,
-        name: Bytes::copy_of(alloc, name)?,
-        supers,
-        interfaces,
-        fields,
-        methods,
-    })
+    class.methods = read_methods(alloc, pool, is_interface(flags), count, cursor)?;
+    Ok(class)
 }
 
 #[tactic(auto, using(crate::proofs::Grown::grown_more, cjc_bytes::proofs::Loops::iterated_all))]
@@ -241,13 +241,15 @@ pub fn read(alloc: Global, file: &[u8], bytes: &[u8]) -> Result<ExportTree, Faul
     }
 }
 
-/// The bytes of a file spell one tree at most, or break at one place, and not both. The trees that bytes spell are
+/// The bytes of a file spell one tree at most, or break at one place, and not both; and reading as a function of the bytes
+/// gives that tree or place. The trees that bytes spell are
 /// those that can be written, and no bytes that spell a tree are fewer than the written ones.
 pub fn readings()
     ensures tree { (s t : Tree) (bytes : List ℕ) → FileSpells export_file s bytes → FileSpells export_file t bytes → s ≡ t }
     ensures place { (j k : ℕ) (bytes : List ℕ) → FileBreaks export_file bytes j → FileBreaks export_file bytes k → j ≡ k }
     ensures both { (t : Tree) (k : ℕ) (bytes : List ℕ) → FileSpells export_file t bytes → FileBreaks export_file bytes k → ⊥ }
     ensures either { (bytes : List ℕ) → ((t : Tree) × FileSpells export_file t bytes) ⊎ ((k : ℕ) × FileBreaks export_file bytes k) }
+    ensures reading { (bytes : List ℕ) → IsReading export_file bytes }
     ensures writable { (t : Tree) (bytes : List ℕ) → AreBytes bytes → FileSpells export_file t bytes → IsWritable t }
     ensures written { (t : Tree) → IsWritable t → FileSpells export_file t (written t) }
     ensures shortest { (t : Tree) (bytes : List ℕ) → AreBytes bytes → FileSpells export_file t bytes → length (written t) ≤ length bytes }

@@ -4,7 +4,6 @@
 
 mod constants;
 mod file;
-mod flags;
 mod lookup;
 mod members;
 mod needs;
@@ -13,9 +12,7 @@ mod tree;
 mod writing;
 
 pub use file::{read, readings};
+pub use lookup::supers;
 pub use members::may_be_constant;
 pub use tree::{ExportClass, ExportField, ExportMethod, ExportTree};
 pub use writing::write;
-
-#[cfg(test)]
-mod tests;

@@ -1,7 +1,10 @@
 //! Looking up classes and members of a tree. Nothing here takes memory.
 
-ghost use Rattle.std.specs.Prelude.{◌≡◌};
+ghost use Rattle.std.specs.Prelude.{◌≡◌, ◌↔◌, ℕ, List, true, Some, map};
+ghost use Rattle.std.specs.List.{AllByRecursion};
 ghost use Rattle.cjc_export.specs.Lookup.{in_32_bits, name_place, token_place, field_place, method_place, member_place, place_of_member};
+ghost use Rattle.cjc_export.specs.Supers.{class_named, is_one_of, are_apart, IsAtOrAbove, upwards};
+ghost use Rattle.cjc_export.specs.declared.tree.ExportClass.{ExportClass as Class};
 
 use crate::tree::{ExportClass, ExportField, ExportMethod, ExportTree};
 
@@ -85,3 +88,12 @@ impl ExportTree {
         }
     }
 }
+
+/// Going upwards over export files gives the classes of some names and all that stand above them by what is listed, each
+/// once, and nothing else.
+pub fn supers()
+    ensures found { (classes : List Class) (names : List (List ℕ)) (name : List ℕ)
+        → (is_one_of (map (λ c. c.name) (upwards classes names)) name ≡ true) ↔ (IsAtOrAbove classes names name × ((c : Class) × (class_named classes name ≡ Some c))) }
+    ensures own { (classes : List Class) (names : List (List ℕ)) → AllByRecursion (λ c. class_named classes c.name ≡ Some c) (upwards classes names) }
+    ensures once { (classes : List Class) (names : List (List ℕ)) → are_apart (map (λ c. c.name) (upwards classes names)) ≡ true }
+{}

@@ -8,10 +8,9 @@ ghost use Rattle.cjc_bytes.specs.Reading.{Reads};
 ghost use Rattle.cjc_export.specs.Words.{broken_where};
 ghost use Rattle.cjc_export.specs.Members.{grown, text_field, class_field, same_bool, as_desc, desc_at, desc_field, is_constant_type, may_be_constant, constant_name_at, integer_at, attribute_content, attribute, field_token_taken, no_token, where_constant, field, is_unbound, method_token_taken, method_token_wrong, class_method, interface_token_taken, interface_token, interface_name_at, interface_method, method};
 
-use crate::flags::{is_final, is_static};
 use crate::pool::{Entry, Kind, class_name_at, text_at};
 use crate::tree::{ExportField, ExportMethod};
-use cjc_bytes::{Bytes, Cursor, Desc, Row, Stop};
+use cjc_bytes::{Bytes, Cursor, Desc, Row, Stop, is_final, is_static};
 use std::alloc::Global;
 
 #[tactic(auto, unfolding(crate::specs::Members::text_field))]

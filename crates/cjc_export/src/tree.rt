@@ -4,7 +4,6 @@
 use cjc_bytes::{Bytes, Row};
 
 /// A package and what it exports.
-#[derive(Drop)]
 pub struct ExportTree {
     /// The package's name, its parts joined by `/`.
     pub name: Bytes,
@@ -16,8 +15,20 @@ pub struct ExportTree {
     pub classes: Row<ExportClass>,
 }
 
+impl Drop for ExportTree {
+    fn drop(self) {
+        let ExportTree {
+            name: _name,
+            aid: _aid,
+            major: _major,
+            minor: _minor,
+            library: _library,
+            classes: _classes,
+        } = self;
+    }
+}
+
 /// An exported class or interface.
-#[derive(Drop)]
 pub struct ExportClass {
     pub token: u8,
     pub flags: u16,
@@ -29,6 +40,20 @@ pub struct ExportClass {
     pub interfaces: Row<Bytes>,
     pub fields: Row<ExportField>,
     pub methods: Row<ExportMethod>,
+}
+
+impl Drop for ExportClass {
+    fn drop(self) {
+        let ExportClass {
+            token: _token,
+            flags: _flags,
+            name: _name,
+            supers: _supers,
+            interfaces: _interfaces,
+            fields: _fields,
+            methods: _methods,
+        } = self;
+    }
 }
 
 /// A field that can be used.

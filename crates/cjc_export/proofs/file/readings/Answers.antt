@@ -1,4 +1,4 @@
-use Rattle.cjc_bytes.proofs.Laws.{one_value, one_place, spelt_or_broken, decided}
+use Rattle.cjc_bytes.proofs.Laws.{one_value, one_place, spelt_or_broken, decided, reading_is}
 use Rattle.cjc_export.specs.ExportFile.{export_file}
 use Rattle.cjc_export.proofs.Spelling.{written_spells}
 use Rattle.cjc_export.proofs.Spelt.{IsWritable-spelt, length-written}
@@ -15,6 +15,9 @@ returns-clause-both c = λ t k bytes. spelt_or_broken export_file bytes t k
 
 pub returns-clause-either : goal.returns-clause-either
 returns-clause-either c = λ bytes. decided export_file bytes
+
+pub returns-clause-reading : goal.returns-clause-reading
+returns-clause-reading c = λ bytes. reading_is export_file bytes
 
 pub returns-clause-writable : goal.returns-clause-writable
 returns-clause-writable c = λ t bytes. IsWritable-spelt t bytes

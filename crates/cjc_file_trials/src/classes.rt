@@ -1,5 +1,7 @@
-use super::*;
+//! Class files from outside, and what reading them gives.
+
 use cjc_bytes::{BadDesc, Desc, Fault, Rule};
+use cjc_classfile::{ClassTree, MethodTree, read};
 use std::test::*;
 
 /// A public class p/T with one static method f(S)S of five bytes of code.
@@ -41,14 +43,16 @@ const CHANGES: [(usize, u8, u16, u32); 16] = [
     (92, 0, 101, 89), // no code
 ];
 
+/// The start of a class file whose pool is cut behind the tag of its first entry.
+const CUT_POOL: [u8; 12] = [0xCA, 0xFE, 0xBA, 0xBE, 0, 0, 0, 0x34, 0, 3, 1, 0];
+
 /// The rule and the offset of the refusal, or nothing.
 fn refusal(rt: &HostRuntime, bytes: &[u8]) -> Option<(u16, u32)> {
     if bytes.len() > 1000 {
         return None;
     }
     match read(rt.alloc(), b"T.class", bytes) {
-        Ok(_) => None,
-        Err(Fault::NoMemory) => None,
+        Ok(_) | Err(Fault::NoMemory) => None,
         Err(Fault::Refused(refusal)) => {
             let Rule(rule) = refusal.rule;
             Some((rule, refusal.place.offset))
@@ -56,25 +60,28 @@ fn refusal(rt: &HostRuntime, bytes: &[u8]) -> Option<(u16, u32)> {
     }
 }
 
+fn is_the_method(method: &MethodTree<'_>) -> bool {
+    method.name.items() == b"f".as_slice()
+        && method.desc.items() == b"(S)S".as_slice()
+        && matches!(&method.code, Some(code) if code.bytes.len() == 5 && code.max_stack == 2)
+}
+
+fn is_the_class(class: &ClassTree<'_>) -> bool {
+    class.major == 52
+        && class.flags == 0x21
+        && class.name.items() == b"p/T".as_slice()
+        && class.superclass.items() == b"java/lang/Object".as_slice()
+        && class.pool.items().len() == 8
+        && class.fields.items().len() == 0
+        && class.attributes == 0
+        && class.methods.items().len() == 1
+        && class.methods.items().iter().all(is_the_method)
+}
+
 #[test]
-fn one_class(rt: HostRuntime) -> Result<(), Fail> {
-    let class = read(rt.alloc(), b"T.class", &CLASS).ok().ok_or("a class")?;
-    assert_eq!(rt; class.major, 52);
-    assert_eq!(rt; class.flags, 0x21);
-    assert_eq!(rt; class.name.items(), b"p/T".as_slice());
-    assert_eq!(rt; class.superclass.items(), b"java/lang/Object".as_slice());
-    assert_eq!(rt; class.pool.items().len(), 8);
-    assert_eq!(rt; class.fields.items().len(), 0);
-    assert_eq!(rt; class.attributes, 0);
-    assert_eq!(rt; class.methods.items().len(), 1);
-    for method in class.methods.items() {
-        assert_eq!(rt; method.name.items(), b"f".as_slice());
-        assert_eq!(rt; method.desc.items(), b"(S)S".as_slice());
-        assert!(rt;
-            matches!(&method.code, Some(code) if code.bytes.len() == 5 && code.max_stack == 2)
-        );
-    }
-    Ok(())
+fn one_class(rt: HostRuntime) {
+    let class = read(rt.alloc(), b"T.class", &CLASS);
+    assert!(rt; matches!(&class, Ok(class) if is_the_class(class)));
 }
 
 #[test]
@@ -84,12 +91,13 @@ fn cut_files(rt: HostRuntime) {
         if STARTS.contains(&length) {
             start = length;
         }
-        assert_eq!(rt;
-            refusal(&rt, &CLASS[..length as usize]),
-            Some((101, start)),
-            "at {length}"
-        );
+        let found = refusal(&rt, &CLASS[..length as usize]);
+        assert_eq!(rt; found, Some((101, start)), "at {length}");
     }
+}
+
+#[test]
+fn bytes_behind(rt: HostRuntime) {
     let mut longer = [0; 105];
     longer[..104].copy_from_slice(&CLASS);
     assert_eq!(rt; refusal(&rt, &longer), Some((101, 104)));
@@ -104,8 +112,11 @@ fn broken_fields(rt: HostRuntime) {
         }
         assert_eq!(rt; refusal(&rt, &bytes), Some((rule, offset)), "at {at}");
     }
-    let short = [0xCA, 0xFE, 0xBA, 0xBE, 0, 0, 0, 0x34, 0, 3, 1, 0];
-    assert_eq!(rt; refusal(&rt, &short), Some((101, 11)));
+}
+
+#[test]
+fn cut_pool(rt: HostRuntime) {
+    assert_eq!(rt; refusal(&rt, &CUT_POOL), Some((101, 11)));
 }
 
 /// Bytes that are no descriptor, and their longest prefix that some descriptor has.
@@ -126,14 +137,20 @@ const BAD: [(&[u8], u32); 14] = [
     (b"([Lp/A;", 7),
 ];
 
+/// The longest prefix of some bytes that some descriptor has, where they are none.
+fn bad_at(bytes: &[u8]) -> Option<u32> {
+    if bytes.len() >= 100 {
+        return None;
+    }
+    match Desc::parse(bytes) {
+        Ok(_) => None,
+        Err(BadDesc { at }) => Some(at),
+    }
+}
+
 #[test]
 fn no_descriptors(rt: HostRuntime) {
     for (bytes, at) in BAD {
-        if bytes.len() < 100 {
-            assert!(rt;
-                matches!(Desc::parse(bytes), Err(BadDesc { at: found }) if found == at),
-                "at {at}"
-            );
-        }
+        assert_eq!(rt; bad_at(bytes), Some(at), "at {at}");
     }
 }

@@ -1,5 +1,7 @@
-use super::*;
+//! Export files from outside, and what reading and writing them gives.
+
 use cjc_bytes::{Bytes, Fault, Rule};
+use cjc_export::{ExportClass, ExportTree, read, write};
 use std::test::*;
 
 /// A package p with a public class p/T and its static method f(S)S.
@@ -150,6 +152,9 @@ const CHANGES: [(usize, u8, u32); 27] = [
     (153, 1, 182), // one class, and bytes behind it
 ];
 
+/// The files that writing gives again, byte for byte.
+const WRITTEN: [&[u8]; 4] = [&ROW, &LANG, &QUICK, &FRAMEWORK];
+
 /// The bytes, read and written again.
 fn again(rt: &HostRuntime, bytes: &[u8]) -> Option<Bytes> {
     if bytes.len() > 1000 {
@@ -157,6 +162,18 @@ fn again(rt: &HostRuntime, bytes: &[u8]) -> Option<Bytes> {
     }
     let tree = read(rt.alloc(), b"some.exp", bytes).ok()?;
     write(rt.alloc(), &tree).ok()
+}
+
+fn is_again(rt: &HostRuntime, bytes: &[u8]) -> bool {
+    matches!(again(rt, bytes), Some(written) if written.items() == bytes)
+}
+
+/// Whether the bytes are written as fewer, which are written again as they are.
+fn is_shortened(rt: &HostRuntime, bytes: &[u8]) -> bool {
+    match again(rt, bytes) {
+        Some(written) => written.items().len() < bytes.len() && is_again(rt, written.items()),
+        None => false,
+    }
 }
 
 /// The offset of the refusal by rule 104, or nothing.
@@ -177,75 +194,85 @@ fn refusal(rt: &HostRuntime, bytes: &[u8]) -> Option<u32> {
     }
 }
 
-#[test]
-fn one_static_method(rt: HostRuntime) -> Result<(), Fail> {
-    let tree = read(rt.alloc(), b"p.exp", &ROW).ok().ok_or("a tree")?;
-    assert_eq!(rt; tree.name.items(), b"p".as_slice());
-    assert_eq!(rt; tree.aid.items(), [0xA0, 0, 0, 0, 1].as_slice());
-    assert!(rt; tree.library && tree.major == 1 && tree.minor == 0);
-    assert_eq!(rt; tree.class_by_name(b"p/T"), Some(0));
-    assert_eq!(rt; tree.class_by_token(0), Some(0));
-    assert_eq!(rt; tree.class_by_name(b"p/U"), None);
-    assert_eq!(rt; tree.class_by_token(1), None);
-    assert_eq!(rt;
-        tree.member(0, b"equals", b"(Ljava/lang/Object;)Z"),
-        Some(1)
-    );
-    assert_eq!(rt; tree.member(0, b"f", b"()S"), None);
-    assert_eq!(rt; tree.member(1, b"f", b"(S)S"), None);
-    Ok(())
+fn is_the_row(tree: &ExportTree) -> bool {
+    tree.name.items() == b"p".as_slice()
+        && tree.aid.items() == [0xA0, 0, 0, 0, 1].as_slice()
+        && tree.library
+        && tree.major == 1
+        && tree.minor == 0
+}
+
+fn has_the_members(tree: &ExportTree) -> bool {
+    tree.class_by_name(b"p/T") == Some(0)
+        && tree.class_by_token(0) == Some(0)
+        && tree.class_by_name(b"p/U") == None
+        && tree.class_by_token(1) == None
+        && tree.member(0, b"equals", b"(Ljava/lang/Object;)Z") == Some(1)
+        && tree.member(0, b"f", b"()S") == None
+        && tree.member(1, b"f", b"(S)S") == None
 }
 
 #[test]
-fn fields_and_interfaces(rt: HostRuntime) -> Result<(), Fail> {
-    let tree = read(rt.alloc(), b"r.exp", &RICH).ok().ok_or("a tree")?;
-    assert!(rt; !tree.library && tree.minor == 3);
-    assert_eq!(rt; tree.class_by_name(b"r/C"), Some(1));
-    assert_eq!(rt; tree.member(1, b"i", b"S"), Some(3));
-    assert_eq!(rt; tree.member(1, b"w", b"()S"), Some(7));
-    for class in tree.classes.items() {
-        assert!(rt; class.fields.items().len() == 0 || class.fields.items().len() == 5);
-        for field in class.fields.items() {
-            let is_k = field.name.items() == b"K".as_slice();
-            assert_eq!(rt; field.constant, if is_k { Some(-2) } else { None });
-        }
+fn one_static_method(rt: HostRuntime) {
+    let tree = read(rt.alloc(), b"p.exp", &ROW);
+    assert!(rt; matches!(&tree, Ok(tree) if is_the_row(tree) && has_the_members(tree)));
+}
+
+/// Whether K alone is a constant, and -2.
+fn has_the_constant(class: &ExportClass) -> bool {
+    class.fields.items().iter().all(|field| {
+        let is_k = field.name.items() == b"K".as_slice();
+        field.constant == if is_k { Some(-2) } else { None }
+    })
+}
+
+fn is_rich(tree: &ExportTree) -> bool {
+    !tree.library
+        && tree.minor == 3
+        && tree.class_by_name(b"r/C") == Some(1)
+        && tree.member(1, b"i", b"S") == Some(3)
+        && tree.member(1, b"w", b"()S") == Some(7)
+}
+
+fn has_the_fields(tree: &ExportTree) -> bool {
+    tree.classes.items().iter().all(|class| {
+        let count = class.fields.items().len();
+        (count == 0 || count == 5) && has_the_constant(class)
+    })
+}
+
+#[test]
+fn fields_and_interfaces(rt: HostRuntime) {
+    let tree = read(rt.alloc(), b"r.exp", &RICH);
+    assert!(rt; matches!(&tree, Ok(tree) if is_rich(tree) && has_the_fields(tree)));
+}
+
+#[test]
+fn written_again(rt: HostRuntime) {
+    for bytes in WRITTEN {
+        assert!(rt; is_again(&rt, bytes));
     }
-    Ok(())
+}
+
+/// Version 2.1, flags and attributes are not kept.
+#[test]
+fn written_shorter(rt: HostRuntime) {
+    assert!(rt; is_shortened(&rt, &RICH));
 }
 
 #[test]
-fn written_again(rt: HostRuntime) -> Result<(), Fail> {
-    let row = again(&rt, &ROW).ok_or("the row")?;
-    assert_eq!(rt; row.items(), ROW.as_slice());
-    let lang = again(&rt, &LANG).ok_or("java/lang")?;
-    assert_eq!(rt; lang.items(), LANG.as_slice());
-    let quick = again(&rt, &QUICK).ok_or("q")?;
-    assert_eq!(rt; quick.items(), QUICK.as_slice());
-    let framework = again(&rt, &FRAMEWORK).ok_or("javacard/framework")?;
-    assert_eq!(rt; framework.items(), FRAMEWORK.as_slice());
-
-    // Version 2.1, flags and attributes that are not kept.
-    let rich = again(&rt, &RICH).ok_or("r")?;
-    assert!(rt; rich.items().len() < RICH.len());
-    let rich_again = again(&rt, rich.items()).ok_or("r again")?;
-    assert_eq!(rt; rich_again.items(), rich.items());
-    Ok(())
-}
-
-#[test]
-fn first_bad_field(rt: HostRuntime) -> Result<(), Fail> {
+fn first_bad_field(rt: HostRuntime) {
     for (at, byte, place) in CHANGES {
         let mut bytes = RICH;
         if at < bytes.len() {
             bytes[at] = byte;
         }
-        assert_eq!(rt; refusal(&rt, &bytes), Some(place));
+        assert_eq!(rt; refusal(&rt, &bytes), Some(place), "at {at}");
     }
-    Ok(())
 }
 
 #[test]
-fn cut_short(rt: HostRuntime) -> Result<(), Fail> {
+fn cut_short(rt: HostRuntime) {
     let mut place = 0;
     let mut next = 0;
     for n in 0..LANG.len() {
@@ -253,7 +280,6 @@ fn cut_short(rt: HostRuntime) -> Result<(), Fail> {
             place = LANG_STARTS[next];
             next += 1;
         }
-        assert_eq!(rt; refusal(&rt, &LANG[..n]), Some(place));
+        assert_eq!(rt; refusal(&rt, &LANG[..n]), Some(place), "at {n}");
     }
-    Ok(())
 }
