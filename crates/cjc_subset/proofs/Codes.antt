@@ -4,8 +4,9 @@ use Rattle.std.specs.Prelude.{Option, Some, None, slice_get}
 use Rattle.cjc_classfile.specs.declared.tree.ClassTree.{ClassTree}
 use Rattle.cjc_classfile.specs.declared.tree.MethodTree.{MethodTree}
 use Rattle.cjc_world.specs.Files.{Files}
-use Rattle.cjc_world.specs.Rules.{Break}
-use Rattle.cjc_subset.specs.Places.{FilePlace, IsFirstOf, file_of, of_class, of_code, of_method}
+use Rattle.cjc_bytes.specs.Breaks.{Break, IsFirstOf}
+use Rattle.cjc_subset.specs.Places.{of_class, of_code, of_method}
+use Rattle.cjc_bytes.specs.Order.{FilePlace, file_of}
 
 module _ (files : Files) (class method : ℕ) (breaks : FilePlace → ClassTree → MethodTree → List Break) where
   pub code_there : (c : ClassTree) (m : MethodTree) (f : FilePlace) (o : Option Break) → slice_get files.classes class ≡ Some c → slice_get c.methods method ≡ Some m → f ≡ file_of files.lines class → IsFirstOf (breaks f c m) o → IsFirstOf (of_code files class method breaks) o

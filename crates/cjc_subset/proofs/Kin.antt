@@ -3,14 +3,14 @@ use Rattle.std.proofs.Common.{◌≡◌, sym, ap, Bool, true, false, List, []}
 use Rattle.std.specs.Prelude.{if◌then◌else◌}
 use Rattle.cjc_classfile.specs.declared.tree.ClassTree.{ClassTree}
 use Rattle.cjc_world.specs.Classes.{Class}
-use Rattle.cjc_subset.specs.Overriding.{class_against, is_above, kin_breaks}
-use Rattle.cjc_subset.specs.Places.{FilePlace}
+use Rattle.cjc_subset.specs.Overriding.{class_against, is_inherited, kin_breaks}
+use Rattle.cjc_bytes.specs.Order.{FilePlace}
 
 module _ (w : List Class) (f : FilePlace) (c : ClassTree) (d : Class) where
-  pub kin_above : is_above w c d ≡ true → class_against w f c d ≡ kin_breaks w f c d
+  pub kin_above : is_inherited w c d ≡ true → class_against w f c d ≡ kin_breaks w f c d
   unfolding kin_breaks
   kin_above e = sym (ap (λ (b : Bool). if b then class_against w f c d else []) e)
 
-  pub kin_not_above : is_above w c d ≡ false → kin_breaks w f c d ≡ []
+  pub kin_not_above : is_inherited w c d ≡ false → kin_breaks w f c d ≡ []
   unfolding kin_breaks
   kin_not_above e = ap (λ (b : Bool). if b then class_against w f c d else []) e

@@ -7,8 +7,7 @@ use Rattle.std.proofs.Math.Seq.{drop-cons}
 use Rattle.std.proofs.lemmas.Grind.{common_steps}
 use Rattle.cjc_classfile.specs.declared.tree.ClassTree.{ClassTree}
 use Rattle.cjc_world.specs.Classes.{Class}
-use Rattle.cjc_subset.specs.Limits.{listed_above, noted}
-use Rattle.cjc_subset.specs.Overriding.{is_above}
+use Rattle.cjc_subset.specs.Limits.{is_above, listed_above, noted}
 
 pub noted_append : (known xs ys : List (List ℕ)) → noted known (xs ++ ys) ≡ noted (noted known xs) ys
 unfolding noted

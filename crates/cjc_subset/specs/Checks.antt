@@ -12,12 +12,14 @@ use Rattle.cjc_code.specs.declared.insn.JOp.TheVariants as jop
 use Rattle.cjc_code.specs.declared.method_code.MethodCode.{MethodCode}
 use Rattle.cjc_world.specs.declared.found.Found.{Found}
 use Rattle.cjc_world.specs.Added.{added_at}
-use Rattle.cjc_world.specs.Classes.{all_classes, is_interface}
+use Rattle.cjc_world.specs.Classes.{all_classes}
+use Rattle.cjc_bytes.specs.AccessFlags.{is_interface}
 use Rattle.cjc_world.specs.Files.{Files}
-use Rattle.cjc_world.specs.Rules.{Break}
+use Rattle.cjc_bytes.specs.Breaks.{Break, at, each, list_spot}
 use Rattle.cjc_subset.specs.Members.{is_constant}
 use Rattle.cjc_subset.specs.Names.{field_found}
-use Rattle.cjc_subset.specs.Places.{FilePlace, at, at_class, at_field, at_method, each, file_of, in_list, of_code}
+use Rattle.cjc_subset.specs.Places.{at_class, at_field, at_method, of_code}
+use Rattle.cjc_bytes.specs.Order.{FilePlace, file_of}
 use Rattle.cjc_subset.specs.Types.{is_foreign_desc, is_int_desc, names_foreign, names_int}
 use Rattle.cjc_subset.specs.Flags.{is_unfit_class, is_unfit_field, is_unfit_method}
 use Rattle.cjc_subset.specs.Overriding.{overriding_breaks}
@@ -92,12 +94,12 @@ class_breaks files settings f n c =
 
 unfoldable pub list_breaks : (list : List ℕ) → Files → Settings → List Break
 list_breaks list files settings =
-    at (has_unfit_applets (all_classes files) settings.applets) (in_list list) 309
-    ++ at (has_many_exported files settings) (in_list list) 401
-    ++ at (nat_lt 255 (length files.classes)) (in_list list) 402
-    ++ at (has_many_handlers files) (in_list list) 407
-    ++ at (nat_lt 255 (length files.package_name)) (in_list list) 408
-    ++ at (nat_lt 255 (length settings.applets)) (in_list list) 409
+    at (has_unfit_applets (all_classes files) settings.applets) (list_spot list) 309
+    ++ at (has_many_exported files settings) (list_spot list) 401
+    ++ at (nat_lt 255 (length files.classes)) (list_spot list) 402
+    ++ at (has_many_handlers files) (list_spot list) 407
+    ++ at (nat_lt 255 (length files.package_name)) (list_spot list) 408
+    ++ at (nat_lt 255 (length settings.applets)) (list_spot list) 409
 
 -- All that is broken of these rules; the list's name is that of its file.
 unfoldable pub check_breaks : (list : List ℕ) → Files → List MethodCode → Settings → List Break

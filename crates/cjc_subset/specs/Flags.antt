@@ -1,6 +1,6 @@
 -- Rule 304: flags that a class, a field or a method may not have.
 use Rattle.std.specs.Prelude.{ℕ, List, Bool, not, ◌&&◌, ◌||◌}
-use Rattle.cjc_world.specs.Classes.{has, is_abstract, is_private, is_protected, is_public, is_static}
+use Rattle.cjc_bytes.specs.AccessFlags.{acc_annotation, acc_enum, acc_native, acc_strict, acc_synchronized, acc_transient, acc_volatile, has, is_abstract, is_private, is_protected, is_public, is_static}
 use Rattle.cjc_subset.specs.Members.{is_constructor, is_initialiser}
 
 -- more than one of public, private and protected
@@ -10,7 +10,7 @@ has_two_accesses flags =
 
 -- enum or annotation
 abbrev pub is_unfit_class : ℕ → Bool
-is_unfit_class flags = has flags 0x4000 || has flags 0x2000
+is_unfit_class flags = has flags acc_enum || has flags acc_annotation
 
 abbrev pub is_unfit_field : (interface : Bool) → ℕ → Bool
 is_unfit_field interface flags =
@@ -18,16 +18,16 @@ is_unfit_field interface flags =
     -- a field of an interface that is not static
     || (interface && not (is_static flags))
     -- volatile or transient
-    || has flags 0x0040
-    || has flags 0x0080
+    || has flags acc_volatile
+    || has flags acc_transient
 
 -- of a method, whatever its name
 abbrev pub is_unfit_method_kind : ℕ → Bool
 is_unfit_method_kind flags =
     -- native, synchronized or strictfp
-    has flags 0x0100
-    || has flags 0x0020
-    || has flags 0x0800
+    has flags acc_native
+    || has flags acc_synchronized
+    || has flags acc_strict
     || has_two_accesses flags
     -- abstract beside static or private
     || (is_abstract flags && (is_static flags || is_private flags))

@@ -1,5 +1,4 @@
 pub mod Places
-pub mod Breaks
 pub mod Members
 pub mod Names
 pub mod Hits
@@ -9,3 +8,4 @@ pub mod Overriding
 pub mod Applets
 pub mod Limits
 pub mod Checks
+pub mod Working

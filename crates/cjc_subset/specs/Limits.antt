@@ -1,5 +1,5 @@
 -- Rules 401 to 409: limits of a package.
-use Rattle.std.specs.Prelude.{ℕ, ◌-◌, List, [], ◌∷◌, ◌++◌, length, sum_by, count_by, Bool, false, nat_le, nat_lt, if◌then◌else◌, Option, Some, None, codes}
+use Rattle.std.specs.Prelude.{ℕ, List, [], ◌∷◌, ◌++◌, length, sum_by, count_by, Bool, false, not, ◌&&◌, nat_lt, if◌then◌else◌, Option, Some, None, codes}
 use Rattle.std.specs.List.{flat_map, list_any}
 use Rattle.std.specs.Str.{bytes_eq}
 use Rattle.cjc_bytes.specs.declared.settings.Settings.{Settings}
@@ -8,10 +8,11 @@ use Rattle.cjc_classfile.specs.declared.tree.FieldTree.{FieldTree}
 use Rattle.cjc_classfile.specs.declared.tree.MethodTree.{MethodTree}
 use Rattle.cjc_classfile.specs.Code.{CodeTree}
 use Rattle.cjc_export.specs.declared.tree.ExportClass.{ExportClass}
-use Rattle.cjc_world.specs.Classes.{Class, all_classes, declared, imported, is_interface, is_static}
+use Rattle.cjc_world.specs.Classes.{Class, all_classes, declared, imported}
+use Rattle.cjc_bytes.specs.AccessFlags.{is_interface, is_static}
 use Rattle.cjc_world.specs.Exported.{is_exported}
 use Rattle.cjc_world.specs.Files.{Files}
-use Rattle.cjc_subset.specs.Overriding.{is_above}
+use Rattle.cjc_world.specs.Subtype.{is_subclass}
 use Rattle.cjc_subset.specs.Names.{catches_of}
 
 -- ---- 401: more than 255 exported classes
@@ -21,6 +22,10 @@ has_many_exported files settings = nat_lt 255 (count_by (λ c. is_exported (all_
 
 -- ---- 403: a class has more than 15 interfaces, or an interface more than 14, inherited ones counted and those that
 -- ---- are in no file
+
+-- another class or interface that stands above, over steps
+abbrev pub is_above : List Class → ClassTree → Class → Bool
+is_above w c d = is_subclass w c.name d.name && not (bytes_eq c.name d.name)
 
 -- the interfaces that a class lists, where it stands above another
 abbrev pub listed_above : List Class → ClassTree → Class → List (List ℕ)
@@ -59,12 +64,6 @@ has_many_locals (Some code) = nat_lt 255 code.max_locals
 abbrev pub has_deep_stack : Option CodeTree → Bool
 has_deep_stack None = false
 has_deep_stack (Some code) = nat_lt 255 code.max_stack
-
--- ---- sums
-
--- what a sum leaves of an allowance
-abbrev pub left_of : (allowance sum : ℕ) → Option ℕ
-left_of allowance sum = if nat_le sum allowance then Some (allowance - sum) else None
 
 -- ---- 406: a class declares more than 255 cells of instance fields
 

@@ -11,13 +11,16 @@ use Rattle.cjc_code.specs.declared.insn.JOp.TheVariants as jop
 use Rattle.cjc_code.specs.declared.method_code.MethodCode.{MethodCode}
 use Rattle.cjc_world.specs.declared.found.Found.{Found}
 use Rattle.cjc_world.specs.Access.{is_accessible}
-use Rattle.cjc_world.specs.Classes.{Class, is_abstract, is_interface, is_private, is_static, all_classes, class_named}
+use Rattle.cjc_world.specs.Classes.{Class, all_classes, class_named}
+use Rattle.cjc_bytes.specs.AccessFlags.{is_abstract, is_interface, is_private, is_static}
 use Rattle.cjc_world.specs.Exported.{is_imported}
 use Rattle.cjc_world.specs.Files.{Files}
 use Rattle.cjc_world.specs.Kin.{is_below}
 use Rattle.cjc_world.specs.Lookup.{find_field, find_method, selected}
-use Rattle.cjc_world.specs.Rules.{Break, is_missing, is_type_missing, is_desc_missing, is_interface_of, is_class_of}
-use Rattle.cjc_subset.specs.Places.{FilePlace, at, at_method, each, of_code}
+use Rattle.cjc_world.specs.Rules.{is_missing, is_type_missing, is_desc_missing, is_interface_of, is_class_of}
+use Rattle.cjc_bytes.specs.Breaks.{Break, at, each}
+use Rattle.cjc_subset.specs.Places.{at_method, of_code}
+use Rattle.cjc_bytes.specs.Order.{FilePlace}
 use Rattle.cjc_subset.specs.Members.{Hit, hit, is_array, is_constant, is_constructor, is_descriptor, is_initialiser}
 
 -- ---- 203: a class that an instruction or a catch type names is in no file

@@ -1,20 +1,24 @@
--- Rules 305, 306 and 307: methods and the methods that they inherit. A class inherits from all that stands above it:
--- every other class or interface that it or its supers list, over steps.
+-- Rules 305, 306 and 307: methods and the methods that they inherit. A class inherits from its superclasses upwards and
+-- from its superinterfaces, and from nothing else: not from the superclass that an interface's file names.
 use Rattle.std.specs.Prelude.{ℕ, List, [], ◌++◌, Bool, true, false, not, ◌&&◌, ◌||◌, if◌then◌else◌, Option, Some, None}
 use Rattle.std.specs.List.{list_any}
 use Rattle.std.specs.Str.{bytes_eq}
 use Rattle.cjc_classfile.specs.declared.tree.ClassTree.{ClassTree}
 use Rattle.cjc_classfile.specs.declared.tree.MethodTree.{MethodTree}
-use Rattle.cjc_world.specs.Classes.{Class, Member, all_classes, declared, imported, is_abstract, is_interface, is_private, is_protected, is_public, is_static}
+use Rattle.cjc_world.specs.Classes.{Class, Member, all_classes, declared, imported}
+use Rattle.cjc_bytes.specs.AccessFlags.{is_abstract, is_interface, is_private, is_protected, is_public, is_static}
 use Rattle.cjc_world.specs.Files.{Files}
+use Rattle.cjc_world.specs.Interfaces.{has_interface}
+use Rattle.cjc_world.specs.Kin.{is_below}
 use Rattle.cjc_world.specs.Lookup.{is_called, selected}
-use Rattle.cjc_world.specs.Rules.{Break}
-use Rattle.cjc_world.specs.Subtype.{is_subclass}
+use Rattle.cjc_bytes.specs.Breaks.{Break, at, each}
 use Rattle.cjc_subset.specs.Members.{Hit, hit, is_constructor, is_initialiser}
-use Rattle.cjc_subset.specs.Places.{FilePlace, at, at_class, at_method, each}
+use Rattle.cjc_subset.specs.Places.{at_class, at_method}
+use Rattle.cjc_bytes.specs.Order.{FilePlace}
 
-abbrev pub is_above : List Class → ClassTree → Class → Bool
-is_above w c d = is_subclass w c.name d.name && not (bytes_eq c.name d.name)
+-- another class that is a superclass or a superinterface
+abbrev pub is_inherited : List Class → ClassTree → Class → Bool
+is_inherited w c d = (is_below w c.name d.name || has_interface w c.name d.name) && not (bytes_eq c.name d.name)
 
 -- constructors and <clinit> inherit nothing
 abbrev pub is_special : List ℕ → Bool
@@ -35,7 +39,7 @@ is_out_of_sight inherited_is_imported flags inherited =
     || (is_open flags && is_package_visible inherited)
     || (is_package_visible flags && is_package_visible inherited && inherited_is_imported)
 
--- with some method of the class above
+-- with some method of the other class
 abbrev pub hides_one : Class → (flags : ℕ) → (name desc : List ℕ) → Bool
 hides_one d flags name desc = list_any (λ k. is_called name desc k && is_out_of_sight d.is_imported flags k.flags) d.methods
 
@@ -70,7 +74,7 @@ lacks_code w c d = not (is_abstract c.flags) && list_any (λ k. has_no_code w c 
 
 -- ---- what is broken, and where
 
--- at a method, against a class above
+-- at a method, against a class that is inherited from
 unfoldable pub method_against : FilePlace → ClassTree → Class → (place : ℕ) → MethodTree → List Break
 method_against f c d i m =
     at (not (is_special m.name) && hides_one d m.flags m.name m.desc) (at_method f c i m 0) 305
@@ -81,9 +85,9 @@ class_against w f c d =
     at (lacks_code w c d) (at_class f c) 307
     ++ each (λ i m. method_against f c d i m) c.methods
 
--- against a class of the files, where it stands above
+-- against a class of the files, where it is inherited from
 unfoldable pub kin_breaks : List Class → FilePlace → ClassTree → Class → List Break
-kin_breaks w f c d = if is_above w c d then class_against w f c d else []
+kin_breaks w f c d = if is_inherited w c d then class_against w f c d else []
 
 -- Against every class of the files. Their numbers do not matter here.
 unfoldable pub overriding_breaks : Files → FilePlace → ClassTree → List Break

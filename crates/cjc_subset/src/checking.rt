@@ -3,16 +3,16 @@
 ghost use Rattle.std.specs.Prelude.{◌≡◌, ◌&&◌, ◌<◌, ℕ, [], length, not, option_map, is_some, nat_lt, IfErr, IfOk, OnOk};
 ghost use Rattle.cjc_classfile.specs.declared.tree.MethodTree.{MethodTree as Method};
 ghost use Rattle.cjc_classfile.specs.declared.tree.ClassTree.{ClassTree as Tree};
-ghost use Rattle.cjc_world.specs.Classes.{is_interface};
-ghost use Rattle.cjc_world.specs.Rules.{IsFirstRefusal};
-ghost use Rattle.cjc_subset.specs.Breaks.{break_of, spot_of};
+ghost use Rattle.cjc_bytes.specs.AccessFlags.{is_interface};
+ghost use Rattle.cjc_bytes.specs.Breaks.{IsFirstRefusal, IsFirstOf, each};
+ghost use Rattle.cjc_bytes.specs.Told.{break_of, spot_of};
 ghost use Rattle.cjc_subset.specs.Checks.{check_breaks, class_breaks, code_breaks, field_breaks, has_foreign, has_int, insn_breaks, is_imported_variable, list_breaks, method_breaks, names_variable, own_breaks};
-ghost use Rattle.cjc_subset.specs.Places.{FilePlace, IsFirstOf, at_class, at_method, each, file_of};
+ghost use Rattle.cjc_subset.specs.Places.{at_class, at_method};
+ghost use Rattle.cjc_bytes.specs.Order.{FilePlace, file_of};
 ghost use Rattle.cjc_subset.specs.Flags.{is_unfit_method};
 ghost use Rattle.cjc_subset.specs.Types.{is_int_desc, names_int};
 
 use crate::applets::has_unfit_applets;
-use crate::broken::{Break, Spot, answer, broken, first};
 use crate::flags::{is_unfit_class, is_unfit_field, is_unfit_method};
 use crate::interfaces::has_many_interfaces;
 use crate::limits::{
@@ -20,12 +20,14 @@ use crate::limits::{
 };
 use crate::members::is_constant;
 use crate::overriding::overriding_break;
-use crate::places::{class_spot, field_spot, file_of, list_spot, method_spot};
+use crate::places::{class_spot, field_spot, method_spot};
 use crate::types::{is_foreign_desc, is_int_desc, names_foreign, names_int};
-use cjc_bytes::{Fault, MemberId, NoMemory, Settings};
+use cjc_bytes::{
+    Break, Fault, MemberId, NoMemory, Settings, Spot, answer, broken, file_of, first, is_interface,
+};
 use cjc_classfile::{ClassTree, FieldTree, MethodTree};
 use cjc_code::{Codes, JInsn, JOp, MethodCode};
-use cjc_world::{Found, World, has};
+use cjc_world::{Found, World};
 use std::alloc::Global;
 
 // ---- instructions
@@ -101,8 +103,8 @@ fn code_break<'w>(world: &'w World<'_>, settings: &Settings, code: &MethodCode) 
     let class = world.classes().items().get(code.class as usize)?;
     let place = code.method as usize;
     let method = class.methods.items().get(place)?;
-    let (file, file_name) = file_of(world.lines().items(), code.class as usize);
-    let spot = class_spot(file, file_name, class);
+    let file = file_of(world.lines().items(), code.class as usize);
+    let spot = class_spot(file, class);
     insns_break(
         world,
         settings,
@@ -151,7 +153,7 @@ fn field_break<'w>(
     let desc = field.desc.items();
     let foreign = broken(is_foreign_desc(desc), spot, 301);
     let int = broken(has_unsettled_int(settings, desc), spot, 302);
-    let unfit = is_unfit_field(has(class.flags, 0x0200), field.flags);
+    let unfit = is_unfit_field(is_interface(class.flags), field.flags);
     first(first(foreign, int), broken(unfit, spot, 304))
 }
 
@@ -175,7 +177,7 @@ fn fields_break<'w>(
 fn has_unfit_flags(class: &ClassTree<'_>, method: &MethodTree<'_>) -> bool
     ensures { result ≡ is_unfit_method (is_interface class.now.flags) method.now.flags method.now.name (is_some method.now.code) }
 {
-    let interface = has(class.flags, 0x0200);
+    let interface = is_interface(class.flags);
     is_unfit_method(
         interface,
         method.flags,
@@ -298,8 +300,8 @@ fn classes_break<'w>(
         return Err(NoMemory);
     }
     for (number, class) in classes.iter().enumerate() {
-        let (file, file_name) = file_of(world.lines().items(), number);
-        let spot = class_spot(file, file_name, class);
+        let file = file_of(world.lines().items(), number);
+        let spot = class_spot(file, class);
         let broken = class_break(alloc, world, settings, number as u32, class, spot)?;
         least = first(least, broken);
     }
@@ -310,7 +312,7 @@ fn classes_break<'w>(
 fn list_break<'w>(list: &'w [u8], world: &World<'_>, settings: &Settings) -> Option<Break<'w>>
     ensures { IsFirstOf (list_breaks list.now world.now settings.now) (option_map break_of result) }
 {
-    let spot = list_spot(list);
+    let spot = Spot::of_list(list);
     let applets = settings.applets.items();
     let unfit = broken(has_unfit_applets(world, applets), spot, 309);
     let exported = broken(has_many_exported(world, settings), spot, 401);

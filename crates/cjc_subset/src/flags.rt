@@ -3,10 +3,11 @@
 ghost use Rattle.std.specs.Prelude.{◌≡◌};
 ghost use Rattle.cjc_subset.specs.Flags.{has_two_accesses, is_unfit_class, is_unfit_field, is_unfit_method, is_unfit_method_kind};
 
-use crate::members::{
-    is_abstract, is_constructor, is_initialiser, is_private, is_protected, is_public, is_static,
+use crate::members::{is_constructor, is_initialiser};
+use cjc_bytes::{
+    ACC_ANNOTATION, ACC_ENUM, ACC_NATIVE, ACC_STRICT, ACC_SYNCHRONIZED, ACC_TRANSIENT,
+    ACC_VOLATILE, has, is_abstract, is_private, is_protected, is_public, is_static,
 };
-use cjc_world::has;
 
 /// More than one of public, private and protected.
 fn has_two_accesses(flags: u16) -> bool
@@ -21,7 +22,7 @@ fn has_two_accesses(flags: u16) -> bool
 pub(crate) fn is_unfit_class(flags: u16) -> bool
     ensures { result ≡ is_unfit_class flags }
 {
-    has(flags, 0x4000) || has(flags, 0x2000)
+    has(flags, ACC_ENUM) || has(flags, ACC_ANNOTATION)
 }
 
 pub(crate) fn is_unfit_field(interface: bool, flags: u16) -> bool
@@ -29,17 +30,17 @@ pub(crate) fn is_unfit_field(interface: bool, flags: u16) -> bool
 {
     has_two_accesses(flags)
         || interface && !is_static(flags)
-        || has(flags, 0x0040)
-        || has(flags, 0x0080)
+        || has(flags, ACC_VOLATILE)
+        || has(flags, ACC_TRANSIENT)
 }
 
 /// Flags that no method may have, whatever its name.
 fn is_unfit_method_kind(flags: u16) -> bool
     ensures { result ≡ is_unfit_method_kind flags }
 {
-    has(flags, 0x0100)
-        || has(flags, 0x0020)
-        || has(flags, 0x0800)
+    has(flags, ACC_NATIVE)
+        || has(flags, ACC_SYNCHRONIZED)
+        || has(flags, ACC_STRICT)
         || has_two_accesses(flags)
         || is_abstract(flags) && (is_static(flags) || is_private(flags))
 }

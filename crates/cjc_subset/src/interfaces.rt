@@ -5,14 +5,21 @@ ghost use Rattle.std.specs.List.{flat_map, list_any};
 ghost use Rattle.std.specs.Str.{bytes_eq};
 ghost use Rattle.cjc_world.specs.Classes.{all_classes};
 ghost use Rattle.cjc_world.specs.Working.Known.{class_of};
-ghost use Rattle.cjc_subset.specs.Limits.{has_many_interfaces, listed_above, listed_by_declared, listed_by_imported, listed_names, most_interfaces, noted};
+ghost use Rattle.cjc_subset.specs.Limits.{has_many_interfaces, is_above, listed_above, listed_by_declared, listed_by_imported, listed_names, most_interfaces, noted};
 
-use crate::overriding::is_above;
-use cjc_bytes::{Bytes, NoMemory, Row};
+use cjc_bytes::{Bytes, NoMemory, Row, is_interface};
 use cjc_classfile::ClassTree;
 use cjc_export::{ExportClass, ExportTree};
-use cjc_world::{Known, World, has};
+use cjc_world::{Known, World};
 use std::alloc::Global;
+
+/// Whether another class or interface stands above a class.
+fn is_above(world: &World<'_>, class: &ClassTree<'_>, known: Known<'_, '_>) -> bool
+    ensures { result ≡ is_above (all_classes world.now) class.now (class_of known.entry) }
+{
+    let name = class.name.items();
+    world.is_subclass(name, known.name()) && name != known.name()
+}
 
 fn is_noted(known: &[Bytes], name: &[u8]) -> bool
     ensures { result ≡ list_any (λ y. bytes_eq y name.now) known.now }
@@ -124,7 +131,7 @@ fn interface_names(
 fn most_interfaces(class: &ClassTree<'_>) -> usize
     ensures { result ≡ most_interfaces class.now }
 {
-    if has(class.flags, 0x0200) { 14 } else { 15 }
+    if is_interface(class.flags) { 14 } else { 15 }
 }
 
 /// Whether a class has more than 15 interfaces, or an interface more than 14, inherited ones counted.

@@ -3,7 +3,6 @@
 #![tactic(auto)]
 
 mod applets;
-mod broken;
 mod checking;
 mod flags;
 mod interfaces;
@@ -14,7 +13,6 @@ mod overriding;
 mod places;
 mod types;
 
-pub use broken::{Break, Part, Spot, answer, first};
 pub use checking::{check, first_broken};
 pub use naming::names;
-pub use places::{class_spot, file_of, method_spot};
+pub use places::{class_spot, method_spot};

@@ -1,11 +1,11 @@
 //! Rules 401 to 409: limits of a package.
 
 ghost use Rattle.std.specs.Prelude.{◌≡◌, sum_by};
-ghost use Rattle.cjc_subset.specs.Limits.{cells, handlers, handlers_of_class, has_deep_stack, has_many_cells, has_many_exported, has_many_handlers, has_many_locals, left_of};
+ghost use Rattle.cjc_subset.specs.Limits.{cells, handlers, handlers_of_class, has_deep_stack, has_many_cells, has_many_exported, has_many_handlers, has_many_locals};
+ghost use Rattle.cjc_subset.specs.Working.Sums.{left_of};
 
-use crate::members::is_static;
 use crate::naming::catches_of;
-use cjc_bytes::Settings;
+use cjc_bytes::{Settings, is_static};
 use cjc_classfile::{ClassTree, FieldTree, MethodTree};
 use cjc_world::{Known, World};
 

@@ -3,17 +3,17 @@
 ghost use Rattle.std.specs.Prelude.{◌≡◌, ◌&&◌, ◌||◌, ◌∷◌, ◌++◌, option_map, slice_get, []};
 ghost use Rattle.std.specs.List.{list_any};
 ghost use Rattle.cjc_world.specs.Access.{is_accessible};
-ghost use Rattle.cjc_world.specs.Classes.{all_classes, class_named, is_abstract, is_interface, is_private, is_protected, is_public, is_static};
+ghost use Rattle.cjc_world.specs.Classes.{all_classes, class_named};
 ghost use Rattle.cjc_world.specs.Working.Known.{class_of};
 ghost use Rattle.cjc_world.specs.Rules.{is_desc_missing, is_element_missing, is_missing, is_type_missing};
 ghost use Rattle.cjc_subset.specs.Hits.{hit_of};
 ghost use Rattle.cjc_subset.specs.Members.{hit, imports, is_array, is_constant, is_constructor, is_declared_constant, is_descriptor, is_imported_constant, is_initialiser};
 ghost use Rattle.cjc_subset.specs.Names.{is_name_missing};
 
-use cjc_bytes::Desc;
+use cjc_bytes::{Desc, is_private, is_protected, is_public, is_static};
 use cjc_classfile::ClassTree;
 use cjc_export::{ExportClass, ExportTree, may_be_constant};
-use cjc_world::{Found, Known, World, has};
+use cjc_world::{Found, Known, World};
 
 const CONSTRUCTOR: &[u8] = b"<init>";
 
@@ -25,36 +25,6 @@ pub(crate) struct Hit<'w, 'a> {
     /// The class that declares it.
     pub owner: Known<'w, 'a>,
     pub flags: u16,
-}
-
-pub(crate) fn is_public(flags: u16) -> bool
-    ensures { result ≡ is_public flags }
-{
-    has(flags, 0x0001)
-}
-
-pub(crate) fn is_private(flags: u16) -> bool
-    ensures { result ≡ is_private flags }
-{
-    has(flags, 0x0002)
-}
-
-pub(crate) fn is_protected(flags: u16) -> bool
-    ensures { result ≡ is_protected flags }
-{
-    has(flags, 0x0004)
-}
-
-pub(crate) fn is_static(flags: u16) -> bool
-    ensures { result ≡ is_static flags }
-{
-    has(flags, 0x0008)
-}
-
-pub(crate) fn is_abstract(flags: u16) -> bool
-    ensures { result ≡ is_abstract flags }
-{
-    has(flags, 0x0400)
 }
 
 /// Whether a name is an array's, which is its descriptor.

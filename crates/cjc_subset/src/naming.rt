@@ -4,21 +4,25 @@ ghost use Rattle.std.specs.Prelude.{◌≡◌, ℕ, ◌<◌, true, false, [], le
 ghost use Rattle.cjc_classfile.specs.declared.tree.MethodTree.{MethodTree as Method};
 ghost use Rattle.cjc_world.specs.Classes.{all_classes, class_named};
 ghost use Rattle.cjc_world.specs.Exported.{is_imported};
-ghost use Rattle.cjc_world.specs.Rules.{IsFirstRefusal, is_class_of, is_interface_of};
+ghost use Rattle.cjc_world.specs.Rules.{is_class_of, is_interface_of};
+ghost use Rattle.cjc_bytes.specs.Breaks.{IsFirstRefusal, IsFirstOf, each};
 ghost use Rattle.cjc_world.specs.Working.Known.{class_of};
-ghost use Rattle.cjc_subset.specs.Breaks.{break_of, spot_of};
+ghost use Rattle.cjc_bytes.specs.Told.{break_of, spot_of};
 ghost use Rattle.cjc_subset.specs.Hits.{hit_of};
-ghost use Rattle.cjc_subset.specs.Places.{FilePlace, IsFirstOf, at_class, at_method, each};
+ghost use Rattle.cjc_subset.specs.Places.{at_class, at_method};
+ghost use Rattle.cjc_bytes.specs.Order.{FilePlace};
 ghost use Rattle.cjc_subset.specs.Members.{hit};
 ghost use Rattle.cjc_subset.specs.Names.{catch_breaks, catches_missing, catches_of, code_breaks, insn_breaks, field_found, is_abstract_of, is_bodiless, is_constant_found, is_member_missing, is_not_found, is_other_kind, is_unfit_call, is_unfit_class, is_unfit_field, is_unfit_interface, is_unfit_method, is_unfit_new, is_unfit_super, is_unfit_virtual, is_unfound, method_breaks, method_found, name_breaks, names_missing, names_unfit, names_unfound};
 
-use crate::broken::{Break, Spot, answer, broken, first};
 use crate::members::{
-    Hit, is_abstract, is_accessible, is_array, is_constant, is_constructor, is_desc_missing,
-    is_initialiser, is_missing, is_name_missing, is_private, is_static, member_found,
+    Hit, is_accessible, is_array, is_constant, is_constructor, is_desc_missing, is_initialiser,
+    is_missing, is_name_missing, member_found,
 };
-use crate::places::{class_spot, file_of, method_spot};
-use cjc_bytes::{Bytes, Fault, MemberId};
+use crate::places::{class_spot, method_spot};
+use cjc_bytes::{
+    Break, Bytes, Fault, MemberId, Spot, answer, broken, file_of, first, is_abstract, is_private,
+    is_static,
+};
 use cjc_classfile::{Catch, ClassTree, MethodTree};
 use cjc_code::{Codes, JInsn, JOp, MethodCode};
 use cjc_world::{Found, Known, World};
@@ -375,8 +379,8 @@ fn code_break<'w>(world: &'w World<'_>, code: &MethodCode) -> Option<Break<'w>>
     let class = world.classes().items().get(code.class as usize)?;
     let place = code.method as usize;
     let method = class.methods.items().get(place)?;
-    let (file, file_name) = file_of(world.lines().items(), code.class as usize);
-    let spot = class_spot(file, file_name, class);
+    let file = file_of(world.lines().items(), code.class as usize);
+    let spot = class_spot(file, class);
     method_break(world, class, place, method, code.insns.items(), spot)
 }
 

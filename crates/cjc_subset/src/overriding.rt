@@ -1,22 +1,24 @@
 //! Rules 305, 306 and 307: methods and the methods that they inherit.
 
 ghost use Rattle.std.specs.Prelude.{◌≡◌, ◌&&◌, ◌<◌, false, length, get_or, not, option_map, IfOk};
-ghost use Rattle.cjc_world.specs.Classes.{Member, all_classes, declared, imported, is_interface};
+ghost use Rattle.cjc_world.specs.Classes.{Member, all_classes, declared, imported};
+ghost use Rattle.cjc_bytes.specs.AccessFlags.{is_interface};
 ghost use Rattle.cjc_world.specs.Working.Known.{class_of};
 ghost use Rattle.cjc_world.specs.Lookup.{is_called, selected};
-ghost use Rattle.cjc_subset.specs.Breaks.{break_of, spot_of};
+ghost use Rattle.cjc_bytes.specs.Told.{break_of, spot_of};
 ghost use Rattle.cjc_subset.specs.Hits.{hit_of};
 ghost use Rattle.cjc_subset.specs.Members.{hit};
-ghost use Rattle.cjc_subset.specs.Overriding.{asks_for_code, changes_kind, class_against, has_no_code, hides_one, is_above, is_of_other_kind, is_open, is_out_of_sight, is_package_visible, is_special, is_unfit_selection, kin_breaks, lacks_code, method_against, overriding_breaks};
-ghost use Rattle.cjc_subset.specs.Places.{FilePlace, IsFirstOf, at_class, each};
+ghost use Rattle.cjc_subset.specs.Overriding.{asks_for_code, changes_kind, class_against, has_no_code, hides_one, is_inherited, is_of_other_kind, is_open, is_out_of_sight, is_package_visible, is_special, is_unfit_selection, kin_breaks, lacks_code, method_against, overriding_breaks};
+ghost use Rattle.cjc_subset.specs.Places.{at_class};
+ghost use Rattle.cjc_bytes.specs.Order.{FilePlace};
+ghost use Rattle.cjc_bytes.specs.Breaks.{IsFirstOf, each};
 
-use crate::broken::{Break, Spot, broken, first};
-use crate::members::{
-    Hit, is_abstract, is_constructor, is_initialiser, is_private, is_protected, is_public,
-    is_static, member_found,
-};
+use crate::members::{Hit, is_constructor, is_initialiser, member_found};
 use crate::places::method_spot;
-use cjc_bytes::{Bytes, MemberId, NoMemory};
+use cjc_bytes::{
+    Break, Bytes, MemberId, NoMemory, Spot, broken, first, is_abstract, is_private, is_protected,
+    is_public, is_static,
+};
 use cjc_classfile::{ClassTree, MethodTree};
 use cjc_export::{ExportClass, ExportTree};
 use cjc_world::{Known, World};
@@ -64,7 +66,7 @@ fn is_called(known: Known<'_, '_>, place: usize, name: &[u8], desc: &[u8]) -> bo
     other_name == name && other_desc == desc
 }
 
-/// Whether a method can't override the one at a place of a class above, since one of them is out of the other's sight.
+/// Whether a method can't override the one at a place of a class that is inherited from, since one of them is out of the other's sight.
 fn hides_at(known: Known<'_, '_>, place: usize, flags: u16, name: &[u8], desc: &[u8]) -> bool
     requires { place < length (class_of known).methods }
     ensures { (d : Member) → result ≡ (is_called name.now desc.now (get_or (class_of known.entry).methods place d) && is_out_of_sight (class_of known.entry).is_imported flags (get_or (class_of known.entry).methods place d).flags) }
@@ -73,7 +75,7 @@ fn hides_at(known: Known<'_, '_>, place: usize, flags: u16, name: &[u8], desc: &
         && is_out_of_sight(known.is_imported(), flags, known.member_flags(false, place))
 }
 
-/// Whether a method can't override one of a class above, since one of them is out of the other's sight.
+/// Whether a method can't override one that it would inherit, since one of them is out of the other's sight.
 fn hides_one(known: Known<'_, '_>, flags: u16, name: &[u8], desc: &[u8]) -> bool
     ensures { result ≡ hides_one (class_of known.entry) flags name.now desc.now }
 {
@@ -200,7 +202,7 @@ fn breaks_kind(method: &MethodTree<'_>, known: Known<'_, '_>) -> bool
     !is_special(name) && changes_kind(known, method.flags, name, method.desc.items())
 }
 
-/// The first rule that a method of a class breaks against a class above.
+/// The first rule that a method of a class breaks against a class that it inherits from.
 #[tactic(auto, unfolding(crate::specs::Overriding::method_against))]
 fn method_against<'w>(
     class: &'w ClassTree<'_>,
@@ -219,7 +221,7 @@ fn method_against<'w>(
     )
 }
 
-/// The first rule that the methods of a class break against a class above.
+/// The first rule that the methods of a class break against a class that it inherits from.
 fn methods_against<'w>(
     class: &'w ClassTree<'_>,
     known: Known<'_, '_>,
@@ -252,14 +254,16 @@ fn class_against<'w>(
     ))
 }
 
-pub(crate) fn is_above(world: &World<'_>, class: &ClassTree<'_>, known: Known<'_, '_>) -> bool
-    ensures { result ≡ is_above (all_classes world.now) class.now (class_of known.entry) }
+/// Whether a class is a superclass or a superinterface of another.
+fn is_inherited(world: &World<'_>, class: &ClassTree<'_>, known: Known<'_, '_>) -> bool
+    ensures { result ≡ is_inherited (all_classes world.now) class.now (class_of known.entry) }
 {
     let name = class.name.items();
-    world.is_subclass(name, known.name()) && name != known.name()
+    (world.is_below(name, known.name()) || world.has_interface(name, known.name()))
+        && name != known.name()
 }
 
-/// The first rule that a class breaks against another, where that stands above.
+/// The first rule that a class breaks against another, where it inherits from that.
 fn kin_break<'w>(
     alloc: Global,
     world: &World<'_>,
@@ -269,7 +273,7 @@ fn kin_break<'w>(
 ) -> Result<Option<Break<'w>>, NoMemory>
     ensures { (f : FilePlace) → spot_of spot.entry ≡ at_class f class.now → IfOk result (λ b. IsFirstOf (kin_breaks (all_classes world.now) f class.now (class_of known.entry)) (option_map break_of b)) }
 {
-    if is_above(world, class, known) {
+    if is_inherited(world, class, known) {
         class_against(alloc, world, class, known, spot)
     } else {
         Ok(None)

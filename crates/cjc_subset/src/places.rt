@@ -1,59 +1,19 @@
 //! The places that rules speak of.
 
 ghost use Rattle.std.specs.Prelude.{◌≡◌, ◌<◌, length};
+ghost use Rattle.cjc_bytes.specs.Order.{FilePlace};
+ghost use Rattle.cjc_bytes.specs.Told.{file_place_of, spot_of};
 ghost use Rattle.cjc_classfile.specs.declared.tree.ClassTree.{ClassTree as Tree};
-ghost use Rattle.cjc_subset.specs.Breaks.{spot_of};
-ghost use Rattle.cjc_subset.specs.Places.{FilePlace, at_class, at_field, at_method, file_of, in_list};
+ghost use Rattle.cjc_subset.specs.Places.{at_class, at_field, at_method};
 
-use crate::broken::{Part, Spot};
-use cjc_bytes::FileLine;
+use cjc_bytes::{FileRef, Part, PlaceRef, Spot};
 use cjc_classfile::{ClassTree, FieldTree, MethodTree};
 
-/// The file of the class of this number: its place among the files of the list, from 1, and its name.
-pub fn file_of(lines: &[FileLine], class: usize) -> (usize, &[u8])
-    ensures place { result.0 ≡ (file_of lines.now class).place }
-    ensures name { result.1.now ≡ (file_of lines.now class).name }
+/// A class of the package, of this file.
+pub fn class_spot<'w>(file: FileRef<'w>, class: &'w ClassTree<'_>) -> Spot<'w>
+    ensures { spot_of result ≡ at_class (file_place_of file.entry) class.now }
 {
-    let mut left = class;
-    for (place, line) in lines.iter().enumerate() {
-        if line.class_file {
-            if left == 0 {
-                return (place + 1, line.name.items());
-            }
-            left -= 1;
-        }
-    }
-    (0, &[])
-}
-
-/// The list, of this name.
-pub(crate) fn list_spot(list: &[u8]) -> Spot<'_>
-    ensures { spot_of result ≡ in_list list.now }
-{
-    Spot {
-        file: 0,
-        file_name: list,
-        class: 0,
-        class_name: &[],
-        member: 0,
-        part: Part::Whole,
-        offset: 0,
-    }
-}
-
-/// A class of the package, of the file at this place.
-pub fn class_spot<'w>(file: usize, file_name: &'w [u8], class: &'w ClassTree<'_>) -> Spot<'w>
-    ensures { spot_of result ≡ at_class (record { place = file; name = file_name.now }) class.now }
-{
-    Spot {
-        file,
-        file_name,
-        class: 1,
-        class_name: class.name.items(),
-        member: 0,
-        part: Part::Whole,
-        offset: 0,
-    }
+    Spot::of_class(file, 1, class.name.items())
 }
 
 /// The field at this place of a class.
@@ -62,7 +22,11 @@ pub(crate) fn field_spot<'w>(class: Spot<'w>, place: usize, field: &'w FieldTree
 {
     Spot {
         member: place as u128 + 1,
-        part: Part::Field(field.name.items(), field.desc.items()),
+        place: PlaceRef {
+            part: Part::Field(field.name.items(), field.desc.items()),
+            offset: 0,
+            ..class.place
+        },
         ..class
     }
 }
@@ -80,8 +44,11 @@ pub fn method_spot<'w>(
 {
     Spot {
         member: tree.fields.items().len() as u128 + place as u128 + 1,
-        part: Part::Method(method.name.items(), method.desc.items()),
-        offset,
+        place: PlaceRef {
+            part: Part::Method(method.name.items(), method.desc.items()),
+            offset,
+            ..class.place
+        },
         ..class
     }
 }

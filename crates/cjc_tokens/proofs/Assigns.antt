@@ -3,81 +3,59 @@ use Rattle.std.proofs.Common.{◌≡◌, ℕ, zero, suc, ◌+◌, ◌<◌, ◌�
 use Rattle.std.specs.Prelude.{map, Option, Some, None, All, if◌then◌else◌}
 use Rattle.std.proofs.lemmas.Bool.{cases_lt}
 use Rattle.std.proofs.lemmas.Option.{get_or_from_slice_get}
-use Rattle.cjc_bytes.specs.Order.{NotAfter}
+use Rattle.cjc_bytes.specs.Order.{NotAfter, FilePlace, file_from, file_number, file_of}
+use Rattle.cjc_bytes.specs.declared.order.FileKey.TheVariants as keys
 use Rattle.cjc_bytes.specs.declared.settings.FileLine.{FileLine}
 use Rattle.cjc_classfile.specs.declared.tree.ClassTree.{ClassTree}
 use Rattle.cjc_export.specs.declared.tree.ExportTree.{ExportTree}
 use Rattle.cjc_world.specs.Classes.{Class, declared}
 use Rattle.cjc_world.specs.Files.{Files}
-use Rattle.cjc_world.specs.Rules.{Break, Among, foremost, after, IsFirst}
+use Rattle.cjc_bytes.specs.Breaks.{Break, Among, foremost, after, IsFirst}
 use Rattle.cjc_tokens.specs.declared.slot.Rows.{Rows}
 use Rattle.cjc_world.specs.Exported.{is_exported}
 use Rattle.cjc_tokens.specs.Tokens.{OfClass, of_class, one_more, classes_from, of_import, imports_of}
-use Rattle.cjc_tokens.specs.Rules.{count_exported, has_high_token, FilePlace, file_of, at_class, breaks_where, breaks_from, is_few, tested_breaks, token_breaks}
+use Rattle.cjc_tokens.specs.Rules.{count_exported, has_high_token, at_class, breaks_where, breaks_from, is_few, tested_breaks, token_breaks}
 use Rattle.cjc_tokens.specs.Working.{IsKept}
 use Rattle.cjc_tokens.proofs.Walks.{drop-next, drop-past}
 
 -- ---- the file of a class
 
 abbrev placed : ℕ → FileLine → FilePlace
-placed n line = record { file = n + 1; name = line.name }
+placed n line = record { key = keys.Line n; name = line.name }
 
-other : (n : ℕ) (line : FileLine) (rest : List FileLine) (k : ℕ) → line.class_file ≡ false → file_of n (line ∷ rest) k ≡ file_of (n + 1) rest k
-other n line rest zero e = ap (λ b. if b then placed n line else file_of (n + 1) rest zero) e
-other n line rest (suc k) e = ap (λ b. if b then file_of (n + 1) rest k else file_of (n + 1) rest (suc k)) e
-
-passed : (n : ℕ) (line : FileLine) (rest : List FileLine) (k : ℕ) → line.class_file ≡ true → file_of n (line ∷ rest) (suc k) ≡ file_of (n + 1) rest k
-passed n line rest k e = ap (λ b. if b then file_of (n + 1) rest k else file_of (n + 1) rest (suc k)) e
-
-here : (n : ℕ) (line : FileLine) (rest : List FileLine) → line.class_file ≡ true → file_of n (line ∷ rest) zero ≡ placed n line
-here n line rest e = ap (λ b. if b then placed n line else file_of (n + 1) rest zero) e
-
-module _ (lines : List FileLine) (i k : ℕ) (line : FileLine) (place : FilePlace) (lt : i < length lines) (is : line ≡ get_or lines i line) (inv : file_of i (drop i lines) k ≡ place) where
-  pub file-other : line.class_file ≡ false → file_of (i + 1) (drop (i + 1) lines) k ≡ place
-  file-other e = sym (other i line (drop (i + 1) lines) k e) ∙ ap (λ q. file_of i q k) (sym (drop-next lines i line lt is)) ∙ inv
-
-  pub file-passed : line.class_file ≡ true → (j : ℕ) → k ≡ suc j → file_of (i + 1) (drop (i + 1) lines) j ≡ place
-  file-passed e j s = sym (passed i line (drop (i + 1) lines) j e) ∙ ap (file_of i (line ∷ drop (i + 1) lines)) (sym s) ∙ ap (λ q. file_of i q k) (sym (drop-next lines i line lt is)) ∙ inv
-
-  pub file-here : line.class_file ≡ true → k ≡ 0 → line.name ≡ place.name
-  file-here e z = ap (λ (p : FilePlace). p.name) (sym (here i line (drop (i + 1) lines) e) ∙ ap (file_of i (line ∷ drop (i + 1) lines)) (sym z) ∙ ap (λ q. file_of i q k) (sym (drop-next lines i line lt is)) ∙ inv)
-
-file-none : (n k : ℕ) → file_of n [] k ≡ record { file = n + 1; name = [] }
+file-none : (n k : ℕ) → file_from n [] k ≡ record { key = keys.Line n; name = [] }
 file-none n zero = refl
 file-none n (suc k) = refl
 
-pub file-end : (lines : List FileLine) (i k : ℕ) (place : FilePlace) → length lines ≤ i → file_of i (drop i lines) k ≡ place → [] ≡ place.name
-file-end lines i k place le inv = ap (λ (p : FilePlace). p.name) (sym (file-none i k) ∙ ap (λ q. file_of i q k) (sym (drop-past lines i le)) ∙ inv)
-
 -- Files of later classes don't stand before those of earlier ones.
-lower-if : (b : Bool) (n : ℕ) (x y : FilePlace) → n < x.file → n < y.file → n < (if b then x else y).file
+lower-if : (b : Bool) (n : ℕ) (x y : FilePlace) → n < file_number x.key → n < file_number y.key → n < file_number (if b then x else y).key
 lower-if true n x y h k = h
 lower-if false n x y h k = k
 
-upto-if : (b : Bool) (x y x' y' : FilePlace) → x.file ≤ x'.file → y.file ≤ y'.file → (if b then x else y).file ≤ (if b then x' else y').file
+upto-if : (b : Bool) (x y x' y' : FilePlace) → file_number x.key ≤ file_number x'.key → file_number y.key ≤ file_number y'.key → file_number (if b then x else y).key ≤ file_number (if b then x' else y').key
 upto-if true x y x' y' h k = h
 upto-if false x y x' y' h k = k
 
-behind : (n : ℕ) (lines : List FileLine) (k : ℕ) → n < (file_of n lines k).file
+behind : (n : ℕ) (lines : List FileLine) (k : ℕ) → n < file_number (file_from n lines k).key
 behind n [] zero = omega arith
 behind n [] (suc k) = omega arith
 behind n (line ∷ lines) zero =
-    let h : n + 1 < (file_of (n + 1) lines zero).file = behind (n + 1) lines zero in
-    lower-if line.class_file n (placed n line) (file_of (n + 1) lines zero) (omega arith) (omega (arith, h))
+    let h : n + 1 < file_number (file_from (n + 1) lines zero).key = behind (n + 1) lines zero in
+    lower-if line.class_file n (placed n line) (file_from (n + 1) lines zero) (omega arith) (omega (arith, h))
 behind n (line ∷ lines) (suc k) =
-    let h : n + 1 < (file_of (n + 1) lines k).file = behind (n + 1) lines k in
-    let g : n + 1 < (file_of (n + 1) lines (suc k)).file = behind (n + 1) lines (suc k) in
-    lower-if line.class_file n (file_of (n + 1) lines k) (file_of (n + 1) lines (suc k)) (omega (arith, h)) (omega (arith, g))
+    let h : n + 1 < file_number (file_from (n + 1) lines k).key = behind (n + 1) lines k in
+    let g : n + 1 < file_number (file_from (n + 1) lines (suc k)).key = behind (n + 1) lines (suc k) in
+    lower-if line.class_file n (file_from (n + 1) lines k) (file_from (n + 1) lines (suc k)) (omega (arith, h)) (omega (arith, g))
 
-upwards : (n : ℕ) (lines : List FileLine) (k j : ℕ) → k ≤ j → (file_of n lines k).file ≤ (file_of n lines j).file
-upwards n [] k j le = subst (λ m. m ≤ (file_of n [] j).file) (sym (ap (λ (p : FilePlace). p.file) (file-none n k))) (subst (λ m. n + 1 ≤ m) (sym (ap (λ (p : FilePlace). p.file) (file-none n j))) (omega arith))
+upwards : (n : ℕ) (lines : List FileLine) (k j : ℕ) → k ≤ j → file_number (file_from n lines k).key ≤ file_number (file_from n lines j).key
+upwards n [] k j le = subst (λ m. m ≤ file_number (file_from n [] j).key) (sym (ap (λ (p : FilePlace). file_number p.key) (file-none n k))) (subst (λ m. n + 1 ≤ m) (sym (ap (λ (p : FilePlace). file_number p.key) (file-none n j))) (omega arith))
 upwards n (line ∷ lines) zero zero le = omega arith
 upwards n (line ∷ lines) zero (suc j) le =
-    let h : n + 1 < (file_of (n + 1) lines j).file = behind (n + 1) lines j in
-    upto-if line.class_file (placed n line) (file_of (n + 1) lines zero) (file_of (n + 1) lines j) (file_of (n + 1) lines (suc j)) (omega (arith, h)) (upwards (n + 1) lines zero (suc j) (omega arith))
+    let h : n + 1 < file_number (file_from (n + 1) lines j).key = behind (n + 1) lines j in
+    upto-if line.class_file (placed n line) (file_from (n + 1) lines zero) (file_from (n + 1) lines j) (file_from (n + 1) lines (suc j)) (omega (arith, h)) (upwards (n + 1) lines zero (suc j) (omega arith))
 upwards n (line ∷ lines) (suc k) zero le = absurd (omega arith)
 upwards n (line ∷ lines) (suc k) (suc j) le =
-    upto-if line.class_file (file_of (n + 1) lines k) (file_of (n + 1) lines (suc k)) (file_of (n + 1) lines j) (file_of (n + 1) lines (suc j)) (upwards (n + 1) lines k j (omega arith)) (upwards (n + 1) lines (suc k) (suc j) le)
+    upto-if line.class_file (file_from (n + 1) lines k) (file_from (n + 1) lines (suc k)) (file_from (n + 1) lines j) (file_from (n + 1) lines (suc j)) (upwards (n + 1) lines k j (omega arith)) (upwards (n + 1) lines (suc k) (suc j) le)
 
 -- ---- rows of slots
 
@@ -143,7 +121,7 @@ module _ (w : List Class) (applets : Bool) (cs : List ClassTree) (k : ℕ) where
         → breaks_from w applets lines k (drop k cs) ≡ all → breaks_from w applets lines (k + 1) (drop (k + 1) cs) ≡ all
     unfolding breaks_from
     breaks-next c all lt is none inv =
-        ap (λ b. breaks_where b (at_class (file_of 0 lines k) c.name) ++ breaks_from w applets lines (k + 1) (drop (k + 1) cs)) (sym none)
+        ap (λ b. breaks_where b (at_class (file_of lines k) c.name) ++ breaks_from w applets lines (k + 1) (drop (k + 1) cs)) (sym none)
         ∙ ap (breaks_from w applets lines k) (sym (drop-next cs k c lt is)) ∙ inv
 
     pub breaks-end : (all : List Break) → length cs ≤ k → breaks_from w applets lines k (drop k cs) ≡ all → all ≡ []
@@ -158,20 +136,20 @@ module _ (w : List Class) (applets : Bool) (cs : List ClassTree) (k : ℕ) where
     or-later x a b bs true now later (after among) = later among
     or-later x a b bs false now later among = later among
 
-    not-after : (name : List ℕ) (j : ℕ) (rest : List ClassTree) → k ≤ j → (a : Break) → Among a (breaks_from w applets lines j rest) → NotAfter (at_class (file_of 0 lines k) name).rank a.rank
+    not-after : (name : List ℕ) (j : ℕ) (rest : List ClassTree) → k ≤ j → (a : Break) → Among a (breaks_from w applets lines j rest) → NotAfter (at_class (file_of lines k) name).rank a.rank
     unfolding breaks_from
     not-after name j [] le a among = elim among [ ]
     not-after name j (c ∷ rest) le a among =
-        or-later (at_class (file_of 0 lines k) name) a (at_class (file_of 0 lines j) c.name) (breaks_from w applets lines (j + 1) rest) (has_high_token w (is_exported w applets (declared j c)) j c)
-        (order (file_of 0 lines k).file (file_of 0 lines j).file (upwards 0 lines k j le)) (not-after name (j + 1) rest (omega arith) a) among
+        or-later (at_class (file_of lines k) name) a (at_class (file_of lines j) c.name) (breaks_from w applets lines (j + 1) rest) (has_high_token w (is_exported w applets (declared j c)) j c)
+        (order (file_number (file_of lines k).key) (file_number (file_of lines j).key) (upwards 0 lines k j le)) (not-after name (j + 1) rest (omega arith) a) among
 
     pub breaks-first : (c : ClassTree) (all : List Break) → k < length cs → c ≡ get_or cs k c → has_high_token w (is_exported w applets (declared k c)) k c ≡ true
-        → breaks_from w applets lines k (drop k cs) ≡ all → IsFirst (at_class (file_of 0 lines k) c.name) all
+        → breaks_from w applets lines k (drop k cs) ≡ all → IsFirst (at_class (file_of lines k) c.name) all
     unfolding breaks_from
     breaks-first c all lt is high inv = subst (IsFirst b) whole first
       where
         b : Break
-        b = at_class (file_of 0 lines k) c.name
+        b = at_class (file_of lines k) c.name
 
         rest : List Break
         rest = breaks_from w applets lines (k + 1) (drop (k + 1) cs)
@@ -182,7 +160,7 @@ module _ (w : List Class) (applets : Bool) (cs : List ClassTree) (k : ℕ) where
         first : IsFirst b (b ∷ rest)
         first = record {
           among = foremost;
-          least = λ a. or-later b a b rest true (order (file_of 0 lines k).file (file_of 0 lines k).file (omega arith)) (not-after c.name (k + 1) (drop (k + 1) cs) (omega arith) a);
+          least = λ a. or-later b a b rest true (order (file_number (file_of lines k).key) (file_number (file_of lines k).key) (omega arith)) (not-after c.name (k + 1) (drop (k + 1) cs) (omega arith) a);
         }
 
 -- ---- where 401 or 406 is broken, 413 is not tested

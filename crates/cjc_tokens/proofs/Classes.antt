@@ -5,14 +5,15 @@ use Rattle.std.specs.List.{list_any}
 use Rattle.cjc_bytes.specs.declared.fault.MemberId.{MemberId}
 use Rattle.cjc_classfile.specs.declared.tree.ClassTree.{ClassTree}
 use Rattle.cjc_world.specs.declared.found.Found.{Found}
-use Rattle.cjc_world.specs.Classes.{Class, declared, is_interface, method_of_class}
+use Rattle.cjc_world.specs.Classes.{Class, declared, method_of_class}
+use Rattle.cjc_bytes.specs.AccessFlags.{is_interface}
 use Rattle.cjc_world.specs.Added.{added, named_by}
 use Rattle.cjc_tokens.specs.declared.slot.Rows.{Rows}
 use Rattle.cjc_tokens.specs.Members.{signature_of}
 use Rattle.cjc_tokens.specs.Lines.{line_at}
 use Rattle.cjc_tokens.specs.Slots.{slots, hidden_slots, token, row, hidden_row}
 use Rattle.cjc_tokens.specs.Fields.{is_open_static, field_tokens, instance_tokens}
-use Rattle.cjc_tokens.specs.Methods.{interface_methods, interface_token, is_open_bound, virtual_token, class_method_tokens}
+use Rattle.cjc_tokens.specs.Methods.{interface_methods, interface_row, interface_token, is_open_bound, virtual_token, class_method_tokens}
 use Rattle.cjc_world.specs.Exported.{is_exported}
 use Rattle.cjc_tokens.specs.Tokens.{OfClass, of_class}
 use Rattle.cjc_tokens.specs.Rules.{has_high_token, is_above, has_high_method}
@@ -39,7 +40,7 @@ module _ (w : List Class) (n : ℕ) (c : ClassTree) where
       made (if is_exported w applets (declared n c) then Some before else None)
       (field_tokens (is_exported w applets (declared n c)) c.fields 0 c.fields ++ (if b then map (interface_token (interface_methods w (declared n c))) (map method_of_class c.methods) else class_method_tokens (is_exported w applets (declared n c)) (slots (line_at w (declared n c))) (hidden_slots (line_at w (declared n c))) (map method_of_class c.methods) 0 (map method_of_class c.methods) ++ map (λ m. token (slots (line_at w (declared n c))) (signature_of m)) (added w (declared n c))))
       (instance_tokens c.fields 0 c.fields)
-      (if b then [] else row (line_at w (declared n c)))
+      (if b then interface_row w (declared n c) else row (line_at w (declared n c)))
       (if b then [] else hidden_row (line_at w (declared n c)))
 
   pub high-class : (exported : Bool) (rows : Rows) (ids : List MemberId) → is_interface c.flags ≡ false → AreRowsOf (line_at w (declared n c)) rows → ids ≡ map (named_by c.name) (added w (declared n c))
@@ -88,6 +89,6 @@ module _ (w : List Class) (n : ℕ) (c : ClassTree) where
       → is_interface c.flags ≡ true
       → class ≡ (if is_exported w applets (declared n c) then Some before else None)
       → members ≡ field_tokens (is_exported w applets (declared n c)) c.fields 0 c.fields ++ map (interface_token (interface_methods w (declared n c))) (map method_of_class c.methods)
-      → instances ≡ instance_tokens c.fields 0 c.fields → public ≡ [] → hidden ≡ []
+      → instances ≡ instance_tokens c.fields 0 c.fields → public ≡ interface_row w (declared n c) → hidden ≡ []
       → record { class = class; members = members; instances = instances; public_methods = public; package_methods = hidden } ≡ of_class w applets before n c
   tokens-interface applets before class members instances public hidden plain k m i p h = same k m i p h ∙ ap (whole applets before) (sym plain)

@@ -13,3 +13,4 @@ pub mod Once
 pub mod Classes
 pub mod Signs
 pub mod Assigns
+pub mod Means

@@ -3,7 +3,7 @@ use Rattle.std.specs.Prelude.{ℕ, ◌+◌, ◌==◌, List, [], ◌∷◌, take,
 use Rattle.std.specs.Str.{bytes_eq}
 use Rattle.cjc_classfile.specs.declared.tree.FieldTree.{FieldTree}
 use Rattle.cjc_export.specs.Members.{may_be_constant}
-use Rattle.cjc_world.specs.Classes.{is_static}
+use Rattle.cjc_bytes.specs.AccessFlags.{is_static}
 use Rattle.cjc_tokens.specs.Members.{is_exposed}
 
 -- A static final boolean, byte, short or int with a number as ConstantValue has no cell and no token.

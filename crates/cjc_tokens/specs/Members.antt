@@ -1,7 +1,8 @@
 -- Members by name and descriptor, and which methods are virtual.
 use Rattle.std.specs.Prelude.{ℕ, List, [], ◌∷◌, ◌++◌, Bool, false, not, ◌&&◌, ◌||◌, if◌then◌else◌, Option, Some, None, codes}
 use Rattle.std.specs.Str.{bytes_eq}
-use Rattle.cjc_world.specs.Classes.{Member, Class, is_public, is_protected}
+use Rattle.cjc_world.specs.Classes.{Member, Class}
+use Rattle.cjc_bytes.specs.AccessFlags.{is_public, is_protected}
 use Rattle.cjc_world.specs.Lookup.{is_called, is_selectable}
 
 -- the name and the descriptor of a method

@@ -1,9 +1,12 @@
 -- Tokens of methods (Java Card Virtual Machine Specification 2.2.2, sections 4.3.7.3, 4.3.7.6 and 4.3.7.7).
 use Rattle.std.specs.Prelude.{ℕ, ◌+◌, List, [], ◌∷◌, ◌++◌, map, take, position, count_by, Bool, false, true, not, ◌&&◌, ◌||◌, if◌then◌else◌, Option, Some, None, option_map}
-use Rattle.cjc_world.specs.Classes.{Member, Class, is_static}
+use Rattle.cjc_world.specs.Classes.{Member, Class}
+use Rattle.cjc_bytes.specs.AccessFlags.{is_static}
+use Rattle.cjc_world.specs.declared.found.Found.{Found}
 use Rattle.cjc_world.specs.Kin.{kin}
 use Rattle.cjc_world.specs.Interfaces.{Interface, gathered, each_once}
 use Rattle.cjc_world.specs.Added.{own_methods, asked_by}
+use Rattle.cjc_world.specs.Lookup.{method_of_interface}
 use Rattle.cjc_tokens.specs.Members.{Signature, signature_of, same, is_exposed, is_constructor, is_initialiser, is_shown, is_hidden}
 use Rattle.cjc_tokens.specs.Slots.{Slots, new_in, token}
 
@@ -17,6 +20,10 @@ interfaces_at w c = each_once [] (gathered false (kin w c.supers) ++ gathered tr
 -- methods of its interfaces.
 unfoldable pub interface_methods : List Class → Class → List Signature
 interface_methods w c = new_in [] (map signature_of (if c.is_imported then own_methods c else asked_by (kin w c.supers) (kin w c.interfaces) ++ own_methods c))
+
+-- the method that each of its tokens means
+abbrev pub interface_row : List Class → Class → List (Option Found)
+interface_row w c = map (λ s. method_of_interface w c.name s.name s.desc) (interface_methods w c)
 
 abbrev pub interface_token : List Signature → Member → Option ℕ
 interface_token methods m = if is_initialiser m.name then None else position (λ s. same s (signature_of m)) methods

@@ -4,9 +4,11 @@ use Rattle.std.specs.List.{list_all, list_any}
 use Rattle.cjc_bytes.specs.declared.settings.FileLine.{FileLine}
 use Rattle.cjc_classfile.specs.declared.tree.ClassTree.{ClassTree}
 use Rattle.cjc_world.specs.Files.{Files}
-use Rattle.cjc_world.specs.Classes.{Class, declared, is_interface, all_classes}
+use Rattle.cjc_world.specs.Classes.{Class, declared, all_classes}
+use Rattle.cjc_bytes.specs.AccessFlags.{is_interface}
 use Rattle.cjc_world.specs.Added.{added}
-use Rattle.cjc_world.specs.Rules.{Break, IsFirst}
+use Rattle.cjc_bytes.specs.Breaks.{Break, IsFirst, broken_at, class_spot}
+use Rattle.cjc_bytes.specs.Order.{FilePlace, file_of}
 use Rattle.cjc_tokens.specs.Members.{signature_of}
 use Rattle.cjc_tokens.specs.Lines.{line_at}
 use Rattle.cjc_tokens.specs.Slots.{slots, hidden_slots, token}
@@ -56,22 +58,9 @@ has_high_token w exported number c =
     else has_high_method w (declared number c) || (exported && nat_lt 255 (count_by is_open_bound (declared number c).methods)))
     || (exported && nat_lt 255 (count_by is_open_static c.fields))
 
--- a file by its place in the list, from 1, and its name
-pub record FilePlace : Type 0 where
-  pub file : ℕ
-  pub name : List ℕ
-
--- the file of the class of a number, where so many lines stand before these
-abbrev pub file_of : (before : ℕ) → List FileLine → (number : ℕ) → FilePlace
-file_of n [] k = record { file = n + 1; name = [] }
-file_of n (line ∷ lines) zero = if line.class_file then record { file = n + 1; name = line.name } else file_of (n + 1) lines zero
-file_of n (line ∷ lines) (suc k) = if line.class_file then file_of (n + 1) lines k else file_of (n + 1) lines (suc k)
-
+-- at a class of this name, which is the first of its file
 abbrev pub at_class : FilePlace → List ℕ → Break
-at_class at class_name = record {
-  rank = record { family = 4; file = at.file; class = 1; member = 0; offset = 0; rule = 413 };
-  refusal = record { rule = record { 0 = 413 }; place = record { file = at.name; class = class_name; member = []; offset = 0 } };
-}
+at_class f class_name = broken_at (class_spot f 1 class_name) 413
 
 abbrev pub breaks_where : Bool → Break → List Break
 breaks_where true b = b ∷ []
@@ -80,7 +69,7 @@ breaks_where false b = []
 -- those of the class files in list order, from one on
 unfoldable pub breaks_from : List Class → (applets : Bool) → List FileLine → (number : ℕ) → List ClassTree → List Break
 breaks_from w applets lines k [] = []
-breaks_from w applets lines k (c ∷ cs) = breaks_where (has_high_token w (is_exported w applets (declared k c)) k c) (at_class (file_of 0 lines k) c.name) ++ breaks_from w applets lines (k + 1) cs
+breaks_from w applets lines k (c ∷ cs) = breaks_where (has_high_token w (is_exported w applets (declared k c)) k c) (at_class (file_of lines k) c.name) ++ breaks_from w applets lines (k + 1) cs
 
 -- All that is broken of 413.
 unfoldable pub token_breaks : (applets : Bool) → Files → List Break
@@ -97,4 +86,4 @@ tested_breaks applets files = if is_few applets files then token_breaks applets 
 -- None where there is no break, else the number of the class whose break is the first.
 abbrev pub IsFirstHigh : (applets : Bool) → Files → Option ℕ → Type 0
 IsFirstHigh applets files None = tested_breaks applets files ≡ []
-IsFirstHigh applets files (Some n) = (c : ClassTree) × (slice_get files.classes n ≡ Some c) × IsFirst (at_class (file_of 0 files.lines n) c.name) (tested_breaks applets files)
+IsFirstHigh applets files (Some n) = (c : ClassTree) × (slice_get files.classes n ≡ Some c) × IsFirst (at_class (file_of files.lines n) c.name) (tested_breaks applets files)

@@ -7,14 +7,15 @@ use Rattle.cjc_export.specs.declared.tree.ExportClass.{ExportClass}
 use Rattle.cjc_export.specs.declared.tree.ExportTree.{ExportTree}
 use Rattle.cjc_world.specs.declared.found.Found.{Found}
 use Rattle.cjc_world.specs.Files.{Files}
-use Rattle.cjc_world.specs.Classes.{Class, declared, is_interface, all_classes}
+use Rattle.cjc_world.specs.Classes.{Class, declared, all_classes}
+use Rattle.cjc_bytes.specs.AccessFlags.{is_interface}
 use Rattle.cjc_world.specs.Exported.{is_exported}
 use Rattle.cjc_world.specs.Added.{added}
 use Rattle.cjc_tokens.specs.Members.{signature_of, is_initialiser}
 use Rattle.cjc_tokens.specs.Lines.{line_at}
 use Rattle.cjc_tokens.specs.Slots.{slots, hidden_slots, token, row, hidden_row}
 use Rattle.cjc_tokens.specs.Fields.{field_tokens, instance_tokens}
-use Rattle.cjc_tokens.specs.Methods.{interface_methods, interface_token, class_method_tokens}
+use Rattle.cjc_tokens.specs.Methods.{interface_methods, interface_row, interface_token, class_method_tokens}
 
 -- ---- the tokens of one class
 
@@ -26,7 +27,7 @@ pub record OfClass : Type 0 where
   pub members : List (Option ℕ)
   -- those of its instance fields by the place of the field
   pub instances : List (Option ℕ)
-  -- the method that each public token means
+  -- the method that each public token means, of an interface each of its tokens
   pub public_methods : List (Option Found)
   -- the package-visible method that each token means, the token without its high bit
   pub package_methods : List (Option Found)
@@ -36,13 +37,13 @@ method_tokens w exported c =
     if is_interface c.flags then map (interface_token (interface_methods w c)) c.methods
     else class_method_tokens exported (slots (line_at w c)) (hidden_slots (line_at w c)) c.methods 0 c.methods ++ map (λ m. token (slots (line_at w c)) (signature_of m)) (added w c)
 
--- an interface has no virtual methods of its own
+-- an interface has no package-visible methods
 abbrev pub of_class : List Class → (applets : Bool) → (exported_before number : ℕ) → ClassTree → OfClass
 of_class w applets before number c = record {
   class = if is_exported w applets (declared number c) then Some before else None;
   members = field_tokens (is_exported w applets (declared number c)) c.fields 0 c.fields ++ method_tokens w (is_exported w applets (declared number c)) (declared number c);
   instances = instance_tokens c.fields 0 c.fields;
-  public_methods = if is_interface c.flags then [] else row (line_at w (declared number c));
+  public_methods = if is_interface c.flags then interface_row w (declared number c) else row (line_at w (declared number c));
   package_methods = if is_interface c.flags then [] else hidden_row (line_at w (declared number c));
 }
 
@@ -100,7 +101,7 @@ token_of_member a f =
     if f.imported then option_and_then (λ ms. joined (slice_get ms f.member)) (slice_get a.imports f.class)
     else option_and_then (λ c. joined (slice_get c.members f.member)) (slice_get a.classes f.class)
 
--- The method that a virtual token of a class means: package-visible ones have the high bit.
+-- The method that a token means in a class or interface of the package: package-visible ones have the high bit.
 abbrev pub method_of_token : Assigned → (class token : ℕ) → Option Found
 method_of_token a class token =
     if nat_lt token 128 then option_and_then (λ c. joined (slice_get c.public_methods token)) (slice_get a.classes class)

@@ -5,7 +5,7 @@ use Rattle.cjc_bytes.specs.declared.fault.MemberId.{MemberId}
 use Rattle.cjc_classfile.specs.declared.tree.ClassTree.{ClassTree}
 use Rattle.cjc_world.specs.declared.found.Found.{Found}
 use Rattle.cjc_world.specs.Files.{Files}
-use Rattle.cjc_world.specs.Rules.{IsFirst}
+use Rattle.cjc_bytes.specs.Breaks.{IsFirst}
 use Rattle.cjc_world.specs.Classes.{Member, Class, all_classes, declared, method_of_class}
 use Rattle.cjc_world.specs.Kin.{Kin, kin}
 use Rattle.cjc_world.specs.Interfaces.{gathered, known}
@@ -20,7 +20,8 @@ use Rattle.cjc_tokens.specs.Fields.{is_open_static}
 use Rattle.cjc_tokens.specs.Methods.{is_open_bound, virtual_token}
 use Rattle.cjc_world.specs.Exported.{is_exported}
 use Rattle.cjc_tokens.specs.Tokens.{OfClass, classes_from, of_class}
-use Rattle.cjc_tokens.specs.Rules.{at_class, file_of, has_high_token, is_above, token_breaks}
+use Rattle.cjc_tokens.specs.Rules.{at_class, has_high_token, is_above, token_breaks}
+use Rattle.cjc_bytes.specs.Order.{file_of}
 
 abbrev pub signature_in : Slot → Signature
 signature_in s = record { name = s.name.now; desc = s.desc.now }
@@ -137,4 +138,4 @@ AreTokensOf w applets before n c (Some t) = (has_high_token w (is_exported w app
 -- The tokens of all classes of the package where none breaks 413, else the number of the first that does.
 abbrev pub AreAllTokens : (applets : Bool) → Files → Result (List OfClass) ℕ → Type 0
 AreAllTokens applets files (Ok rows) = (token_breaks applets files ≡ []) × (rows ≡ classes_from (all_classes files) applets 0 0 files.classes)
-AreAllTokens applets files (Err n) = (c : ClassTree) × (slice_get files.classes n ≡ Some c) × IsFirst (at_class (file_of 0 files.lines n) c.name) (token_breaks applets files)
+AreAllTokens applets files (Err n) = (c : ClassTree) × (slice_get files.classes n ≡ Some c) × IsFirst (at_class (file_of files.lines n) c.name) (token_breaks applets files)

@@ -4,9 +4,11 @@ ghost use Rattle.std.specs.Prelude.{◌≡◌, ◌⊎◌, ◌≤◌, ◌<◌, []
 ghost use Rattle.cjc_bytes.specs.declared.fault.Fault.TheVariants as faults;
 ghost use Rattle.std.specs.List.{list_all};
 ghost use Rattle.cjc_world.specs.Classes.{all_classes, declared};
-ghost use Rattle.cjc_world.specs.Rules.{IsFirstRefusal};
+ghost use Rattle.cjc_bytes.specs.Breaks.{IsFirstRefusal};
+ghost use Rattle.cjc_bytes.specs.Order.{file_of};
+ghost use Rattle.cjc_bytes.specs.Told.{break_of};
 ghost use Rattle.cjc_tokens.specs.Fields.{instance_cells};
-ghost use Rattle.cjc_tokens.specs.Rules.{FewCells, FewExported, has_few_cells, has_few_exported, is_few, IsFirstHigh, token_breaks};
+ghost use Rattle.cjc_tokens.specs.Rules.{FewCells, FewExported, at_class, has_few_cells, has_few_exported, is_few, IsFirstHigh, token_breaks};
 ghost use Rattle.cjc_world.specs.Exported.{is_exported};
 ghost use Rattle.cjc_tokens.specs.Tokens.{assigned};
 ghost use Rattle.cjc_tokens.specs.Working.{AreAllTokens, AreTokensOf, IsKept};
@@ -15,12 +17,11 @@ use crate::class::{class_tokens, interface_tokens};
 use crate::fields::has_few_cells;
 use crate::imports::import_tokens;
 use crate::line::{added_to, keep};
-use crate::refusal::refused;
 use crate::slot::Rows;
 use crate::tokens::{ClassTokens, Tokens};
-use cjc_bytes::{Fault, NoMemory, Row, Settings};
+use cjc_bytes::{Break, Fault, NoMemory, Row, Settings, Spot, file_of, is_interface, refused_at};
 use cjc_classfile::ClassTree;
-use cjc_world::{Known, World, has};
+use cjc_world::{Known, World};
 use std::alloc::Global;
 
 fn class_count(world: &World<'_>) -> Result<u32, NoMemory>
@@ -105,7 +106,7 @@ fn tokens_at<'w>(
     if class.fields.items().len() > 0xFFFF_FFFF {
         return Err(NoMemory);
     }
-    if has(class.flags, 0x0200) {
+    if is_interface(class.flags) {
         return interface_tokens(alloc, world, applets, before, number, class);
     }
     match kept.get(number as usize) {
@@ -146,6 +147,25 @@ fn declared_tokens<'w>(
     Ok(Ok(rows))
 }
 
+/// Rule 413 at a class of the package.
+fn high_break<'w>(world: &'w World<'_>, number: u32, class: &'w ClassTree<'_>) -> Break<'w>
+    ensures { break_of result ≡ at_class (file_of world.now.lines number) class.now.name }
+{
+    let file = file_of(world.lines().items(), number as usize);
+    Break {
+        rule: 413,
+        spot: Spot::of_class(file, 1, class.name.items()),
+    }
+}
+
+/// The refusal of a class of the package that breaks 413, or that there is no memory to say so.
+fn refused(alloc: Global, world: &World<'_>, number: u32, class: &ClassTree<'_>) -> Fault
+    ensures { (result ≡ faults.Refused (at_class (file_of world.now.lines number) class.now.name).refusal) ⊎ (result ≡ faults.NoMemory) }
+{
+    let high = high_break(world, number, class);
+    refused_at(alloc, high.rule, high.spot.place)
+}
+
 /// The tokens of a package that exports no more than 255 classes and has no class with more than 255 cells of
 /// instance fields. A refusal is the first of what is broken of the rule 413.
 pub fn assign(alloc: Global, world: &World<'_>, settings: &Settings) -> Result<Tokens, Fault>
@@ -161,8 +181,7 @@ pub fn assign(alloc: Global, world: &World<'_>, settings: &Settings) -> Result<T
     match declared_tokens(alloc, world, applets, &kept, count)? {
         Err(number) => {
             let class = &world.classes().items()[number as usize];
-            let lines = world.lines().items();
-            Err(refused(alloc, lines, number, class.name.items()))
+            Err(refused(alloc, world, number, class))
         }
         Ok(classes) => {
             let imports = import_tokens(alloc, world.exports().items())?;

@@ -1,14 +1,16 @@
 //! The tokens of one class.
 
-ghost use Rattle.std.specs.Prelude.{◌≡◌, ◌≤◌, ◌<◌, ◌^◌, ◌+◌, ◌++◌, ◌||◌, ◌&&◌, List, map, length, nat_lt, count_by, if◌then◌else◌, true, false, IfOk, OnOk, Some, None};
-ghost use Rattle.cjc_world.specs.Classes.{all_classes, declared, is_interface, method_of_class};
+ghost use Rattle.std.specs.Prelude.{◌≡◌, ◌≤◌, ◌<◌, ◌^◌, ◌+◌, ◌++◌, ◌||◌, ◌&&◌, List, map, length, nat_lt, count_by, if◌then◌else◌, true, false, option_map, IfOk, OnOk, Some, None};
+ghost use Rattle.cjc_world.specs.Classes.{all_classes, declared, method_of_class};
+ghost use Rattle.cjc_bytes.specs.AccessFlags.{is_interface};
 ghost use Rattle.cjc_world.specs.Added.{added, named_by};
 ghost use Rattle.cjc_tokens.specs.Fields.{instance_cells, is_open_static};
 ghost use Rattle.cjc_tokens.specs.Lines.{line_at};
 ghost use Rattle.cjc_tokens.specs.Members.{Signature};
 ghost use Rattle.cjc_tokens.specs.Methods.{interface_token, is_open_bound};
 ghost use Rattle.cjc_world.specs.Exported.{is_exported};
-ghost use Rattle.cjc_tokens.specs.Working.{AreRowsOf, AreTokensOf, is_high_class, is_high_interface, methods_in, signs};
+ghost use Rattle.cjc_tokens.specs.Working.{AreRowsOf, AreTokensOf, is_high_class, is_high_interface, methods_in, signature_in, signs};
+ghost use Rattle.cjc_world.specs.Lookup.{method_of_interface};
 
 use crate::fields::{field_tokens, instance_tokens, open_statics};
 use crate::interfaces::interface_methods;
@@ -122,6 +124,32 @@ fn put_interface_tokens(
     Ok(())
 }
 
+/// The method that a token of an interface means, from its slot.
+fn meant_in(world: &World<'_>, interface: &[u8], slot: &Option<Slot<'_>>) -> Option<Found>
+    ensures { (s : Signature) → option_map signature_in slot.now ≡ Some s → result ≡ method_of_interface (all_classes world.now) interface.now s.name s.desc }
+{
+    match slot {
+        Some(slot) => world.method_of_interface(interface, slot.name, slot.desc),
+        None => None,
+    }
+}
+
+/// The methods that the tokens of an interface mean.
+fn interface_row(
+    alloc: Global,
+    world: &World<'_>,
+    interface: &[u8],
+    methods: &[Option<Slot<'_>>],
+) -> Result<Row<Option<Found>>, NoMemory>
+    ensures { (ss : List Signature) → signs methods.now ≡ map Some ss → IfOk result (λ row. row ≡ map (λ s. method_of_interface (all_classes world.now) interface.now s.name s.desc) ss) }
+{
+    let mut row = Row::new(alloc);
+    for slot in methods {
+        row.push(meant_in(world, interface, slot))?;
+    }
+    Ok(row)
+}
+
 /// Whether an interface breaks 413.
 fn is_high_interface(exported: bool, methods: usize, class: &ClassTree<'_>) -> bool
     ensures { result ≡ is_high_interface exported methods class.now }
@@ -153,11 +181,12 @@ pub(crate) fn interface_tokens(
     let mut members = field_tokens(alloc, exported, class.fields.items())?;
     put_interface_tokens(&mut members, methods, class.methods.items())?;
     let instances = instance_tokens(alloc, class.fields.items())?;
+    let public_methods = interface_row(alloc, world, class.name.items(), methods)?;
     Ok(Some(ClassTokens {
         class: own_token(exported, before),
         members,
         instances,
-        public_methods: Row::new(alloc),
+        public_methods,
         package_methods: Row::new(alloc),
     }))
 }

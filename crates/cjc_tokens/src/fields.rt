@@ -4,10 +4,9 @@ ghost use Rattle.std.specs.Prelude.{◌≡◌, ◌≤◌, ◌+◌, ◌==◌, ◌
 ghost use Rattle.cjc_tokens.specs.Fields.{cells, cells_of, field_token, field_tokens, group, instance_cells, instance_field_token, instance_token, instance_tokens, is_constant, is_instance, is_open_static, is_reference};
 
 use crate::slot::is_exposed;
-use cjc_bytes::{NoMemory, Row};
+use cjc_bytes::{NoMemory, Row, is_static};
 use cjc_classfile::FieldTree;
 use cjc_export::may_be_constant;
-use cjc_world::has;
 use std::alloc::Global;
 
 const INT: &[u8] = b"I";
@@ -23,13 +22,13 @@ fn is_constant(field: &FieldTree) -> bool
 fn is_open_static(field: &FieldTree) -> bool
     ensures { result ≡ is_open_static field.now }
 {
-    has(field.flags, 0x0008) && is_exposed(field.flags) && !is_constant(field)
+    is_static(field.flags) && is_exposed(field.flags) && !is_constant(field)
 }
 
 fn is_instance(field: &FieldTree) -> bool
     ensures { result ≡ is_instance field.now }
 {
-    !has(field.flags, 0x0008)
+    !is_static(field.flags)
 }
 
 fn is_reference(desc: &[u8]) -> bool

@@ -6,15 +6,15 @@ mod class;
 mod fields;
 mod imports;
 mod interfaces;
+mod laws;
 mod line;
 mod listed;
 mod methods;
-mod refusal;
 mod slot;
 mod tokens;
 
 pub use assigning::{assign, few, first_high};
 pub use interfaces::interface_methods;
-pub use refusal::file_of;
+pub use laws::interface_laws;
 pub use slot::{Slot, token};
 pub use tokens::Tokens;

@@ -12,9 +12,9 @@ ghost use Rattle.cjc_tokens.specs.Working.{AreRowsOf, IsKept, SameRows};
 
 use crate::listed::{rows_of, with_supers};
 use crate::slot::{Rows, offer_added, offer_methods, renewed};
-use cjc_bytes::{MemberId, NoMemory};
+use cjc_bytes::{MemberId, NoMemory, is_interface};
 use cjc_classfile::ClassTree;
-use cjc_world::{Known, World, has, lookup_laws};
+use cjc_world::{Known, World, lookup_laws};
 use std::alloc::Global;
 
 /// The rows of a class of the package, from those of its superclass.
@@ -167,7 +167,7 @@ pub(crate) fn keep<'w>(
     ensures length { length kept.new.items ≡ length kept.old.items }
     ensures kept { OnOk result (IsKept (all_classes world.now) world.now.classes kept.new.items) }
 {
-    if has(world.classes().items()[number as usize].flags, 0x0200) {
+    if is_interface(world.classes().items()[number as usize].flags) {
         return Ok(());
     }
     let mut numbers = waiting(alloc, world, kept, number)?;

@@ -10,9 +10,8 @@ ghost use Rattle.cjc_tokens.specs.Rules.{is_above};
 ghost use Rattle.cjc_tokens.specs.Working.{member_of, signs};
 
 use crate::slot::{Rows, is_constructor, is_exposed, is_initialiser, is_of_kind, token};
-use cjc_bytes::{MemberId, NoMemory, Row};
+use cjc_bytes::{MemberId, NoMemory, Row, is_static};
 use cjc_classfile::MethodTree;
-use cjc_world::has;
 use std::alloc::Global;
 
 /// Whether a static method or a constructor has a token, where its class is exported.
@@ -21,7 +20,7 @@ fn is_open_bound(method: &MethodTree<'_>) -> bool
 {
     let name = method.name.items();
     is_exposed(method.flags)
-        && (has(method.flags, 0x0008) || is_constructor(name))
+        && (is_static(method.flags) || is_constructor(name))
         && !is_initialiser(name)
 }
 

@@ -10,9 +10,9 @@ ghost use Rattle.cjc_tokens.specs.Slots.{got, has_slot, holds, own, token, with_
 ghost use Rattle.cjc_tokens.specs.declared.slot.Slot.{Slot as RowSlot};
 ghost use Rattle.cjc_tokens.specs.Working.{is_kind, is_of_kind, member_of, nearest, Offered, Renewed, signature_in, signs};
 
-use cjc_bytes::{MemberId, NoMemory};
+use cjc_bytes::{MemberId, NoMemory, is_private, is_protected, is_public, is_static};
 use cjc_classfile::{ClassTree, MethodTree};
-use cjc_world::{Found, has};
+use cjc_world::Found;
 use std::alloc::Global;
 
 const CONSTRUCTOR: &[u8] = b"<init>";
@@ -38,7 +38,7 @@ pub(crate) struct Rows<'w> {
 pub(crate) fn is_exposed(flags: u16) -> bool
     ensures { result ≡ is_exposed flags }
 {
-    has(flags, 0x0001) || has(flags, 0x0004)
+    is_public(flags) || is_protected(flags)
 }
 
 pub(crate) fn is_constructor(name: &[u8]) -> bool
@@ -57,7 +57,7 @@ pub(crate) fn is_initialiser(name: &[u8]) -> bool
 pub(crate) fn is_virtual(flags: u16, name: &[u8]) -> bool
     ensures { result ≡ is_virtual_by flags name.now }
 {
-    !has(flags, 0x0002) && !has(flags, 0x0008) && !(is_constructor(name) || is_initialiser(name))
+    !is_private(flags) && !is_static(flags) && !(is_constructor(name) || is_initialiser(name))
 }
 
 /// Whether a virtual method is package-visible, or is public or protected.

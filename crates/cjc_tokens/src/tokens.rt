@@ -99,8 +99,8 @@ impl Tokens {
         *members.items().get(id.member as usize)?
     }
 
-    /// The method that a virtual token means in a class of the package: that of the nearest class from it upwards that
-    /// declares one or got it.
+    /// The method that a virtual token means in a class or interface of the package: that of the nearest class from it
+    /// upwards that declares one or got it; of an interface its own, else that of the first of its superinterfaces.
     pub fn virtual_by_token(&self, class: u32, token: u8) -> Option<Found>
         ensures { result ≡ method_of_token self.now class token }
     {
@@ -112,8 +112,8 @@ impl Tokens {
         }
     }
 
-    /// The methods that the tokens of public and protected virtual methods mean in a class of the package, by token.
-    /// None at a token that no method has.
+    /// The methods that the tokens of public and protected virtual methods mean in a class of the package, or the tokens
+    /// of an interface, by token. None at a token that no method has.
     pub fn public_methods(&self, class: u32) -> &[Option<Found>]
         ensures { result.now ≡ public_methods_of self.now class }
     {

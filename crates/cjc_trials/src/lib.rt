@@ -5,6 +5,8 @@
 #[cfg(test)]
 mod drafts;
 #[cfg(test)]
+mod inheritance;
+#[cfg(test)]
 mod subsets;
 #[cfg(test)]
 mod tables;

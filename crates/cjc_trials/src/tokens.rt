@@ -309,7 +309,7 @@ fn an_abstract_class_gets_a_token_for_each_added_method(rt: HostRuntime) {
     let meanings: [Meanings<'_>; 3] = [
         (1, 0, &[listed(0, 1), declared(1, 1)]),
         (2, 0, &[listed(0, 1), declared(2, 1)]),
-        (0, 0, &[]),
+        (0, 0, &[declared(0, 0)]),
     ];
     assert!(rt; are_tokens(tokens(rt.alloc(), ASKING), &members, &meanings));
 }
@@ -375,7 +375,21 @@ fn a_common_interface_counts_once(rt: HostRuntime) {
         (false, 4, &[Some(1)]),
         (false, 5, &[Some(0)]),
     ];
-    assert!(rt; are_tokens(tokens(rt.alloc(), COMMON), &members, &[]));
+    let meanings: [Meanings<'_>; 2] = [
+        // the interface's own before those of the first superinterface
+        (
+            2,
+            0,
+            &[
+                declared(2, 1),
+                declared(3, 0),
+                declared(4, 0),
+                declared(2, 0),
+            ],
+        ),
+        (3, 0, &[declared(5, 0), declared(3, 0)]),
+    ];
+    assert!(rt; are_tokens(tokens(rt.alloc(), COMMON), &members, &meanings));
 }
 
 const HOLDING: &[Part<'static>] = &[

@@ -476,16 +476,56 @@ fn broken_members(rt: HostRuntime) {
     assert!(rt; are_broken(rt.alloc(), BROKEN));
 }
 
-/// Two classes that are below each other.
-const CYCLE: &[Part<'static>] = &[
-    Part::Language,
-    Part::Class((1, b"p/A", b"p/B", &[], &[], &[])),
-    Part::Class((1, b"p/B", b"p/A", &[], &[], &[])),
+/// A class that is its own superclass.
+const LOOP: Part<'static> = Part::Class((1, b"p/B", b"p/B", &[], &[], &[]));
+
+/// An interface with a method of a class that no file has.
+const ASKS: Part<'static> = Part::Export(
+    b"q",
+    &[(
+        0x0601,
+        b"q/I",
+        &[OBJECT],
+        &[],
+        &[],
+        &[(0, 0x0401, b"m", b"(Lx/X;)V")],
+    )],
+);
+
+/// An abstract class that gets this method.
+const GETS_IT: Part<'static> = Part::Class((0x0421, b"p/A", OBJECT, &[b"q/I"], &[], &[]));
+
+/// The same below the class that is its own superclass.
+const GETS_IT_BELOW: Part<'static> = Part::Class((0x0421, b"p/A", b"p/B", &[b"q/I"], &[], &[]));
+
+/// Packages with cycles, and the rule and the class that are refused.
+const CYCLES: &[(&[Part<'static>], u16, &[u8])] = &[
+    (
+        &[
+            Part::Language,
+            Part::Class((1, b"p/A", b"p/B", &[], &[], &[])),
+            Part::Class((1, b"p/B", b"p/A", &[], &[], &[])),
+        ],
+        204,
+        b"p/A",
+    ),
+    (&[Part::Language, ASKS, GETS_IT, LOOP], 203, b"p/A"), // the cycle is elsewhere
+    (&[Part::Language, ASKS, LOOP, GETS_IT], 204, b"p/B"),
+    (&[Part::Language, ASKS, GETS_IT_BELOW, LOOP], 204, b"p/B"), // it is above p/A
 ];
+
+fn are_cycles(alloc: Global, cases: &[(&[Part<'_>], u16, &[u8])]) -> bool {
+    for (parts, rule, class) in cases {
+        if !is_refused(world_of(alloc, parts), *rule, class, class, b"") {
+            return false;
+        }
+    }
+    true
+}
 
 #[test]
 fn cycles(rt: HostRuntime) {
-    assert!(rt; is_refused(world_of(rt.alloc(), CYCLE), 204, b"p/A", b"p/A", b""));
+    assert!(rt; are_cycles(rt.alloc(), CYCLES));
 }
 
 /// No class, and java/lang with exceptions below a class of this name, but for so many.

@@ -3,7 +3,8 @@ use Rattle.std.proofs.Common.{◌≡◌, ℕ, zero, suc, refl, sym, ap, subst, �
 use Rattle.std.specs.Prelude.{◌&&◌, ◌||◌, ◌⊎◌, not, Option, Some, None, if◌then◌else◌, slice_get, map, option_map, option_to_list}
 use Rattle.std.specs.Str.{bytes_eq}
 use Rattle.std.proofs.lemmas.Option.{slice_get-map}
-use Rattle.cjc_world.specs.Classes.{Member, Class, is_public, is_protected}
+use Rattle.cjc_world.specs.Classes.{Member, Class}
+use Rattle.cjc_bytes.specs.AccessFlags.{is_public, is_protected}
 use Rattle.cjc_world.specs.Kin.{Kin, kin, IsKin, ends, unknown_here, known_here}
 use Rattle.cjc_world.specs.Interfaces.{Interface, where_listed, gathered, is_among, each_once, known}
 use Rattle.cjc_world.specs.Lookup.{is_called}

@@ -3,8 +3,10 @@ use Rattle.std.proofs.Common.{◌≡◌, ℕ, zero, suc, ◌+◌, ap, ◌∙◌,
 use Rattle.std.specs.Prelude.{if◌then◌else◌, slice_get, Some}
 use Rattle.cjc_classfile.specs.declared.tree.ClassTree.{ClassTree}
 use Rattle.cjc_world.specs.Files.{Files}
-use Rattle.cjc_world.specs.Classes.{Class, declared, is_interface, all_classes}
+use Rattle.cjc_world.specs.Classes.{Class, declared, all_classes}
+use Rattle.cjc_bytes.specs.AccessFlags.{is_interface}
 use Rattle.cjc_tokens.specs.Lines.{line_at}
+use Rattle.cjc_tokens.specs.Methods.{interface_row}
 use Rattle.cjc_tokens.specs.Slots.{row, hidden_row}
 use Rattle.cjc_world.specs.Exported.{is_exported}
 use Rattle.cjc_tokens.specs.Tokens.{Assigned, classes_from, of_class, one_more, assigned, public_in, package_in, public_methods_of, package_methods_of}
@@ -31,7 +33,7 @@ module _ (files : Files) (applets : Bool) (n : ℕ) (c : ClassTree) (there : sli
       (r.0, r.1 ∙ ap (λ q. Some (of_class (all_classes files) applets r.0 q c)) m)
 
   pub public-row : (t : Assigned) → t ≡ assigned applets files → public_methods_of t n ≡ row (line_at (all_classes files) (declared n c))
-  public-row t is = ap (λ q. public_methods_of q n) is ∙ ap public_in at.1 ∙ ap (λ b. if b then [] else row (line_at (all_classes files) (declared n c))) plain
+  public-row t is = ap (λ q. public_methods_of q n) is ∙ ap public_in at.1 ∙ ap (λ b. if b then interface_row (all_classes files) (declared n c) else row (line_at (all_classes files) (declared n c))) plain
 
   pub package-row : (t : Assigned) → t ≡ assigned applets files → package_methods_of t n ≡ hidden_row (line_at (all_classes files) (declared n c))
   package-row t is = ap (λ q. package_methods_of q n) is ∙ ap package_in at.1 ∙ ap (λ b. if b then [] else hidden_row (line_at (all_classes files) (declared n c))) plain

@@ -8,13 +8,16 @@ use Rattle.cjc_code.specs.declared.method_code.MethodCode.{MethodCode}
 use Rattle.cjc_export.specs.declared.tree.ExportClass.{ExportClass}
 use Rattle.cjc_export.specs.declared.tree.ExportTree.{ExportTree}
 use Rattle.cjc_world.specs.Files.{Files}
-use Rattle.cjc_world.specs.Classes.{Class, declared, imported, all_classes, is_interface}
-use Rattle.cjc_world.specs.Rules.{Break, Among, foremost, after, breaks}
-use Rattle.cjc_subset.specs.Places.{Spot, FilePlace, broken_at, at, at_class, at_method, each_from, each, file_of}
+use Rattle.cjc_world.specs.Classes.{Class, declared, imported, all_classes}
+use Rattle.cjc_bytes.specs.AccessFlags.{is_interface}
+use Rattle.cjc_world.specs.Rules.{breaks}
+use Rattle.cjc_bytes.specs.Breaks.{Break, Among, foremost, after, Spot, broken_at, at, each_from, each}
+use Rattle.cjc_subset.specs.Places.{at_class, at_method}
+use Rattle.cjc_bytes.specs.Order.{FilePlace, file_of}
 use Rattle.cjc_subset.specs.Flags.{is_unfit_method}
 use Rattle.cjc_subset.specs.Types.{is_foreign_desc, is_int_desc}
 use Rattle.cjc_subset.specs.Limits.{has_deep_stack, has_many_locals}
-use Rattle.cjc_subset.specs.Overriding.{is_above, is_special, hides_one, changes_kind, lacks_code, method_against, class_against, kin_breaks, overriding_breaks}
+use Rattle.cjc_subset.specs.Overriding.{is_inherited, is_special, hides_one, changes_kind, lacks_code, method_against, class_against, kin_breaks, overriding_breaks}
 use Rattle.cjc_subset.specs.Checks.{field_breaks, method_breaks, own_breaks, class_breaks, code_breaks, list_breaks, check_breaks}
 use Rattle.cjc_vtable.specs.Kept.{IsUnbroken, BreaksNone}
 use Rattle.cjc_vtable.proofs.Filed.{Has, at_front, behind}
@@ -84,12 +87,12 @@ module _ (rule : ℕ) where
         let D = overriding_breaks files f t in
         (f, unbroken-right (A ++ B ++ C) D r.1)
 
-    against : (f : FilePlace) (t : ClassTree) (d : Class) → is_above (all_classes files) t d ≡ true → IsUnbroken rule (kin_breaks (all_classes files) f t d) → IsUnbroken rule (class_against (all_classes files) f t d)
+    against : (f : FilePlace) (t : ClassTree) (d : Class) → is_inherited (all_classes files) t d ≡ true → IsUnbroken rule (kin_breaks (all_classes files) f t d) → IsUnbroken rule (class_against (all_classes files) f t d)
     unfolding kin_breaks
     against f t d above h = subst (λ (v : Bool). IsUnbroken rule (if v then class_against (all_classes files) f t d else [])) above h
 
     -- against a class of the package that stands above
-    pub against-declared : (t u : ClassTree) → Has t files.classes → Has u files.classes → is_above (all_classes files) t (declared 0 u) ≡ true → (f : FilePlace) × IsUnbroken rule (class_against (all_classes files) f t (declared 0 u))
+    pub against-declared : (t u : ClassTree) → Has t files.classes → Has u files.classes → is_inherited (all_classes files) t (declared 0 u) ≡ true → (f : FilePlace) × IsUnbroken rule (class_against (all_classes files) f t (declared 0 u))
     unfolding overriding_breaks
     against-declared t u h g above =
         let r = unbroken-overriding t h in
@@ -101,7 +104,7 @@ module _ (rule : ℕ) where
         (f, against f t (declared 0 u) above (unbroken-each (λ _ d. kin_breaks w f t (declared 0 d)) 0 u files.classes g (unbroken-right A B (unbroken-left (A ++ B) C r.1))).1)
 
     -- against an imported class that stands above
-    pub against-imported : (t : ClassTree) (s : ExportTree) (d : ExportClass) → Has t files.classes → Has s files.exports → Has d s.classes → is_above (all_classes files) t (imported 0 d) ≡ true → (f : FilePlace) × IsUnbroken rule (class_against (all_classes files) f t (imported 0 d))
+    pub against-imported : (t : ClassTree) (s : ExportTree) (d : ExportClass) → Has t files.classes → Has s files.exports → Has d s.classes → is_inherited (all_classes files) t (imported 0 d) ≡ true → (f : FilePlace) × IsUnbroken rule (class_against (all_classes files) f t (imported 0 d))
     unfolding overriding_breaks
     against-imported t s d h g i above =
         let r = unbroken-overriding t h in
@@ -153,14 +156,14 @@ module _ (list : List ℕ) (files : Files) (codes : List MethodCode) (settings :
         let B = each (λ i k. method_against f t d i k) t.methods in
         unbroken-at 307 (lacks_code w t d) (at_class f t) (unbroken-left 307 A B off)
 
-  pub seen-declared : IsUnbroken 305 (check_breaks list files codes settings) → (t u : ClassTree) (m : MethodTree) → Has t files.classes → Has u files.classes → is_above (all_classes files) t (declared 0 u) ≡ true → Has m t.methods → (not (is_special m.name) && hides_one (declared 0 u) m.flags m.name m.desc) ≡ false
+  pub seen-declared : IsUnbroken 305 (check_breaks list files codes settings) → (t u : ClassTree) (m : MethodTree) → Has t files.classes → Has u files.classes → is_inherited (all_classes files) t (declared 0 u) ≡ true → Has m t.methods → (not (is_special m.name) && hides_one (declared 0 u) m.flags m.name m.desc) ≡ false
   seen-declared off t u m h g above i = let r = against-declared 305 list files codes settings off t u h g above in seen t h r.0 (declared 0 u) r.1 m i
 
-  pub seen-imported : IsUnbroken 305 (check_breaks list files codes settings) → (t : ClassTree) (s : ExportTree) (d : ExportClass) (m : MethodTree) → Has t files.classes → Has s files.exports → Has d s.classes → is_above (all_classes files) t (imported 0 d) ≡ true → Has m t.methods → (not (is_special m.name) && hides_one (imported 0 d) m.flags m.name m.desc) ≡ false
+  pub seen-imported : IsUnbroken 305 (check_breaks list files codes settings) → (t : ClassTree) (s : ExportTree) (d : ExportClass) (m : MethodTree) → Has t files.classes → Has s files.exports → Has d s.classes → is_inherited (all_classes files) t (imported 0 d) ≡ true → Has m t.methods → (not (is_special m.name) && hides_one (imported 0 d) m.flags m.name m.desc) ≡ false
   seen-imported off t s d m h g j above i = let r = against-imported 305 list files codes settings off t s d h g j above in seen t h r.0 (imported 0 d) r.1 m i
 
-  pub coded-declared : IsUnbroken 307 (check_breaks list files codes settings) → (t u : ClassTree) → Has t files.classes → Has u files.classes → is_above (all_classes files) t (declared 0 u) ≡ true → lacks_code (all_classes files) t (declared 0 u) ≡ false
+  pub coded-declared : IsUnbroken 307 (check_breaks list files codes settings) → (t u : ClassTree) → Has t files.classes → Has u files.classes → is_inherited (all_classes files) t (declared 0 u) ≡ true → lacks_code (all_classes files) t (declared 0 u) ≡ false
   coded-declared off t u h g above = let r = against-declared 307 list files codes settings off t u h g above in coded t h r.0 (declared 0 u) r.1
 
-  pub coded-imported : IsUnbroken 307 (check_breaks list files codes settings) → (t : ClassTree) (s : ExportTree) (d : ExportClass) → Has t files.classes → Has s files.exports → Has d s.classes → is_above (all_classes files) t (imported 0 d) ≡ true → lacks_code (all_classes files) t (imported 0 d) ≡ false
+  pub coded-imported : IsUnbroken 307 (check_breaks list files codes settings) → (t : ClassTree) (s : ExportTree) (d : ExportClass) → Has t files.classes → Has s files.exports → Has d s.classes → is_inherited (all_classes files) t (imported 0 d) ≡ true → lacks_code (all_classes files) t (imported 0 d) ≡ false
   coded-imported off t s d h g j above = let r = against-imported 307 list files codes settings off t s d h g j above in coded t h r.0 (imported 0 d) r.1

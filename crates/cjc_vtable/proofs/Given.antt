@@ -2,7 +2,8 @@
 use Rattle.std.proofs.Common.{◌≡◌, ℕ, refl, sym, ap, subst, ◌∙◌, Bool, true, false, List, [], ◌∷◌, ◌++◌, inl, inr, ⊎_elim}
 use Rattle.std.specs.Prelude.{◌&&◌, ◌||◌, ◌⊎◌, Some, if◌then◌else◌, slice_get, map, not}
 use Rattle.std.specs.List.{list_any}
-use Rattle.cjc_world.specs.Classes.{Member, Class, is_private, is_static}
+use Rattle.cjc_world.specs.Classes.{Member, Class}
+use Rattle.cjc_bytes.specs.AccessFlags.{is_private, is_static}
 use Rattle.cjc_world.specs.Kin.{Kin, End, Unknown, Known, kin, IsKin, ends, unknown_here, known_here, upwards}
 use Rattle.cjc_world.specs.Lookup.{is_called}
 use Rattle.cjc_world.specs.Added.{is_open, declares_open, is_one_of, has_open, lacking, added, asked_by, takes_added}

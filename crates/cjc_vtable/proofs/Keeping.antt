@@ -3,16 +3,18 @@ use Rattle.std.proofs.Common.{◌≡◌, ℕ, zero, suc, ◌+◌, arith, refl, s
 use Rattle.std.specs.Prelude.{map, length, take, drop, not, ◌==◌, ◌&&◌, ◌||◌, ◌⊎◌, Option, Some, None, is_some, if◌then◌else◌, codes}
 use Rattle.std.specs.List.{list_any}
 use Rattle.std.specs.Str.{bytes_eq}
+use Rattle.std.proofs.lemmas.List.{append-nil}
 use Rattle.cjc_bytes.specs.declared.settings.Settings.{Settings}
 use Rattle.cjc_code.specs.declared.method_code.MethodCode.{MethodCode}
 use Rattle.cjc_world.specs.Files.{Files}
-use Rattle.cjc_world.specs.Classes.{Member, Class, has, declared, imported, method_of_class, method_of_export, all_classes, class_named, is_abstract, is_interface, is_private, is_protected, is_public, is_static}
-use Rattle.cjc_world.specs.Kin.{Kin, Lists, kin, IsKin, IsAcyclic, Above, directly, onwards, stands, upwards, line}
-use Rattle.cjc_world.specs.Interfaces.{gathered, known}
+use Rattle.cjc_world.specs.Classes.{Member, Class, declared, imported, method_of_class, method_of_export, all_classes, class_named}
+use Rattle.cjc_bytes.specs.AccessFlags.{has, is_abstract, is_interface, is_private, is_protected, is_public, is_static}
+use Rattle.cjc_world.specs.Kin.{Kin, End, Known, Lists, kin, IsKin, IsAcyclic, Above, directly, onwards, stands, stands_by_supers, upwards, is_one_named, is_below, line}
+use Rattle.cjc_world.specs.Interfaces.{gathered, has_interface, known}
 use Rattle.cjc_world.specs.Lookup.{first, own_method, is_called, receiver, selected}
 use Rattle.cjc_world.specs.Added.{without_initialiser, with_token, by_token, own_methods, asked_by}
 use Rattle.cjc_world.specs.Rules.{is_of_package, is_part, is_slash_part}
-use Rattle.cjc_world.specs.Subtype.{starts, is_subclass}
+use Rattle.cjc_world.specs.Subtype.{starts}
 use Rattle.cjc_world.proofs.Settled.{bytes-true, lists-front, lists-behind}
 use Rattle.cjc_world.proofs.Cycles.{class_named-name, tree-above, From}
 use Rattle.cjc_subset.specs.Flags.{has_two_accesses, is_unfit_method_kind}
@@ -28,7 +30,7 @@ use Rattle.cjc_vtable.proofs.Asked.{Among, among-split}
 use Rattle.cjc_vtable.proofs.Filed.{Has, at_front, behind, has-get, get-has, of-imports, IsFiled, in_class_file, in_export_file, filed, at-number}
 use Rattle.cjc_vtable.proofs.Ruled.{of-package, lists-interfaces, lists-imported}
 use Rattle.cjc_vtable.proofs.Clean.{fit-method, seen-declared, seen-imported, coded-declared, coded-imported}
-use Rattle.cjc_vtable.proofs.Stood.{in-class, in-interface, upwards-stands, gathered-stands, upwards-named, gathered-named, gathered-interface, line-imported}
+use Rattle.cjc_vtable.proofs.Stood.{in-class, in-interface, upwards-stands, upwards-below, among-named, gathered-stands, upwards-named, gathered-named, gathered-interface, line-imported}
 use Rattle.cjc_vtable.proofs.Read.{has-code, plain-interface}
 use Rattle.cjc_vtable.proofs.Selected.{hit-selected}
 
@@ -246,28 +248,55 @@ module _ (list : List ℕ) (files : Files) (codes : List MethodCode) (settings :
       by true f = absurd (acyclic c.name (subst (λ q. Above (all_classes files) c.name q) (sym (bytes-true c.name d.name f)) above))
       by false f = f
 
-  stands-above : (x : List ℕ) (c d : Class) → class_named (all_classes files) x ≡ Some c → class_named (all_classes files) d.name ≡ Some d
-      → (stands d.name (kin (all_classes files) c.supers) ≡ true) ⊎ (stands d.name (kin (all_classes files) c.interfaces) ≡ true) → (is_subclass (all_classes files) c.name d.name && not (bytes_eq c.name d.name)) ≡ true
-  unfolding is_subclass
-  stands-above x c d e f way =
-      let tree = kin-known (all_classes files) is_kin one_kin c.name c (itself x c e) in
-      let in_tree : is_subclass (all_classes files) c.name d.name ≡ true = ap (stands d.name) tree ∙ either (bytes_eq c.name d.name) (stands d.name (kin (all_classes files) c.supers)) (stands d.name (kin (all_classes files) c.interfaces)) way in
-      by (bytes_eq c.name d.name) (is_subclass (all_classes files) c.name d.name) (other-name x c d e way) in_tree
+  apart : (x : List ℕ) (c d : Class) (b : Bool) → class_named (all_classes files) x ≡ Some c → (stands d.name (kin (all_classes files) c.supers) ≡ true) ⊎ (stands d.name (kin (all_classes files) c.interfaces) ≡ true)
+      → b ≡ true → (b && not (bytes_eq c.name d.name)) ≡ true
+  apart x c d b e way h = by (bytes_eq c.name d.name) b (other-name x c d e way) h
     where
-      either : (a b c : Bool) → (b ≡ true) ⊎ (c ≡ true) → (a || b || c || false) ≡ true
-      either true b c h = refl
-      either false true c h = refl
-      either false false true h = refl
-      either false false false h = ⊎_elim (λ g. cc) (λ g. cc) h
-
       by : (u q : Bool) → u ≡ false → q ≡ true → (q && not u) ≡ true
       by false true g h = refl
       by false false g h = cc
       by true q g h = cc
 
+  either : (a b : Bool) → (a ≡ true) ⊎ (b ≡ true) → (a || b) ≡ true
+  either true b h = refl
+  either false true h = refl
+  either false false h = ⊎_elim (λ g. cc) (λ g. cc) h
+
+  tree-of : (x : List ℕ) (c : Class) → class_named (all_classes files) x ≡ Some c → kin (all_classes files) (c.name ∷ []) ≡ Known c (kin (all_classes files) c.supers) (kin (all_classes files) c.interfaces) End
+  tree-of x c e = kin-known (all_classes files) is_kin one_kin c.name c (itself x c e)
+
+  -- a superclass
+  super-of : (x : List ℕ) (c d : Class) → class_named (all_classes files) x ≡ Some c → Among d (upwards (kin (all_classes files) c.supers)) → ((is_below (all_classes files) c.name d.name || has_interface (all_classes files) c.name d.name) && not (bytes_eq c.name d.name)) ≡ true
+  unfolding is_below
+  super-of x c d e a =
+      let w = all_classes files in
+      let below : is_below w c.name d.name ≡ true =
+      ap (stands_by_supers d.name) (tree-of x c e)
+      ∙ ap (λ v. (bytes_eq c.name d.name || v) || false) (upwards-below (kin w c.supers) d a)
+      ∙ last (bytes_eq c.name d.name) in
+      apart x c d (is_below w c.name d.name || has_interface w c.name d.name) e (inl (upwards-stands (kin w c.supers) d a)) (either (is_below w c.name d.name) (has_interface w c.name d.name) (inl below))
+    where
+      last : (b : Bool) → ((b || true) || false) ≡ true
+      last true = refl
+      last false = refl
+
+  -- a superinterface
+  interface-of : (x : List ℕ) (c d : Class) → class_named (all_classes files) x ≡ Some c → Among d (known (gathered false (kin (all_classes files) c.supers) ++ gathered true (kin (all_classes files) c.interfaces))) → ((is_below (all_classes files) c.name d.name || has_interface (all_classes files) c.name d.name) && not (bytes_eq c.name d.name)) ≡ true
+  unfolding has_interface gathered
+  interface-of x c d e a =
+      let w = all_classes files in
+      let S = gathered false (kin w c.supers) in
+      let I = gathered true (kin w c.interfaces) in
+      let has : has_interface w c.name d.name ≡ true =
+      ap (λ k. is_one_named (known (gathered false k)) d.name) (tree-of x c e)
+      ∙ ap (λ is. is_one_named (known is) d.name) (append-nil (S ++ I ++ []) ∙ append-nil (S ++ I))
+      ∙ among-named d (known (S ++ I)) a in
+      let way = ⊎_elim (λ j. inl (gathered-stands false (kin w c.supers) d j)) (λ j. inr (gathered-stands true (kin w c.interfaces) d j)) (among-split d (known S) (known I) (subst (Among d) (known-append S I) a)) in
+      apart x c d (is_below w c.name d.name || has_interface w c.name d.name) e way (either (is_below w c.name d.name) (has_interface w c.name d.name) (inr has))
+
   -- ---- 305
 
-  out-of-sight : (c d : Class) → IsFiled files c → IsFiled files d → c.is_imported ≡ false → (is_subclass (all_classes files) c.name d.name && not (bytes_eq c.name d.name)) ≡ true
+  out-of-sight : (c d : Class) → IsFiled files c → IsFiled files d → c.is_imported ≡ false → ((is_below (all_classes files) c.name d.name || has_interface (all_classes files) c.name d.name) && not (bytes_eq c.name d.name)) ≡ true
       → (m n : Member) → In m c.methods → In n d.methods → signature_of m ≡ signature_of n → is_special (signature_of m) ≡ false → is_out_of_sight d.is_imported m.flags n.flags ≡ false
   out-of-sight c d (in_export_file k t g) filed_above im above m n i j one plain = cc
   out-of-sight c d (in_class_file k t g) (in_class_file l u h) im above m n i j one plain =
@@ -285,11 +314,11 @@ module _ (list : List ℕ) (files : Files) (codes : List MethodCode) (settings :
       → signature_of m ≡ signature_of n → is_special (signature_of m) ≡ false → is_out_of_sight d.is_imported m.flags n.flags ≡ false
   sight x c d m n e im i a j one plain =
       let named = upwards-named (all_classes files) c.supers (kin (all_classes files) c.supers) d (is_kin c.supers) a in
-      out-of-sight c d (filed files x c e) (filed files d.name d named) im (stands-above x c d e named (inl (upwards-stands (kin (all_classes files) c.supers) d a))) m n i j one plain
+      out-of-sight c d (filed files x c e) (filed files d.name d named) im (super-of x c d e a) m n i j one plain
 
   -- ---- 307
 
-  no-code : (c d : Class) → IsFiled files c → IsFiled files d → c.is_imported ≡ false → is_abstract c.flags ≡ false → (is_subclass (all_classes files) c.name d.name && not (bytes_eq c.name d.name)) ≡ true
+  no-code : (c d : Class) → IsFiled files c → IsFiled files d → c.is_imported ≡ false → is_abstract c.flags ≡ false → ((is_below (all_classes files) c.name d.name || has_interface (all_classes files) c.name d.name) && not (bytes_eq c.name d.name)) ≡ true
       → (m : Member) → In m d.methods → (asks_for_code d m && is_unfit_selection (is_interface d.flags) (hit (all_classes files) false (selected (all_classes files) c.name m.name m.desc))) ≡ false
   no-code c d (in_export_file k t g) filed_above im concrete above m j = cc
   no-code c d (in_class_file k t g) (in_class_file l u h) im concrete above m j =
@@ -310,7 +339,7 @@ module _ (list : List ℕ) (files : Files) (codes : List MethodCode) (settings :
 
   -- an interface of the class
   asked-interface : (x : List ℕ) (c d : Class) → class_named (all_classes files) x ≡ Some c → Among d (known (gathered false (kin (all_classes files) c.supers) ++ gathered true (kin (all_classes files) c.interfaces)))
-      → (class_named (all_classes files) d.name ≡ Some d) × (is_interface d.flags ≡ true) × ((is_subclass (all_classes files) c.name d.name && not (bytes_eq c.name d.name)) ≡ true)
+      → (class_named (all_classes files) d.name ≡ Some d) × (is_interface d.flags ≡ true) × (((is_below (all_classes files) c.name d.name || has_interface (all_classes files) c.name d.name) && not (bytes_eq c.name d.name)) ≡ true)
   asked-interface x c d e a =
       let w = all_classes files in
       let A = gathered false (kin w c.supers) in
@@ -318,9 +347,9 @@ module _ (list : List ℕ) (files : Files) (codes : List MethodCode) (settings :
       let rule = lists-interfaces list files kept.unbroken.world in
       ⊎_elim
       (λ j. let named = gathered-named w false c.supers (kin w c.supers) d (is_kin c.supers) j in
-      (named, gathered-interface w rule false c.supers (kin w c.supers) d (is_kin c.supers) (λ l y g v h. cc) j, stands-above x c d e named (inl (gathered-stands false (kin w c.supers) d j))))
+      (named, gathered-interface w rule false c.supers (kin w c.supers) d (is_kin c.supers) (λ l y g v h. cc) j, interface-of x c d e a))
       (λ j. let named = gathered-named w true c.interfaces (kin w c.interfaces) d (is_kin c.interfaces) j in
-      (named, gathered-interface w rule true c.interfaces (kin w c.interfaces) d (is_kin c.interfaces) (λ l y g v h. rule x y c g e v h) j, stands-above x c d e named (inr (gathered-stands true (kin w c.interfaces) d j))))
+      (named, gathered-interface w rule true c.interfaces (kin w c.interfaces) d (is_kin c.interfaces) (λ l y g v h. rule x y c g e v h) j, interface-of x c d e a))
       (among-split d (known A) (known B) (subst (Among d) (known-append A B) a))
 
   has-method : (x : List ℕ) (c : Class) (m : Member) → class_named (all_classes files) x ≡ Some c → c.is_imported ≡ false → is_abstract c.flags ≡ false → In m (asked_by (kin (all_classes files) c.supers) (kin (all_classes files) c.interfaces))

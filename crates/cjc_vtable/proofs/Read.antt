@@ -9,14 +9,13 @@ use Rattle.cjc_classfile.specs.declared.tree.MethodTree.{MethodTree}
 use Rattle.cjc_classfile.specs.Code.{CodeTree}
 use Rattle.cjc_classfile.specs.Entry.{Entry}
 use Rattle.cjc_classfile.specs.Items.{text_at}
-use Rattle.cjc_classfile.specs.Members.{has}
+use Rattle.cjc_bytes.specs.AccessFlags.{has, is_interface}
 use Rattle.cjc_classfile.specs.Methods.{is_code, code_name_at, method_content, method_attribute, attribute_count, needs_code, method_tree}
 use Rattle.cjc_classfile.specs.ClassFile.{back_part, class_file}
 use Rattle.cjc_export.specs.declared.tree.ExportClass.{ExportClass}
 use Rattle.cjc_export.specs.declared.tree.ExportMethod.{ExportMethod}
 use Rattle.cjc_export.specs.declared.tree.ExportTree.{ExportTree}
 use Rattle.cjc_export.specs.Members.{not_special}
-use Rattle.cjc_export.specs.Words.{is_interface}
 use Rattle.cjc_export.specs.Writable.{EachAfter, MethodStands, ClassFits, IsWritable}
 use Rattle.cjc_world.proofs.Settled.{bytes-true}
 use Rattle.cjc_tokens.specs.Members.{is_constructor}

@@ -3,11 +3,15 @@ use Rattle.std.proofs.Common.{◌≡◌, ℕ, ◌+◌, refl, sym, ap, ◌∙◌,
 use Rattle.std.specs.Prelude.{map, not, ◌&&◌, ◌||◌, Option, Some, None, slice_get, if◌then◌else◌}
 use Rattle.std.specs.List.{list_any}
 use Rattle.std.specs.Str.{bytes_eq}
+use Rattle.cjc_bytes.specs.Breaks.{broken_at, list_spot}
+use Rattle.cjc_bytes.specs.declared.order.FileKey.{FileKey}
+use Rattle.cjc_bytes.specs.declared.order.FileKey.TheVariants as keys
 use Rattle.cjc_bytes.specs.declared.settings.FileLine.{FileLine}
 use Rattle.cjc_classfile.specs.declared.tree.ClassTree.{ClassTree}
 use Rattle.cjc_export.specs.declared.tree.ExportTree.{ExportTree}
 use Rattle.cjc_world.specs.Files.{Files}
-use Rattle.cjc_world.specs.Classes.{Class, declared, numbered, size, of_class_file, of_export_file, classes_from, all_classes, class_named, is_interface}
+use Rattle.cjc_world.specs.Classes.{Class, declared, numbered, size, of_class_file, of_export_file, classes_from, all_classes, class_named}
+use Rattle.cjc_bytes.specs.AccessFlags.{is_interface}
 use Rattle.cjc_world.specs.Kin.{Lists, foremost, after}
 use Rattle.cjc_world.specs.Lookup.{object}
 use Rattle.cjc_world.specs.Rules.{when, at_class, class_rules, members_from, class_breaks, classes_breaks, class_file_breaks, export_file_breaks, breaks_from, breaks, is_of_package, is_second, lists_missing, gets_missing, is_own_super, lists_wrong, is_second_package, has_language, is_interface_of, is_class_of, is_of_class_file}
@@ -19,7 +23,7 @@ IsRuled : List ℕ → List Class → Class → Type 0
 IsRuled package_name w c = class_rules package_name w c ≡ []
 
 module _ (p : List ℕ) (w : List Class) where
-  ruled-class : (file : ℕ) (file_name : List ℕ) (k : ℕ) (c : Class) → class_breaks p file file_name k w c ≡ [] → class_rules p w c ≡ []
+  ruled-class : (file : FileKey) (file_name : List ℕ) (k : ℕ) (c : Class) → class_breaks p file file_name k w c ≡ [] → class_rules p w c ≡ []
   unfolding class_breaks
   ruled-class file fn k c e =
       let at = λ (rule : ℕ). at_class file fn k c.name rule in
@@ -28,7 +32,7 @@ module _ (p : List ℕ) (w : List Class) where
       let M = members_from file fn k w c false 0 c.methods in
       nil_of_map at (class_rules p w c) (nil_front R F (nil_front (R ++ F) M e))
 
-  ruled-classes : (file : ℕ) (file_name : List ℕ) (k : ℕ) (cs : List Class) → classes_breaks p file file_name k w cs ≡ [] → Every (IsRuled p w) cs
+  ruled-classes : (file : FileKey) (file_name : List ℕ) (k : ℕ) (cs : List Class) → classes_breaks p file file_name k w cs ≡ [] → Every (IsRuled p w) cs
   unfolding Every classes_breaks IsRuled
   ruled-classes file fn k [] e = tt
   ruled-classes file fn k (c ∷ cs) e =
@@ -40,12 +44,12 @@ module _ (files : Files) (w : List Class) where
   Ruled : Class → Type 0
   Ruled c = IsRuled files.package_name w c
 
-  ruled-class_file : (file : ℕ) (file_name : List ℕ) (number : ℕ) (o : Option ClassTree) → class_file_breaks files file file_name w number o ≡ [] → Every Ruled (of_class_file number o)
+  ruled-class_file : (file : FileKey) (file_name : List ℕ) (number : ℕ) (o : Option ClassTree) → class_file_breaks files file file_name w number o ≡ [] → Every Ruled (of_class_file number o)
   unfolding Every Ruled IsRuled
   ruled-class_file file fn number None e = tt
   ruled-class_file file fn number (Some c) e = (ruled-class files.package_name w file fn 1 (declared number c) e, tt)
 
-  ruled-export_file : (file : ℕ) (file_name : List ℕ) (export_file number : ℕ) (o : Option ExportTree) → export_file_breaks files file file_name w export_file number o ≡ [] → Every Ruled (of_export_file number o)
+  ruled-export_file : (file : FileKey) (file_name : List ℕ) (export_file number : ℕ) (o : Option ExportTree) → export_file_breaks files file file_name w export_file number o ≡ [] → Every Ruled (of_export_file number o)
   unfolding Every Ruled
   ruled-export_file file fn n number None e = tt
   ruled-export_file file fn n number (Some t) e =
@@ -62,23 +66,23 @@ module _ (files : Files) (w : List Class) where
     where
       by : (b : Bool)
           → (if b
-          then class_file_breaks files (k + 1) line.name w c (slice_get files.classes c) ++ breaks_from files w (k + 1) (c + 1) e i lines
-          else export_file_breaks files (k + 1) line.name w e i (slice_get files.exports e) ++ breaks_from files w (k + 1) c (e + 1) (i + size (slice_get files.exports e)) lines) ≡ []
+          then class_file_breaks files (keys.Line k) line.name w c (slice_get files.classes c) ++ breaks_from files w (k + 1) (c + 1) e i lines
+          else export_file_breaks files (keys.Line k) line.name w e i (slice_get files.exports e) ++ breaks_from files w (k + 1) c (e + 1) (i + size (slice_get files.exports e)) lines) ≡ []
           → (breaks_from files w (k + 1) (c + 1) e i lines ≡ [] → Every Ruled (classes_from files.classes files.exports (c + 1) e i lines))
           → (breaks_from files w (k + 1) c (e + 1) (i + size (slice_get files.exports e)) lines ≡ [] → Every Ruled (classes_from files.classes files.exports c (e + 1) (i + size (slice_get files.exports e)) lines))
           → Every Ruled (if b
           then of_class_file c (slice_get files.classes c) ++ classes_from files.classes files.exports (c + 1) e i lines
           else of_export_file i (slice_get files.exports e) ++ classes_from files.classes files.exports c (e + 1) (i + size (slice_get files.exports e)) lines)
       by true q r s =
-          let here = class_file_breaks files (k + 1) line.name w c (slice_get files.classes c) in
+          let here = class_file_breaks files (keys.Line k) line.name w c (slice_get files.classes c) in
           let rest = breaks_from files w (k + 1) (c + 1) e i lines in
           every-append Ruled (of_class_file c (slice_get files.classes c)) (classes_from files.classes files.exports (c + 1) e i lines)
-          (ruled-class_file (k + 1) line.name c (slice_get files.classes c) (nil_front here rest q)) (r (nil_back here rest q))
+          (ruled-class_file (keys.Line k) line.name c (slice_get files.classes c) (nil_front here rest q)) (r (nil_back here rest q))
       by false q r s =
-          let here = export_file_breaks files (k + 1) line.name w e i (slice_get files.exports e) in
+          let here = export_file_breaks files (keys.Line k) line.name w e i (slice_get files.exports e) in
           let rest = breaks_from files w (k + 1) c (e + 1) (i + size (slice_get files.exports e)) lines in
           every-append Ruled (of_export_file i (slice_get files.exports e)) (classes_from files.classes files.exports c (e + 1) (i + size (slice_get files.exports e)) lines)
-          (ruled-export_file (k + 1) line.name e i (slice_get files.exports e) (nil_front here rest q)) (s (nil_back here rest q))
+          (ruled-export_file (keys.Line k) line.name e i (slice_get files.exports e) (nil_front here rest q)) (s (nil_back here rest q))
 
 -- ---- what each class keeps
 
@@ -117,7 +121,7 @@ module _ (list : List ℕ) (files : Files) (unbroken : breaks list files ≡ [])
   unfolding breaks all_classes
   all-ruled =
       let w = all_classes files in
-      ruled-lines files w 0 0 0 0 files.lines (nil_back (map (λ rule. at_class 0 list 0 [] rule) (when (not (has_language w files.exports)) 207)) (breaks_from files w 0 0 0 0 files.lines) unbroken)
+      ruled-lines files w 0 0 0 0 files.lines (nil_back (map (λ rule. broken_at (list_spot list) rule) (when (not (has_language w files.exports)) 207)) (breaks_from files w 0 0 0 0 files.lines) unbroken)
 
   rules-of : (x : List ℕ) (c : Class) → class_named (all_classes files) x ≡ Some c → Rules files.package_name (all_classes files) c
   unfolding Ruled IsRuled

@@ -4,7 +4,8 @@ use Rattle.std.specs.Prelude.{◌&&◌, ◌||◌, Option, Some, None, if◌then�
 use Rattle.std.proofs.lemmas.Bool.{eqb-true, eqb-false}
 use Rattle.std.proofs.lemmas.Bool.Decides.{nat_tests}
 use Rattle.std.proofs.lemmas.Option.{slice_get-map}
-use Rattle.cjc_world.specs.Classes.{Member, Class, is_private, is_static}
+use Rattle.cjc_world.specs.Classes.{Member, Class}
+use Rattle.cjc_bytes.specs.AccessFlags.{is_private, is_static}
 use Rattle.cjc_world.specs.Lookup.{or_else, first, is_selectable}
 use Rattle.cjc_tokens.specs.Members.{Signature, signature_of, signatures, is_exposed, is_virtual, is_shown, is_hidden, all_methods, In, chosen, first_of, later}
 use Rattle.cjc_tokens.specs.Lines.{Line, Imported, Declared}

@@ -4,7 +4,8 @@ use Rattle.std.specs.Prelude.{Option, Some, None, if◌then◌else◌, slice_get
 use Rattle.std.proofs.lemmas.Option.{slice_get-map, slice_get_past}
 use Rattle.cjc_world.specs.declared.found.Found.{Found}
 use Rattle.cjc_world.specs.Files.{Files}
-use Rattle.cjc_world.specs.Classes.{Member, Class, declared, all_classes, class_named, class_at, is_interface}
+use Rattle.cjc_world.specs.Classes.{Member, Class, declared, all_classes, class_named, class_at}
+use Rattle.cjc_bytes.specs.AccessFlags.{is_interface}
 use Rattle.cjc_world.specs.Kin.{Kin, kin, IsKin, ends, unknown_here, known_here, upwards}
 use Rattle.cjc_world.specs.Lookup.{first, is_called, member_at, or_else}
 use Rattle.cjc_world.specs.Added.{added, added_at, added_to, named_by}

@@ -14,7 +14,8 @@ use Rattle.cjc_classfile.specs.declared.tree.ClassTree.{ClassTree}
 use Rattle.cjc_export.specs.declared.tree.ExportClass.{ExportClass}
 use Rattle.cjc_export.specs.declared.tree.ExportTree.{ExportTree}
 use Rattle.cjc_world.specs.Files.{Files}
-use Rattle.cjc_world.specs.Classes.{Class, declared, numbered, size, of_class_file, of_export_file, classes_from, all_classes, class_named, is_interface}
+use Rattle.cjc_world.specs.Classes.{Class, declared, numbered, size, of_class_file, of_export_file, classes_from, all_classes, class_named}
+use Rattle.cjc_bytes.specs.AccessFlags.{is_interface}
 use Rattle.cjc_world.specs.Order.{is_in, is_of_kind, waits, names_waiting, may_stand, next, and_then, lined_up, in_order}
 use Rattle.cjc_vtable.proofs.Numbers.{class_count-cons}
 use Rattle.cjc_vtable.specs.Standing.{numbered_from, class_count, declared_at, IsBegun, IsClass, own_number, own_numbers, listed_numbers, has_mark, stands_marked, IsMarked}

@@ -2,8 +2,9 @@
 use Rattle.std.proofs.Common.{◌≡◌, ℕ, refl, sym, ap, subst, ◌∙◌, Bool, true, false, List, [], ◌∷◌, ◌++◌, inl, inr, ⊎_elim}
 use Rattle.std.specs.Prelude.{◌||◌, ◌⊎◌, Some, if◌then◌else◌}
 use Rattle.std.specs.Str.{bytes_eq}
-use Rattle.cjc_world.specs.Classes.{Member, Class, class_named, is_interface}
-use Rattle.cjc_world.specs.Kin.{Kin, End, Unknown, Known, IsKin, ends, unknown_here, known_here, Lists, foremost, after, stands, upwards}
+use Rattle.cjc_world.specs.Classes.{Member, Class, class_named}
+use Rattle.cjc_bytes.specs.AccessFlags.{is_interface}
+use Rattle.cjc_world.specs.Kin.{Kin, End, Unknown, Known, IsKin, ends, unknown_here, known_here, Lists, foremost, after, stands, stands_by_supers, upwards, is_one_named}
 use Rattle.cjc_world.specs.Interfaces.{where_listed, gathered, known}
 use Rattle.cjc_world.specs.Added.{added, own_methods, methods_of}
 use Rattle.cjc_tokens.specs.Members.{all_methods, In}
@@ -59,6 +60,10 @@ or4 false true c d e = refl
 or4 false false true d e = refl
 or4 false false false d e = e
 
+orl : (a b : Bool) → a ≡ true → (a || b) ≡ true
+orl true b e = refl
+orl false b e = cc
+
 orr : (a b : Bool) → b ≡ true → (a || b) ≡ true
 orr true b e = refl
 orr false b e = e
@@ -71,6 +76,20 @@ upwards-stands (Known c p q r) d (further i) = ⊎_elim
     (λ j. or2 (bytes_eq c.name d.name) (stands d.name p) (stands d.name q) (stands d.name r) (upwards-stands p d j))
     (λ j. or4 (bytes_eq c.name d.name) (stands d.name p) (stands d.name q) (stands d.name r) (upwards-stands r d j))
     (among-split d (upwards p) (upwards r) i)
+
+pub upwards-below : (k : Kin) (d : Class) → Among d (upwards k) → stands_by_supers d.name k ≡ true
+upwards-below End d i = elim i [ ]
+upwards-below (Unknown x r) d i = orr (bytes_eq x d.name) (stands_by_supers d.name r) (upwards-below r d i)
+upwards-below (Known c p q r) d at_head = orl (bytes_eq c.name c.name || stands_by_supers c.name p) (stands_by_supers c.name r) (orl (bytes_eq c.name c.name) (stands_by_supers c.name p) (bytes-refl c.name))
+upwards-below (Known c p q r) d (further i) = ⊎_elim
+    (λ j. orl (bytes_eq c.name d.name || stands_by_supers d.name p) (stands_by_supers d.name r) (orr (bytes_eq c.name d.name) (stands_by_supers d.name p) (upwards-below p d j)))
+    (λ j. orr (bytes_eq c.name d.name || stands_by_supers d.name p) (stands_by_supers d.name r) (upwards-below r d j))
+    (among-split d (upwards p) (upwards r) i)
+
+pub among-named : (d : Class) (cs : List Class) → Among d cs → is_one_named cs d.name ≡ true
+among-named d [] i = elim i [ ]
+among-named d (c ∷ cs) at_head = orl (bytes_eq d.name d.name) (is_one_named cs d.name) (bytes-refl d.name)
+among-named d (c ∷ cs) (further i) = orr (bytes_eq c.name d.name) (is_one_named cs d.name) (among-named d cs i)
 
 -- the interfaces of a class and of what is listed behind it
 parts : (listed : Bool) (c : Class) (p q r : Kin) (d : Class) → Among d (known (gathered listed (Known c p q r)))

@@ -1,7 +1,8 @@
 -- From the rules of a world to its lines.
 use Rattle.std.proofs.Common.{◌≡◌, ℕ, refl, sym, ap, subst, ◌∙◌, Bool, true, false, List, [], ◌∷◌, ◌++◌, append-nil, ⊎_elim}
 use Rattle.std.specs.Prelude.{Option, Some, None, if◌then◌else◌}
-use Rattle.cjc_world.specs.Classes.{Member, Class, class_named, is_public, is_interface}
+use Rattle.cjc_world.specs.Classes.{Member, Class, class_named}
+use Rattle.cjc_bytes.specs.AccessFlags.{is_public, is_interface}
 use Rattle.cjc_world.specs.Interfaces.{where_listed, gathered, known}
 use Rattle.cjc_world.specs.Kin.{Kin, End, Unknown, Known, kin, IsKin, ends, unknown_here, known_here, Lists, foremost, after, upwards, line}
 use Rattle.cjc_world.specs.Lookup.{first, own_method, or_else}

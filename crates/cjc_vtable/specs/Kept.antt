@@ -10,7 +10,8 @@ use Rattle.cjc_export.specs.Writable.{IsWritable}
 use Rattle.cjc_world.specs.Classes.{Class, all_classes, class_named}
 use Rattle.cjc_world.specs.Files.{Files}
 use Rattle.cjc_world.specs.Kin.{kin, upwards}
-use Rattle.cjc_world.specs.Rules.{Break, Among, breaks}
+use Rattle.cjc_world.specs.Rules.{breaks}
+use Rattle.cjc_bytes.specs.Breaks.{Break, Among}
 use Rattle.cjc_world.specs.Subtype.{starts}
 use Rattle.cjc_subset.specs.Checks.{check_breaks}
 use Rattle.cjc_tokens.specs.Members.{all_methods}

@@ -4,7 +4,8 @@ use Rattle.std.specs.List.{list_any}
 use Rattle.cjc_bytes.specs.declared.settings.FileLine.{FileLine}
 use Rattle.cjc_classfile.specs.declared.tree.ClassTree.{ClassTree}
 use Rattle.cjc_world.specs.Files.{Files}
-use Rattle.cjc_world.specs.Classes.{Class, declared, class_named, is_interface}
+use Rattle.cjc_world.specs.Classes.{Class, declared, class_named}
+use Rattle.cjc_bytes.specs.AccessFlags.{is_interface}
 use Rattle.cjc_world.specs.Order.{is_in, next, lined_up}
 
 -- the classes of class files, numbered from here on

@@ -1,7 +1,8 @@
 //! The interface maps of a class (Java Card Virtual Machine Specification 2.2.2, section 6.8).
 
 ghost use Rattle.std.specs.Prelude.{◌≡◌, ◌++◌, Bool, false, map, option_map, option_to_list, slice_get, IfOk, OnOk, Some};
-ghost use Rattle.cjc_world.specs.Classes.{all_classes, is_interface};
+ghost use Rattle.cjc_world.specs.Classes.{all_classes};
+ghost use Rattle.cjc_bytes.specs.AccessFlags.{is_interface};
 ghost use Rattle.cjc_world.specs.Interfaces.{known};
 ghost use Rattle.cjc_world.specs.Working.Known.{class_of};
 ghost use Rattle.cjc_world.specs.Working.Places.{at_places};

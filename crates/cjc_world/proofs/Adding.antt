@@ -11,19 +11,19 @@ use Rattle.cjc_world.specs.declared.tables.Order.TheVariants as orders
 use Rattle.cjc_classfile.specs.declared.tree.ClassTree.{ClassTree}
 use Rattle.cjc_world.specs.Files.{Files}
 use Rattle.cjc_world.specs.Classes.{Member, Class, class_named, declared, all_classes}
-use Rattle.cjc_world.specs.Kin.{Kin, IsKin, ends, unknown_here, known_here, kin, upwards}
+use Rattle.cjc_world.specs.Kin.{Kin, End, Known, IsKin, ends, unknown_here, known_here, IsAcyclic, kin, upwards}
 use Rattle.cjc_world.specs.Interfaces.{where_listed, gathered, known}
 use Rattle.cjc_world.specs.Lookup.{is_called}
 use Rattle.cjc_world.specs.Working.Places.{place_named, places_of, is_in, joined}
-use Rattle.cjc_world.specs.Working.Tables.{in_field_order, told, IsTable, row_at, pieces, above_at, is_row, is_ready_at, is_ready, AreRight}
+use Rattle.cjc_world.specs.Working.Tables.{in_field_order, told, IsTable, row_at, pieces, above_at, is_row, is_ready_at, is_ready, are_ready, IsPart, IsClear}
 use Rattle.cjc_world.specs.Added.{takes_added, declares_open, own_methods, methods_of, asked_by, is_one_of, has_open, lacking, added, named_by, added_to, added_at}
 use Rattle.cjc_world.specs.Working.Asked.{is_asked_of, is_asked_at, is_open_of, is_open_at, is_had, has_id, got_one, got, methods_of_option, got_all}
-use Rattle.cjc_world.proofs.Settled.{bytes-refl, kin-IsKin, IsKin-one, kin-known}
+use Rattle.cjc_world.proofs.Settled.{bytes-refl, lists-front, lists-behind, clear-up, clear-IsKin, kin-IsKin, IsKin-one}
 use Rattle.cjc_world.proofs.Cycles.{class_named-name}
 use Rattle.cjc_world.proofs.Rising.{known-append}
 use Rattle.cjc_world.proofs.Joined.{same-true, joined-append, any-joined}
 use Rattle.cjc_world.proofs.ByPlace.{AreNamed, named-append, class-place, places-append}
-use Rattle.cjc_world.proofs.Trees.{Alike, grove}
+use Rattle.cjc_world.proofs.Trees.{Alike, grove, all-front, all-back, tree-clear, listed-clear, tree-is-kin}
 use Rattle.cjc_world.proofs.Filling.{all-listed, same_or}
 use Rattle.cjc_world.proofs.Mapped.{any_of_map}
 
@@ -74,6 +74,33 @@ module _ (w : List Class) where
       ∙ ap (λ b. b || list_any f (places_of w cs)) (same d p.0 a.0 p.1 p.2)
       ∙ ap (λ b. g d || b) (any-places f g cs a.1 same)
 
+  -- ---- classes of a tree have no cycle above them
+
+  unfoldable pub AreClear : List Class → Type 0
+  AreClear [] = Unit {0}
+  AreClear (c ∷ cs) = (class_named w c.name ≡ Some c) × IsClear w c.name × AreClear cs
+
+  clear-append : (cs ds : List Class) → AreClear cs → AreClear ds → AreClear (cs ++ ds)
+  unfolding AreClear
+  clear-append [] ds a b = b
+  clear-append (c ∷ cs) ds a b = (a.0, a.1, clear-append cs ds a.2 b)
+
+  pub clear-upwards : (xs : List (List ℕ)) (k : Kin) → IsKin w xs k → AreClear (upwards k)
+  unfolding AreClear
+  clear-upwards xs k ends = tt
+  clear-upwards xs k (unknown_here {xs = rest} {next = next} e n) = clear-upwards rest next n
+  clear-upwards xs k (known_here {x = x} {xs = rest} {c = c} {supers = s} {interfaces = i} {next = next} e sk ik n) =
+      (itself x c e, tree-clear w c.name (Known c s i End) (known_here (itself x c e) sk ik ends), clear-append (upwards s) (upwards next) (clear-upwards c.supers s sk) (clear-upwards rest next n))
+
+  any-clear : (f : ℕ → Bool) (g : Class → Bool) (cs : List Class) → AreClear cs → ((d : Class) (q : ℕ) → class_named w d.name ≡ Some d → IsClear w d.name → place_named w d.name ≡ Some q → slice_get w q ≡ Some d → f q ≡ g d) → list_any f (places_of w cs) ≡ list_any g cs
+  unfolding AreClear places_of
+  any-clear f g [] a same = refl
+  any-clear f g (d ∷ cs) a same =
+      let p = class-place w d.name d a.0 in
+      ap (λ o. list_any f (option_to_list o ++ places_of w cs)) p.1
+      ∙ ap (λ b. b || list_any f (places_of w cs)) (same d p.0 a.0 a.1 p.1 p.2)
+      ∙ ap (λ b. g d || b) (any-clear f g cs a.2 same)
+
   -- ---- whether interfaces have a method
 
   methods-any : (name desc : List ℕ) (cs : List Class) → list_any (λ d. is_one_of (own_methods d) name desc) cs ≡ is_one_of (methods_of cs) name desc
@@ -87,39 +114,58 @@ module _ (w : List Class) where
       ∙ any-places (λ q. is_asked_at w name desc q) (λ d. is_one_of (own_methods d) name desc) cs a (λ d q e f g. ap (is_asked_of name desc) g)
       ∙ methods-any name desc cs
 
-module _ (w : List Class) (rows : List (Option Above)) (table : IsTable w rows) where
-  right : AreRight w rows
-  right = λ x p a e f. (kin w (x ∷ []), kin-IsKin w table.acyclic (x ∷ []), let t = table.tells x p e in cc)
+-- ---- a table of all classes
 
-  ready : (x : List ℕ) → is_ready w rows x ≡ true
-  ready x = by (place_named w x) refl
+pub part-of : (w : List Class) (rows : List (Option Above)) → IsTable w rows → IsPart w rows
+part-of w rows table = record {
+  right = λ x p a e f. (kin w (x ∷ []), kin-IsKin w table.acyclic (x ∷ []), let t = table.tells x p e in cc);
+  there = λ x p e clear. ap is_row (table.tells x p e);
+}
+
+pub table-ready : (w : List Class) (rows : List (Option Above)) → IsTable w rows → (xs : List (List ℕ)) → list_all (λ x. is_ready w rows x) xs ≡ true
+table-ready w rows table xs = all-listed w rows xs (λ y i. ready y)
+  where
+    ready : (x : List ℕ) → is_ready w rows x ≡ true
+    ready x = by (place_named w x) refl
+      where
+        by : (o : Option ℕ) → place_named w x ≡ o → is_ready_at rows o ≡ true
+        by None e = refl
+        by (Some p) e = ap is_row (table.tells x p e)
+
+-- ---- by the rows that are there
+
+module _ (w : List Class) (rows : List (Option Above)) (part : IsPart w rows) where
+  -- what is kept of a class with a tree
+  tells : (x : List ℕ) (p : ℕ) (k : Kin) → place_named w x ≡ Some p → IsKin w (x ∷ []) k → slice_get rows p ≡ Some (Some (told w k))
+  tells x p k e is = by (slice_get rows p) refl (part.there x p e (tree-clear w x k is))
     where
-      by : (o : Option ℕ) → place_named w x ≡ o → is_ready_at rows o ≡ true
-      by None e = refl
-      by (Some p) e = ap is_row (table.tells x p e)
+      by : (o : Option (Option Above)) → slice_get rows p ≡ o → is_row o ≡ true → o ≡ Some (Some (told w k))
+      by None f ready = cc
+      by (Some None) f ready = cc
+      by (Some (Some a)) f ready = let t = part.right x p a e f in ap (λ v. Some (Some v)) (t.2 ∙ ap (told w) (IsKin-one w (x ∷ []) t.0 k t.1 is))
 
-  all-ready : (xs : List (List ℕ)) → list_all (λ x. is_ready w rows x) xs ≡ true
-  all-ready xs = all-listed w rows xs (λ y i. ready y)
+  pub table-of : IsAcyclic w → IsTable w rows
+  table-of acyclic = record { acyclic = acyclic; tells = λ x p e. tells x p (kin w (x ∷ [])) e (kin-IsKin w acyclic (x ∷ [])) }
 
-  is-tree : (xs : List (List ℕ)) (k : Kin) → IsKin w xs k → k ≡ kin w xs
-  is-tree xs k h = IsKin-one w xs k (kin w xs) h (kin-IsKin w table.acyclic xs)
+  ready-kin : (xs : List (List ℕ)) → list_all (λ x. is_ready w rows x) xs ≡ true → IsKin w xs (kin w xs)
+  ready-kin xs e = let g = grove w rows part.right xs e in clear-IsKin w xs (listed-clear w xs g.tree g.is_kin)
 
-  pub line-above : (c : Class) → joined [] (pieces w orders.Line false rows c.supers) ≡ joined [] (places_of w (upwards (kin w c.supers)))
+  pub line-above : (c : Class) → list_all (λ x. is_ready w rows x) c.supers ≡ true → joined [] (pieces w orders.Line false rows c.supers) ≡ joined [] (places_of w (upwards (kin w c.supers)))
   unfolding Alike
-  line-above c = let g = grove w rows right c.supers (all-ready c.supers) in g.lines [] ∙ ap (λ k. joined [] (places_of w (upwards k))) (is-tree c.supers g.tree g.is_kin)
+  line-above c ready = let g = grove w rows part.right c.supers ready in g.lines [] ∙ ap (λ k. joined [] (places_of w (upwards k))) (tree-is-kin w c.supers g.tree g.is_kin)
 
-  pub interfaces-of : (c : Class) → (above_at w rows 0 c).interfaces ≡ joined [] (places_of w (known (gathered false (kin w c.supers) ++ gathered true (kin w c.interfaces))))
+  pub interfaces-of : (c : Class) → list_all (λ x. is_ready w rows x) c.supers ≡ true → list_all (λ x. is_ready w rows x) c.interfaces ≡ true → (above_at w rows 0 c).interfaces ≡ joined [] (places_of w (known (gathered false (kin w c.supers) ++ gathered true (kin w c.interfaces))))
   unfolding Alike above_at
-  interfaces-of c =
-      let s = grove w rows right c.supers (all-ready c.supers) in
-      let i = grove w rows right c.interfaces (all-ready c.interfaces) in
+  interfaces-of c ready listed =
+      let s = grove w rows part.right c.supers ready in
+      let i = grove w rows part.right c.interfaces listed in
       ap (λ v. joined v (pieces w orders.Interfaces true rows c.interfaces)) (s.interfaces false [])
       ∙ i.interfaces true (joined [] (places_of w (known (gathered false s.tree))))
       ∙ sym (joined-append [] (places_of w (known (gathered false s.tree))) (places_of w (known (gathered true i.tree))))
       ∙ ap (joined []) (sym (places-append w (known (gathered false s.tree)) (known (gathered true i.tree))))
       ∙ ap (λ cs. joined [] (places_of w cs)) (sym (known-append (gathered false s.tree) (gathered true i.tree)))
-      ∙ ap (λ k. joined [] (places_of w (known (gathered false k ++ gathered true i.tree)))) (is-tree c.supers s.tree s.is_kin)
-      ∙ ap (λ k. joined [] (places_of w (known (gathered false (kin w c.supers) ++ gathered true k)))) (is-tree c.interfaces i.tree i.is_kin)
+      ∙ ap (λ k. joined [] (places_of w (known (gathered false k ++ gathered true i.tree)))) (tree-is-kin w c.supers s.tree s.is_kin)
+      ∙ ap (λ k. joined [] (places_of w (known (gathered false (kin w c.supers) ++ gathered true k)))) (tree-is-kin w c.interfaces i.tree i.is_kin)
 
   -- ---- whether superclasses have a method
 
@@ -127,16 +173,17 @@ module _ (w : List Class) (rows : List (Option Above)) (table : IsTable w rows) 
     gives : Class → Bool
     gives d = declares_open name desc d || (takes_added d && is_one_of (asked_by (kin w d.supers) (kin w d.interfaces)) name desc)
 
-    opens : (d : Class) (q : ℕ) → class_named w d.name ≡ Some d → place_named w d.name ≡ Some q → slice_get w q ≡ Some d → is_open_at w rows name desc q ≡ gives d
+    opens : (d : Class) (q : ℕ) → class_named w d.name ≡ Some d → IsClear w d.name → place_named w d.name ≡ Some q → slice_get w q ≡ Some d → is_open_at w rows name desc q ≡ gives d
     unfolding gives told gathered asked_by
-    opens d q named place e =
+    opens d q named clear place e =
+        let ds = clear-IsKin w d.supers (λ y i. clear-up w d.name y d named (lists-front y d.supers d.interfaces i) clear) in
+        let di = clear-IsKin w d.interfaces (λ y i. clear-up w d.name y d named (lists-behind y d.supers d.interfaces i) clear) in
         let S = gathered false (kin w d.supers) in
         let I = gathered true (kin w d.interfaces) in
         ap (λ o. is_open_of w rows name desc q o) e
-        ∙ ap (λ o. declares_open name desc d || (takes_added d && list_any (λ q. is_asked_at w name desc q) (row_at orders.Interfaces o))) (table.tells d.name q place)
-        ∙ ap (λ k. declares_open name desc d || (takes_added d && list_any (λ q. is_asked_at w name desc q) (joined [] (places_of w (known (gathered false k)))))) (kin-known w table.acyclic d.name d named)
+        ∙ ap (λ o. declares_open name desc d || (takes_added d && list_any (λ q. is_asked_at w name desc q) (row_at orders.Interfaces o))) (tells d.name q (Known d (kin w d.supers) (kin w d.interfaces) End) place (known_here named ds di ends))
         ∙ ap (λ is. declares_open name desc d || (takes_added d && list_any (λ q. is_asked_at w name desc q) (joined [] (places_of w (known is))))) (append-nil (S ++ I ++ []) ∙ append-nil (S ++ I))
-        ∙ ap (λ b. declares_open name desc d || (takes_added d && b)) (asked-row w name desc (known (S ++ I)) (named-both w (kin w d.supers) (kin w d.interfaces) d.supers d.interfaces (kin-IsKin w table.acyclic d.supers) (kin-IsKin w table.acyclic d.interfaces)))
+        ∙ ap (λ b. declares_open name desc d || (takes_added d && b)) (asked-row w name desc (known (S ++ I)) (named-both w (kin w d.supers) (kin w d.interfaces) d.supers d.interfaces ds di))
       where
         named-both : (w : List Class) (s i : Kin) (xs ys : List (List ℕ)) → IsKin w xs s → IsKin w ys i → AreNamed w (known (gathered false s ++ gathered true i))
         named-both w s i xs ys a b = subst (AreNamed w) (sym (known-append (gathered false s) (gathered true i))) (named-append w (known (gathered false s)) (known (gathered true i)) (named-known w false xs s a) (named-known w true ys i b))
@@ -147,8 +194,8 @@ module _ (w : List Class) (rows : List (Option Above)) (table : IsTable w rows) 
     opens-upwards xs k (unknown_here {xs = rest} {next = next} e n) = opens-upwards rest next n
     opens-upwards xs k (known_here {xs = rest} {c = c} {supers = s} {interfaces = i} {next = next} e sk ik n) =
         ap (λ b. (declares_open name desc c || (takes_added c && is_one_of (asked_by (kin w c.supers) (kin w c.interfaces)) name desc)) || b) (list_any-append gives (upwards s) (upwards next))
-        ∙ ap (λ v. (declares_open name desc c || (takes_added c && is_one_of (asked_by v (kin w c.interfaces)) name desc)) || (list_any gives (upwards s) || list_any gives (upwards next))) (sym (is-tree c.supers s sk))
-        ∙ ap (λ v. (declares_open name desc c || (takes_added c && is_one_of (asked_by s v) name desc)) || (list_any gives (upwards s) || list_any gives (upwards next))) (sym (is-tree c.interfaces i ik))
+        ∙ ap (λ v. (declares_open name desc c || (takes_added c && is_one_of (asked_by v (kin w c.interfaces)) name desc)) || (list_any gives (upwards s) || list_any gives (upwards next))) (sym (tree-is-kin w c.supers s sk))
+        ∙ ap (λ v. (declares_open name desc c || (takes_added c && is_one_of (asked_by s v) name desc)) || (list_any gives (upwards s) || list_any gives (upwards next))) (sym (tree-is-kin w c.interfaces i ik))
         ∙ ap (λ b. (declares_open name desc c || (takes_added c && is_one_of (asked_by s i) name desc)) || (b || list_any gives (upwards next))) (opens-upwards c.supers s sk)
         ∙ ap (λ b. (declares_open name desc c || (takes_added c && is_one_of (asked_by s i) name desc)) || (has_open name desc s || b)) (opens-upwards rest next n)
         ∙ regroup (declares_open name desc c) (takes_added c && is_one_of (asked_by s i) name desc) (has_open name desc s) (has_open name desc next)
@@ -160,14 +207,14 @@ module _ (w : List Class) (rows : List (Option Above)) (table : IsTable w rows) 
         regroup false false true b = refl
         regroup false false false b = refl
 
-  had : (c : Class) (name desc : List ℕ) → is_had w rows c (joined [] (pieces w orders.Line false rows c.supers)) name desc ≡ (declares_open name desc c || has_open name desc (kin w c.supers))
+  had : (c : Class) → list_all (λ x. is_ready w rows x) c.supers ≡ true → (name desc : List ℕ) → is_had w rows c (joined [] (pieces w orders.Line false rows c.supers)) name desc ≡ (declares_open name desc c || has_open name desc (kin w c.supers))
   unfolding is_had
-  had c name desc =
-      let k = kin-IsKin w table.acyclic c.supers in
+  had c ready name desc =
+      let k = ready-kin c.supers ready in
       ap (λ b. declares_open name desc c || b)
-      (ap (list_any (λ p. is_open_at w rows name desc p)) (line-above c)
+      (ap (list_any (λ p. is_open_at w rows name desc p)) (line-above c ready)
       ∙ any-joined (λ p. is_open_at w rows name desc p) [] (places_of w (upwards (kin w c.supers)))
-      ∙ any-places w (λ p. is_open_at w rows name desc p) (gives name desc) (upwards (kin w c.supers)) (named-upwards w c.supers (kin w c.supers) k) (opens name desc)
+      ∙ any-clear w (λ p. is_open_at w rows name desc p) (gives name desc) (upwards (kin w c.supers)) (clear-upwards w c.supers (kin w c.supers) k) (opens name desc)
       ∙ opens-upwards name desc c.supers (kin w c.supers) k)
 
 -- ---- getting
@@ -315,7 +362,7 @@ module _ (there : List ℕ → List ℕ → Bool) (class : List ℕ) where
       by true h k = h
       by false h k = ap (λ v. got there class v ms) (sym (map-append given (m ∷ []))) ∙ k ∙ ap (map (named_by class)) (append_assoc given (m ∷ []) (lacking is_there (given ++ m ∷ []) ms))
 
-module _ (w : List Class) (rows : List (Option Above)) (table : IsTable w rows) (c : Class) where
+module _ (w : List Class) (rows : List (Option Above)) (part : IsPart w rows) (c : Class) where
   there : List ℕ → List ℕ → Bool
   there name desc = is_had w rows c (joined [] (pieces w orders.Line false rows c.supers)) name desc
 
@@ -323,19 +370,21 @@ module _ (w : List Class) (rows : List (Option Above)) (table : IsTable w rows) 
   unfolding got_all
   all-none class t = refl
 
-  pub gets-added : takes_added c ≡ true → got_all w (λ n d. is_had w rows c (joined [] (pieces w orders.Line false rows c.supers)) n d) c.name [] (above_at w rows 0 c).interfaces ≡ map (named_by c.name) (added w c)
-  unfolding added asked_by there
-  gets-added takes =
+  pub gets-added : are_ready w rows c ≡ true → takes_added c ≡ true → got_all w (λ n d. is_had w rows c (joined [] (pieces w orders.Line false rows c.supers)) n d) c.name [] (above_at w rows 0 c).interfaces ≡ map (named_by c.name) (added w c)
+  unfolding added asked_by there are_ready
+  gets-added ready takes =
+      let rs = all-front (list_all (λ x. is_ready w rows x) c.supers) (list_all (λ x. is_ready w rows x) c.interfaces) ready in
+      let ri = all-back (list_all (λ x. is_ready w rows x) c.supers) (list_all (λ x. is_ready w rows x) c.interfaces) ready in
       let G = gathered false (kin w c.supers) ++ gathered true (kin w c.interfaces) in
       let is_there = λ (m : Member). declares_open m.name m.desc c || has_open m.name m.desc (kin w c.supers) in
-      let a = named-known w false c.supers (kin w c.supers) (kin-IsKin w table.acyclic c.supers) in
-      let b = named-known w true c.interfaces (kin w c.interfaces) (kin-IsKin w table.acyclic c.interfaces) in
+      let a = named-known w false c.supers (kin w c.supers) (ready-kin w rows part c.supers rs) in
+      let b = named-known w true c.interfaces (kin w c.interfaces) (ready-kin w rows part c.interfaces ri) in
       let named = subst (AreNamed w) (sym (known-append (gathered false (kin w c.supers)) (gathered true (kin w c.interfaces)))) (named-append w (known (gathered false (kin w c.supers))) (known (gathered true (kin w c.interfaces))) a b) in
-      ap (got_all w there c.name []) (interfaces-of w rows table c)
+      ap (got_all w there c.name []) (interfaces-of w rows part c rs ri)
       ∙ all-joined there c.name w [] [] (places_of w (known G))
       ∙ ap (λ ids. got_all w there c.name ids (places_of w (known G))) (all-none c.name there)
       ∙ all-named there c.name w [] (known G) named
-      ∙ got-lacking there c.name is_there (λ m. had w rows table c m.name m.desc) [] (methods_of (known G))
+      ∙ got-lacking there c.name is_there (λ m. had w rows part c rs m.name m.desc) [] (methods_of (known G))
       ∙ ap (λ b. map (named_by c.name) (if b then lacking is_there [] (methods_of (known G)) else [])) (sym takes)
 
   pub gets-none : takes_added c ≡ false → [] ≡ map (named_by c.name) (added w c)
@@ -359,8 +408,9 @@ push-new [] y (suc i) l = absurd (omega arith)
 push-new (x ∷ xs) y zero l = absurd (omega arith)
 push-new (x ∷ xs) y (suc i) l = push-new xs y i (omega arith)
 
-pub added-made : (files : Files) (rows : List (List MemberId)) (row : List MemberId) (n : ℕ) → length rows ≡ n → ((i : ℕ) → i < n → slice_get rows i ≡ Some (added_at files i)) → row ≡ added_at files n → (i : ℕ) → i < n + 1 → slice_get (rows ++ row ∷ []) i ≡ Some (added_at files i)
-added-made files rows row n count made here i l = ⊎_elim
-    (λ (is : i ≡ n). push-new rows row i (is ∙ sym count) ∙ ap Some (here ∙ ap (added_at files) (sym is)))
-    (λ (other : i ≡ n → ⊥). push-old rows row i (omega arith) ∙ made i (omega arith))
+pub added-made : (files : Files) (rows : List (List MemberId)) (row : List MemberId) (n : ℕ) (holds : ℕ → Bool) → length rows ≡ n
+    → ((i : ℕ) → i < n → holds i ≡ true → slice_get rows i ≡ Some (added_at files i)) → (holds n ≡ true → row ≡ added_at files n) → (i : ℕ) → i < n + 1 → holds i ≡ true → slice_get (rows ++ row ∷ []) i ≡ Some (added_at files i)
+added-made files rows row n holds count made here i l h = ⊎_elim
+    (λ (is : i ≡ n). push-new rows row i (is ∙ sym count) ∙ ap Some (here (ap holds (sym is) ∙ h) ∙ ap (added_at files) (sym is)))
+    (λ (other : i ≡ n → ⊥). push-old rows row i (omega arith) ∙ made i (omega arith) h)
     (same_or i n)

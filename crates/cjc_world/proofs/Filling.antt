@@ -5,10 +5,10 @@ use Rattle.std.specs.List.{list_all}
 use Rattle.std.proofs.Math.ListN.{set}
 use Rattle.cjc_world.specs.declared.tables.Above.{Above}
 use Rattle.cjc_world.specs.Classes.{Class}
-use Rattle.cjc_world.specs.Kin.{kin, Lists, foremost, after, IsAcyclic}
+use Rattle.cjc_world.specs.Kin.{Lists, foremost, after, IsAcyclic}
 use Rattle.cjc_world.specs.Working.Places.{place_named}
-use Rattle.cjc_world.specs.Working.Tables.{told, IsTable, above_at, is_row, is_ready_at, is_ready, are_ready, AreRight, Closer}
-use Rattle.cjc_world.proofs.Settled.{Settles, nothing, something, every_settles, lists-front, lists-behind, kin-IsKin, IsKin-one}
+use Rattle.cjc_world.specs.Working.Tables.{above_at, is_row, is_ready_at, is_ready, are_ready, AreRight, IsPart, Closer}
+use Rattle.cjc_world.proofs.Settled.{Settles, nothing, something, clear_settles, clear-up, lists-front, lists-behind}
 use Rattle.cjc_world.proofs.Cycles.{above-class}
 use Rattle.cjc_world.proofs.ByPlace.{place-class, class-place}
 use Rattle.cjc_world.proofs.Trees.{above-tells, not-own-super}
@@ -185,16 +185,6 @@ module _ (w : List Class) where
   row-there (Some a ∷ rows) zero l e = (a, refl)
   row-there (Some a ∷ rows) (suc p) l e = row-there rows p (omega arith) e
 
-  rows-all : (rows : List (Option Above)) → ((p : ℕ) → p < length rows → is_row (slice_get rows p) ≡ true) → list_all is_some rows ≡ true
-  rows-all [] f = refl
-  rows-all (None ∷ rows) f = let h = f 0 (omega arith) in cc
-  rows-all (Some a ∷ rows) f = rows-all rows (λ p l. f (suc p) (omega arith))
-
-  got : (xs : List Class) (i : ℕ) → i < length xs → (c : Class) × (slice_get xs i ≡ Some c)
-  got [] i l = absurd (omega arith)
-  got (x ∷ xs) zero l = (x, refl)
-  got (x ∷ xs) (suc i) l = got xs i (omega arith)
-
   place-within : (x : List ℕ) (p : ℕ) → place_named w x ≡ Some p → p < length w
   place-within x p e = let d = place-class w x p e in within w p d.0 d.1
     where
@@ -203,25 +193,24 @@ module _ (w : List Class) where
       within (y ∷ xs) zero c e = omega arith
       within (y ∷ xs) (suc i) c e = let h = within xs i c e in omega arith
 
-  pub filled : (rows : List (Option Above)) → AreRight w rows → length rows ≡ length w → list_all is_some rows ≡ true → IsTable w rows
-  filled rows right count all =
-      let acyclic : IsAcyclic w = λ x far.
+  pub filled : (rows : List (Option Above)) → AreRight w rows → length rows ≡ length w → list_all is_some rows ≡ true → IsPart w rows
+  filled rows right count all = record {
+    right = right;
+    there = λ x p e clear. let a = row-there rows p (let l = place-within x p e in omega arith) all in ap is_row a.1;
+  }
+
+  pub reached-part : (rows : List (Option Above)) (n : ℕ) → AreRight w rows → Reached n rows → suc (suc (length w)) ≤ n → IsPart w rows
+  unfolding Reached
+  reached-part rows n right far l = record {
+    right = right;
+    there = λ x p e clear. let d = place-class w x p e in far (suc (length w)) (omega arith) p d.0 d.1 (λ y i. clear_settles w y (clear-up w x y d.0 d.2 i clear));
+  }
+
+  -- where all rows are there, there is no cycle
+  pub all-acyclic : (rows : List (Option Above)) → AreRight w rows → length rows ≡ length w → list_all is_some rows ≡ true → IsAcyclic w
+  all-acyclic rows right count all = λ x far.
       let c = above-class w x x far in
       let p = class-place w x c.0 c.1 in
       let a = row-there rows p.0 (let l = place-within x p.0 p.1 in omega arith) all in
       let t = right x p.0 a.0 p.1 a.1 in
-      not-own-super w x t.0 t.1 far in
-      record {
-        acyclic = acyclic;
-        tells = λ x p e.
-            let a = row-there rows p (let l = place-within x p e in omega arith) all in
-            let t = right x p a.0 e a.1 in
-            a.1 ∙ ap (λ v. Some (Some v)) (t.2 ∙ ap (told w) (IsKin-one w (x ∷ []) t.0 (kin w (x ∷ [])) t.1 (kin-IsKin w acyclic (x ∷ []))));
-      }
-
-  pub unfilled : (rows : List (Option Above)) (n : ℕ) → Reached n rows → suc (suc (length w)) ≤ n → length rows ≡ length w → list_all is_some rows ≡ false → IsAcyclic w → ⊥
-  unfolding Reached
-  unfilled rows n r far count not_all acyclic =
-      let all = rows-all rows (λ p l. let c = got w p (omega arith) in r (suc (length w)) (omega arith) p c.0 c.1 (λ y i. every_settles w acyclic y)) in
-      let no : ⊥ = cc in
-      no
+      not-own-super w x t.0 t.1 far

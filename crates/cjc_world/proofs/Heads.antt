@@ -1,13 +1,16 @@
 -- The first of lists that are put together, and of what is broken.
 use Rattle.std.proofs.Common.{◌≡◌, ℕ, suc, ◌<◌, ◌≤◌, ◌+◌, refl, sym, ap, ◌∙◌, arith, List, [], ◌∷◌, ◌++◌, length, get_or, drop, add-one}
 use Rattle.std.specs.Prelude.{map, Bool, true, false, Some, None, option_map, slice_get, if◌then◌else◌}
+use Rattle.cjc_bytes.specs.Breaks.{Break}
+use Rattle.cjc_bytes.specs.declared.order.FileKey.{FileKey}
+use Rattle.cjc_bytes.specs.declared.order.FileKey.TheVariants as keys
 use Rattle.cjc_bytes.specs.declared.settings.FileLine.{FileLine}
 use Rattle.cjc_export.specs.declared.tree.ExportClass.{ExportClass}
 use Rattle.cjc_world.specs.Files.{Files}
 use Rattle.std.proofs.Math.Seq.{drop-cons}
 use Rattle.std.proofs.lemmas.Grind.{common_steps}
 use Rattle.cjc_world.specs.Classes.{Member, Class, imported, numbered, size}
-use Rattle.cjc_world.specs.Rules.{Break, head, at_member, told, members, members_before, member_rules, members_from, class_breaks, classes_breaks, class_file_breaks, export_file_breaks, breaks_from}
+use Rattle.cjc_world.specs.Rules.{head, at_member, told, members, members_before, member_rules, members_from, class_breaks, classes_breaks, class_file_breaks, export_file_breaks, breaks_from}
 
 pub head_some : {A : Type 0} (xs ys : List A) (x : A) → head xs ≡ Some x → head (xs ++ ys) ≡ Some x
 unfolding head
@@ -31,7 +34,7 @@ head_of_map f (x ∷ xs) = refl
 
 -- ---- members
 
-module _ (file : ℕ) (file_name : List ℕ) (class : ℕ) (w : List Class) (c : Class) (field : Bool) (i : ℕ) (ms : List Member) where
+module _ (file : FileKey) (file_name : List ℕ) (class : ℕ) (w : List Class) (c : Class) (field : Bool) (i : ℕ) (ms : List Member) where
   next : (d : Member) → i < length ms → members_from file file_name class w c field i (drop i ms) ≡ map (λ rule. at_member file file_name class c.name (members_before field c + i + 1) (told field (get_or ms i d).name (get_or ms i d).desc) rule) (member_rules w c (members field c) i (get_or ms i d).name (get_or ms i d).desc) ++ members_from file file_name class w c field (i + 1) (drop (i + 1) ms)
   unfolding members_from
   next d l = ap (members_from file file_name class w c field i) (drop-cons ms i d l)
@@ -57,7 +60,7 @@ module _ (file : ℕ) (file_name : List ℕ) (class : ℕ) (w : List Class) (c :
 
 -- ---- classes of an export file
 
-module _ (p : List ℕ) (file : ℕ) (file_name : List ℕ) (w : List Class) (n : ℕ) (xs : List ExportClass) (i : ℕ) where
+module _ (p : List ℕ) (file : FileKey) (file_name : List ℕ) (w : List Class) (n : ℕ) (xs : List ExportClass) (i : ℕ) where
   classes_at : (x : ExportClass) → i < length xs → x ≡ get_or xs i x → classes_breaks p file file_name (i + 1) w (numbered (n + i) (drop i xs)) ≡ class_breaks p file file_name (i + 1) w (imported (n + i) x) ++ classes_breaks p file file_name (i + 1 + 1) w (numbered (n + (i + 1)) (drop (i + 1) xs))
   unfolding classes_breaks
   classes_at x l is =
@@ -81,39 +84,39 @@ module _ (p : List ℕ) (file : ℕ) (file_name : List ℕ) (w : List Class) (n 
 module _ (files : Files) (w : List Class) (k c e i : ℕ) where
   lines_at : (line : FileLine) → k < length files.lines → line ≡ get_or files.lines k line → breaks_from files w k c e i (drop k files.lines) ≡
       (if line.class_file
-      then class_file_breaks files (k + 1) line.name w c (slice_get files.classes c) ++ breaks_from files w (k + 1) (c + 1) e i (drop (k + 1) files.lines)
-      else export_file_breaks files (k + 1) line.name w e i (slice_get files.exports e) ++ breaks_from files w (k + 1) c (e + 1) (i + size (slice_get files.exports e)) (drop (k + 1) files.lines))
+      then class_file_breaks files (keys.Line k) line.name w c (slice_get files.classes c) ++ breaks_from files w (k + 1) (c + 1) e i (drop (k + 1) files.lines)
+      else export_file_breaks files (keys.Line k) line.name w e i (slice_get files.exports e) ++ breaks_from files w (k + 1) c (e + 1) (i + size (slice_get files.exports e)) (drop (k + 1) files.lines))
   unfolding breaks_from
   lines_at line l is =
       let split : drop k files.lines ≡ line ∷ drop (k + 1) files.lines = drop-cons files.lines k line l ∙ ap (λ y. y ∷ drop (suc k) files.lines) (sym is) ∙ ap (λ m. line ∷ drop m files.lines) (sym (add-one k)) in
       ap (λ ls. breaks_from files w k c e i ls) split
 
-  class_line : (line : FileLine) → k < length files.lines → line ≡ get_or files.lines k line → line.class_file ≡ true → breaks_from files w k c e i (drop k files.lines) ≡ class_file_breaks files (k + 1) line.name w c (slice_get files.classes c) ++ breaks_from files w (k + 1) (c + 1) e i (drop (k + 1) files.lines)
-  class_line line l is t = lines_at line l is ∙ ap (λ b. if b then class_file_breaks files (k + 1) line.name w c (slice_get files.classes c) ++ breaks_from files w (k + 1) (c + 1) e i (drop (k + 1) files.lines) else export_file_breaks files (k + 1) line.name w e i (slice_get files.exports e) ++ breaks_from files w (k + 1) c (e + 1) (i + size (slice_get files.exports e)) (drop (k + 1) files.lines)) t
+  class_line : (line : FileLine) → k < length files.lines → line ≡ get_or files.lines k line → line.class_file ≡ true → breaks_from files w k c e i (drop k files.lines) ≡ class_file_breaks files (keys.Line k) line.name w c (slice_get files.classes c) ++ breaks_from files w (k + 1) (c + 1) e i (drop (k + 1) files.lines)
+  class_line line l is t = lines_at line l is ∙ ap (λ b. if b then class_file_breaks files (keys.Line k) line.name w c (slice_get files.classes c) ++ breaks_from files w (k + 1) (c + 1) e i (drop (k + 1) files.lines) else export_file_breaks files (keys.Line k) line.name w e i (slice_get files.exports e) ++ breaks_from files w (k + 1) c (e + 1) (i + size (slice_get files.exports e)) (drop (k + 1) files.lines)) t
 
-  export_line : (line : FileLine) → k < length files.lines → line ≡ get_or files.lines k line → line.class_file ≡ false → breaks_from files w k c e i (drop k files.lines) ≡ export_file_breaks files (k + 1) line.name w e i (slice_get files.exports e) ++ breaks_from files w (k + 1) c (e + 1) (i + size (slice_get files.exports e)) (drop (k + 1) files.lines)
-  export_line line l is t = lines_at line l is ∙ ap (λ b. if b then class_file_breaks files (k + 1) line.name w c (slice_get files.classes c) ++ breaks_from files w (k + 1) (c + 1) e i (drop (k + 1) files.lines) else export_file_breaks files (k + 1) line.name w e i (slice_get files.exports e) ++ breaks_from files w (k + 1) c (e + 1) (i + size (slice_get files.exports e)) (drop (k + 1) files.lines)) t
+  export_line : (line : FileLine) → k < length files.lines → line ≡ get_or files.lines k line → line.class_file ≡ false → breaks_from files w k c e i (drop k files.lines) ≡ export_file_breaks files (keys.Line k) line.name w e i (slice_get files.exports e) ++ breaks_from files w (k + 1) c (e + 1) (i + size (slice_get files.exports e)) (drop (k + 1) files.lines)
+  export_line line l is t = lines_at line l is ∙ ap (λ b. if b then class_file_breaks files (keys.Line k) line.name w c (slice_get files.classes c) ++ breaks_from files w (k + 1) (c + 1) e i (drop (k + 1) files.lines) else export_file_breaks files (keys.Line k) line.name w e i (slice_get files.exports e) ++ breaks_from files w (k + 1) c (e + 1) (i + size (slice_get files.exports e)) (drop (k + 1) files.lines)) t
 
   pub class_line_breaks : (line : FileLine) (name : List ℕ) (b : Break) → k < length files.lines → line ≡ get_or files.lines k line → line.class_file ≡ true → name ≡ line.name
-      → Some b ≡ head (class_file_breaks files (k + 1) name w c (slice_get files.classes c)) → head (breaks_from files w k c e i (drop k files.lines)) ≡ Some b
-  class_line_breaks line name b l is t n f = ap head (class_line line l is t) ∙ head_some (class_file_breaks files (k + 1) line.name w c (slice_get files.classes c)) (breaks_from files w (k + 1) (c + 1) e i (drop (k + 1) files.lines)) b
-      (ap (λ name. head (class_file_breaks files (k + 1) name w c (slice_get files.classes c))) (sym n) ∙ sym f)
+      → Some b ≡ head (class_file_breaks files (keys.Line k) name w c (slice_get files.classes c)) → head (breaks_from files w k c e i (drop k files.lines)) ≡ Some b
+  class_line_breaks line name b l is t n f = ap head (class_line line l is t) ∙ head_some (class_file_breaks files (keys.Line k) line.name w c (slice_get files.classes c)) (breaks_from files w (k + 1) (c + 1) e i (drop (k + 1) files.lines)) b
+      (ap (λ name. head (class_file_breaks files (keys.Line k) name w c (slice_get files.classes c))) (sym n) ∙ sym f)
 
   pub class_line_keeps : (line : FileLine) (name : List ℕ) (c' e' i' : ℕ) → k < length files.lines → line ≡ get_or files.lines k line → line.class_file ≡ true → name ≡ line.name
-      → None ≡ head (class_file_breaks files (k + 1) name w c (slice_get files.classes c)) → c + 1 ≡ c' → e ≡ e' → i ≡ i' → head (breaks_from files w k c e i (drop k files.lines)) ≡ head (breaks_from files w (k + 1) c' e' i' (drop (k + 1) files.lines))
-  class_line_keeps line name c' e' i' l is t n f q r s = ap head (class_line line l is t) ∙ head_none (class_file_breaks files (k + 1) line.name w c (slice_get files.classes c)) (breaks_from files w (k + 1) (c + 1) e i (drop (k + 1) files.lines))
-      (ap (λ name. head (class_file_breaks files (k + 1) name w c (slice_get files.classes c))) (sym n) ∙ sym f)
+      → None ≡ head (class_file_breaks files (keys.Line k) name w c (slice_get files.classes c)) → c + 1 ≡ c' → e ≡ e' → i ≡ i' → head (breaks_from files w k c e i (drop k files.lines)) ≡ head (breaks_from files w (k + 1) c' e' i' (drop (k + 1) files.lines))
+  class_line_keeps line name c' e' i' l is t n f q r s = ap head (class_line line l is t) ∙ head_none (class_file_breaks files (keys.Line k) line.name w c (slice_get files.classes c)) (breaks_from files w (k + 1) (c + 1) e i (drop (k + 1) files.lines))
+      (ap (λ name. head (class_file_breaks files (keys.Line k) name w c (slice_get files.classes c))) (sym n) ∙ sym f)
       ∙ ap (λ c. head (breaks_from files w (k + 1) c e i (drop (k + 1) files.lines))) q ∙ ap (λ e. head (breaks_from files w (k + 1) c' e i (drop (k + 1) files.lines))) r ∙ ap (λ i. head (breaks_from files w (k + 1) c' e' i (drop (k + 1) files.lines))) s
 
   pub export_line_breaks : (line : FileLine) (name : List ℕ) (b : Break) → k < length files.lines → line ≡ get_or files.lines k line → line.class_file ≡ false → name ≡ line.name
-      → Some b ≡ head (export_file_breaks files (k + 1) name w e i (slice_get files.exports e)) → head (breaks_from files w k c e i (drop k files.lines)) ≡ Some b
-  export_line_breaks line name b l is t n f = ap head (export_line line l is t) ∙ head_some (export_file_breaks files (k + 1) line.name w e i (slice_get files.exports e)) (breaks_from files w (k + 1) c (e + 1) (i + size (slice_get files.exports e)) (drop (k + 1) files.lines)) b
-      (ap (λ name. head (export_file_breaks files (k + 1) name w e i (slice_get files.exports e))) (sym n) ∙ sym f)
+      → Some b ≡ head (export_file_breaks files (keys.Line k) name w e i (slice_get files.exports e)) → head (breaks_from files w k c e i (drop k files.lines)) ≡ Some b
+  export_line_breaks line name b l is t n f = ap head (export_line line l is t) ∙ head_some (export_file_breaks files (keys.Line k) line.name w e i (slice_get files.exports e)) (breaks_from files w (k + 1) c (e + 1) (i + size (slice_get files.exports e)) (drop (k + 1) files.lines)) b
+      (ap (λ name. head (export_file_breaks files (keys.Line k) name w e i (slice_get files.exports e))) (sym n) ∙ sym f)
 
   pub export_line_keeps : (line : FileLine) (name : List ℕ) (c' e' i' : ℕ) → k < length files.lines → line ≡ get_or files.lines k line → line.class_file ≡ false → name ≡ line.name
-      → None ≡ head (export_file_breaks files (k + 1) name w e i (slice_get files.exports e)) → c ≡ c' → e + 1 ≡ e' → i + size (slice_get files.exports e) ≡ i' → head (breaks_from files w k c e i (drop k files.lines)) ≡ head (breaks_from files w (k + 1) c' e' i' (drop (k + 1) files.lines))
-  export_line_keeps line name c' e' i' l is t n f q r s = ap head (export_line line l is t) ∙ head_none (export_file_breaks files (k + 1) line.name w e i (slice_get files.exports e)) (breaks_from files w (k + 1) c (e + 1) (i + size (slice_get files.exports e)) (drop (k + 1) files.lines))
-      (ap (λ name. head (export_file_breaks files (k + 1) name w e i (slice_get files.exports e))) (sym n) ∙ sym f)
+      → None ≡ head (export_file_breaks files (keys.Line k) name w e i (slice_get files.exports e)) → c ≡ c' → e + 1 ≡ e' → i + size (slice_get files.exports e) ≡ i' → head (breaks_from files w k c e i (drop k files.lines)) ≡ head (breaks_from files w (k + 1) c' e' i' (drop (k + 1) files.lines))
+  export_line_keeps line name c' e' i' l is t n f q r s = ap head (export_line line l is t) ∙ head_none (export_file_breaks files (keys.Line k) line.name w e i (slice_get files.exports e)) (breaks_from files w (k + 1) c (e + 1) (i + size (slice_get files.exports e)) (drop (k + 1) files.lines))
+      (ap (λ name. head (export_file_breaks files (keys.Line k) name w e i (slice_get files.exports e))) (sym n) ∙ sym f)
       ∙ ap (λ m. head (breaks_from files w (k + 1) m (e + 1) (i + size (slice_get files.exports e)) (drop (k + 1) files.lines))) q ∙ ap (λ m. head (breaks_from files w (k + 1) c' m (i + size (slice_get files.exports e)) (drop (k + 1) files.lines))) r ∙ ap (λ m. head (breaks_from files w (k + 1) c' e' m (drop (k + 1) files.lines))) s
 
   pub lines_end : length files.lines ≤ k → head (breaks_from files w k c e i (drop k files.lines)) ≡ None

@@ -15,7 +15,7 @@ use Rattle.cjc_world.proofs.Cycles.{class_named-name}
 use Rattle.cjc_world.proofs.Rising.{known-append}
 use Rattle.cjc_world.proofs.Joined.{same-refl, same-true}
 use Rattle.cjc_world.proofs.ByPlace.{AreNamed, named-append, place-class, class-place, places-append, at-places-of}
-use Rattle.cjc_world.proofs.Adding.{named-upwards, named-known, any-places, line-above, interfaces-of}
+use Rattle.cjc_world.proofs.Adding.{named-upwards, named-known, any-places, part-of, table-ready, line-above, interfaces-of}
 
 module _ (w : List Class) where
   -- ---- places and names
@@ -127,7 +127,7 @@ module _ (w : List Class) (rows : List (Option Above)) (table : IsTable w rows) 
   pub superclasses-at : at_places w (joined [] (pieces w orders.Line false rows c.supers)) ≡ once [] (upwards (kin w c.supers))
   unfolding places_of AreNamed
   superclasses-at =
-      ap (at_places w) (line-above w rows table c)
+      ap (at_places w) (line-above w rows (part-of w rows table) c (table-ready w rows table c.supers))
       ∙ at-joined w [] (upwards (kin w c.supers)) tt (named-upwards w c.supers (kin w c.supers) (kin-IsKin w table.acyclic c.supers))
 
   pub interfaces-at : at_places w (above_at w rows 0 c).interfaces ≡ known (each_once [] (gathered false (kin w c.supers) ++ gathered true (kin w c.interfaces)))
@@ -137,6 +137,6 @@ module _ (w : List Class) (rows : List (Option Above)) (table : IsTable w rows) 
       let i = kin-IsKin w table.acyclic c.interfaces in
       let S = gathered false (kin w c.supers) in
       let I = gathered true (kin w c.interfaces) in
-      ap (at_places w) (interfaces-of w rows table c)
+      ap (at_places w) (interfaces-of w rows (part-of w rows table) c (table-ready w rows table c.supers) (table-ready w rows table c.interfaces))
       ∙ at-joined w [] (known (S ++ I)) tt (subst (AreNamed w) (sym (known-append S I)) (named-append w (known S) (known I) (named-known w false c.supers (kin w c.supers) s) (named-known w true c.interfaces (kin w c.interfaces) i)))
       ∙ sym (known-once w [] (S ++ I) tt (told-append w S I (told-gathered w false c.supers (kin w c.supers) s) (told-gathered w true c.interfaces (kin w c.interfaces) i)))

@@ -9,7 +9,7 @@ use Rattle.std.specs.List.{list_any}
 use Rattle.std.proofs.lemmas.List.Folds.{list_any-append}
 use Rattle.cjc_world.specs.declared.found.Found.{Found}
 use Rattle.cjc_world.specs.Classes.{Class, class_named}
-use Rattle.cjc_world.specs.Kin.{End, known_as, in_a_row, grown, kin, upwards, stands}
+use Rattle.cjc_world.specs.Kin.{End, known_as, in_a_row, grown, kin, upwards, stands, stands_by_supers}
 use Rattle.cjc_world.specs.Interfaces.{Interface, where_listed, gathered, known}
 use Rattle.cjc_world.specs.Lookup.{or_else, first, field_in}
 
@@ -248,42 +248,35 @@ module _ (w : List Class) where
         ∙ sym (or-assoc (stands y (grown w n (x ∷ []))) (stands y (kin w a)) (stands y (kin w b)))
         ∙ ap (λ t. t || stands y (kin w b)) (sym (stands-row n x a))
 
-  -- ---- names upwards by superclasses
+  -- ---- names upwards by supers alone
 
   module _ (y : List ℕ) where
-    any-append : (cs ds : List Class) → list_any (λ c. bytes_eq c.name y) (cs ++ ds) ≡ (list_any (λ c. bytes_eq c.name y) cs || list_any (λ c. bytes_eq c.name y) ds)
-    any-append cs ds = list_any-append (λ (c : Class). bytes_eq c.name y) cs ds
-
-    pub below-row : (n : ℕ) (x : List ℕ) (xs : List (List ℕ)) → list_any (λ c. bytes_eq c.name y) (upwards (grown w n (x ∷ xs))) ≡ (list_any (λ c. bytes_eq c.name y) (upwards (grown w n (x ∷ []))) || list_any (λ c. bytes_eq c.name y) (upwards (grown w n xs)))
+    pub below-row : (n : ℕ) (x : List ℕ) (xs : List (List ℕ)) → stands_by_supers y (grown w n (x ∷ xs)) ≡ (stands_by_supers y (grown w n (x ∷ [])) || stands_by_supers y (grown w n xs))
     unfolding grown
     below-row zero x xs = refl
     below-row (suc n) x xs = by (class_named w x)
       where
-        rest : List Class
-        rest = upwards (in_a_row w (grown w n) xs)
+        rest : Bool
+        rest = stands_by_supers y (in_a_row w (grown w n) xs)
 
-        by : (o : Option Class) → list_any (λ c. bytes_eq c.name y) (upwards (known_as (grown w n) x o (in_a_row w (grown w n) xs))) ≡ (list_any (λ c. bytes_eq c.name y) (upwards (known_as (grown w n) x o End)) || list_any (λ c. bytes_eq c.name y) rest)
-        by None = refl
-        by (Some c) = any-append (c ∷ upwards (grown w n c.supers)) rest ∙ ap (λ cs. list_any (λ c. bytes_eq c.name y) cs || list_any (λ c. bytes_eq c.name y) rest) (sym (append-nil (c ∷ upwards (grown w n c.supers))))
+        by : (o : Option Class) → stands_by_supers y (known_as (grown w n) x o (in_a_row w (grown w n) xs)) ≡ (stands_by_supers y (known_as (grown w n) x o End) || rest)
+        by None = ap (λ b. b || rest) (sym (or-false y (bytes_eq x y)))
+        by (Some c) = ap (λ b. b || rest) (sym (or-false y (bytes_eq c.name y || stands_by_supers y (grown w n c.supers))))
 
-    pub below-empty : (n : ℕ) → list_any (λ c. bytes_eq c.name y) (upwards (grown w n [])) ≡ false
+    pub below-empty : (n : ℕ) → stands_by_supers y (grown w n []) ≡ false
     unfolding grown
     below-empty zero = refl
     below-empty (suc n) = refl
 
-    pub below-zero : (n : ℕ) (x : List ℕ) → n ≡ 0 → false ≡ list_any (λ c. bytes_eq c.name y) (upwards (grown w n (x ∷ [])))
+    pub below-unknown : (n : ℕ) (x : List ℕ) → 0 < n → None ≡ class_named w x → bytes_eq x y ≡ stands_by_supers y (grown w n (x ∷ []))
     unfolding grown
-    below-zero n x e = ap (λ n. list_any (λ c. bytes_eq c.name y) (upwards (grown w n (x ∷ [])))) (sym e)
+    below-unknown zero x l e = absurd (omega arith)
+    below-unknown (suc n) x l e = sym (or-false y (bytes_eq x y)) ∙ ap (λ o. stands_by_supers y (known_as (grown w n) x o End)) e
 
-    pub below-unknown : (n : ℕ) (x : List ℕ) → None ≡ class_named w x → false ≡ list_any (λ c. bytes_eq c.name y) (upwards (grown w n (x ∷ [])))
-    unfolding grown
-    below-unknown zero x e = refl
-    below-unknown (suc n) x e = ap (λ o. list_any (λ c. bytes_eq c.name y) (upwards (known_as (grown w n) x o End))) e
-
-    pub below-known : (n : ℕ) (x : List ℕ) (c : Class) → 0 < n → Some c ≡ class_named w x → (bytes_eq c.name y || list_any (λ c. bytes_eq c.name y) (upwards (grown w (n - 1) c.supers))) ≡ list_any (λ c. bytes_eq c.name y) (upwards (grown w n (x ∷ [])))
+    pub below-known : (n : ℕ) (x : List ℕ) (c : Class) → 0 < n → Some c ≡ class_named w x → (bytes_eq c.name y || stands_by_supers y (grown w (n - 1) c.supers)) ≡ stands_by_supers y (grown w n (x ∷ []))
     unfolding grown
     below-known zero x c l e = absurd (omega arith)
     below-known (suc n) x c l e =
-        ap (λ k. bytes_eq c.name y || list_any (λ c. bytes_eq c.name y) (upwards (grown w k c.supers))) (less n)
-        ∙ ap (λ cs. list_any (λ c. bytes_eq c.name y) cs) (sym (append-nil (c ∷ upwards (grown w n c.supers))))
-        ∙ ap (λ o. list_any (λ c. bytes_eq c.name y) (upwards (known_as (grown w n) x o End))) e
+        ap (λ k. bytes_eq c.name y || stands_by_supers y (grown w k c.supers)) (less n)
+        ∙ sym (or-false y (bytes_eq c.name y || stands_by_supers y (grown w n c.supers)))
+        ∙ ap (λ o. stands_by_supers y (known_as (grown w n) x o End)) e

@@ -4,6 +4,7 @@ use Rattle.std.specs.Prelude.{◌||◌, ◌⊎◌, Option, Some, None, if◌then
 use Rattle.std.specs.Str.{bytes_eq}
 use Rattle.std.proofs.lemmas.Slice.Eq.{bytes_eq-Decides}
 use Rattle.cjc_world.specs.Classes.{Class, class_named}
+use Rattle.cjc_world.specs.Working.Tables.{IsClear}
 use Rattle.cjc_world.specs.Kin.{Kin, End, Unknown, Known, known_as, in_a_row, grown, kin, IsKin, ends, unknown_here, known_here, Lists, foremost, after, Above, directly, onwards, IsAcyclic}
 
 pub bytes-true : (x y : List ℕ) → bytes_eq x y ≡ true → x ≡ y
@@ -74,8 +75,8 @@ unfolding class_named grown kin
 lists-behind y [] b i = i
 lists-behind y (x ∷ a) b i = after (lists-behind y a b i)
 
--- ---- every class settles within as many steps as there are classes
-module _ (w : List Class) (acyclic : IsAcyclic w) where
+-- ---- every name with no cycle at it or above it settles within as many steps as there are classes
+module _ (w : List Class) where
   -- every class from x on upwards is left
   AllLeft : List (List ℕ) → List ℕ → Type 0
   AllLeft left x = (z : List ℕ) (c : Class) → (x ≡ z) ⊎ Above w x z → class_named w z ≡ Some c → is_left left z ≡ true
@@ -84,23 +85,26 @@ module _ (w : List Class) (acyclic : IsAcyclic w) where
   unfolding class_named grown kin
   reach x y z c e i way = ⊎_elim (λ is. directly c e (subst (λ q. Lists q (c.supers ++ c.interfaces)) is i)) (λ far. onwards c e i far) way
 
-  settles : (n : ℕ) (left : List (List ℕ)) (x : List ℕ) → length left ≤ n → AllLeft left x → Settles w (suc n) x
+  pub clear-up : (x y : List ℕ) (c : Class) → class_named w x ≡ Some c → Lists y (c.supers ++ c.interfaces) → IsClear w x → IsClear w y
+  clear-up x y c e i clear = λ z way. clear z (inr (reach x y z c e i way))
+
+  settles : (n : ℕ) (left : List (List ℕ)) (x : List ℕ) → IsClear w x → length left ≤ n → AllLeft left x → Settles w (suc n) x
   unfolding AllLeft class_named grown kin
-  settles zero left x le all = by (class_named w x) refl
+  settles zero left x clear le all = by (class_named w x) refl
     where
       by : (o : Option Class) → class_named w x ≡ o → Settles w (suc zero) x
       by None e = nothing e
       by (Some c) e = absurd (none_left left x le (all x c (inl refl) e))
-  settles (suc n) left x le all = by (class_named w x) refl (settles n (without x left))
+  settles (suc n) left x clear le all = by (class_named w x) refl (settles n (without x left))
     where
-      by : (o : Option Class) → class_named w x ≡ o → ((y : List ℕ) → length (without x left) ≤ n → AllLeft (without x left) y → Settles w (suc n) y) → Settles w (suc (suc n)) x
+      by : (o : Option Class) → class_named w x ≡ o → ((y : List ℕ) → IsClear w y → length (without x left) ≤ n → AllLeft (without x left) y → Settles w (suc n) y) → Settles w (suc (suc n)) x
       by None e rest = nothing e
       by (Some c) e rest =
           let less = without-less x left (all x c (inl refl) e) in
-          something c e (λ y i. rest y (omega arith) (λ z d way f. without-left x z left (other z (reach x y z c e i way) (bytes_eq x z) refl) (all z d (inr (reach x y z c e i way)) f)))
+          something c e (λ y i. rest y (clear-up x y c e i clear) (omega arith) (λ z d way f. without-left x z left (other z (reach x y z c e i way) (bytes_eq x z) refl) (all z d (inr (reach x y z c e i way)) f)))
         where
           other : (z : List ℕ) → Above w x z → (b : Bool) → bytes_eq x z ≡ b → bytes_eq x z ≡ false
-          other z far true g = absurd (acyclic x (subst (λ q. Above w x q) (sym (bytes-true x z g)) far))
+          other z far true g = absurd (clear x (inl refl) (subst (λ q. Above w x q) (sym (bytes-true x z g)) far))
           other z far false g = g
 
 unfoldable pub names : List Class → List (List ℕ)
@@ -121,9 +125,9 @@ named-left (d ∷ w) x c e = by (bytes_eq d.name x) e (named-left w x c)
     by true e rest = refl
     by false e rest = rest e
 
-pub every_settles : (w : List Class) → IsAcyclic w → (x : List ℕ) → Settles w (suc (length w)) x
+pub clear_settles : (w : List Class) (x : List ℕ) → IsClear w x → Settles w (suc (length w)) x
 unfolding AllLeft class_named grown kin
-every_settles w acyclic x = let n = names-length w in settles w acyclic (length w) (names w) x (omega arith) (λ z c way e. named-left w z c e)
+clear_settles w x clear = let n = names-length w in settles w (length w) (names w) x clear (omega arith) (λ z c way e. named-left w z c e)
 
 -- ---- the steps reach the whole tree where all settles
 
@@ -143,10 +147,13 @@ grown-IsKin w (suc n) xs all = row (grown-IsKin w n) xs all
     row rec [] all = ends
     row rec (x ∷ xs) all = node rec x xs (in_a_row w (grown w n) xs) (row rec xs (λ y i. all y (after i))) (all x foremost)
 
--- ---- The laws of a world without cycles: the tree is there, and there is one.
-pub kin-IsKin : (w : List Class) → IsAcyclic w → (xs : List (List ℕ)) → IsKin w xs (kin w xs)
+-- ---- The laws of names with no cycle at them or above them: the tree is there, and there is one.
+pub clear-IsKin : (w : List Class) (xs : List (List ℕ)) → ((y : List ℕ) → Lists y xs → IsClear w y) → IsKin w xs (kin w xs)
 unfolding class_named grown kin
-kin-IsKin w acyclic xs = grown-IsKin w (suc (length w)) xs (λ y i. every_settles w acyclic y)
+clear-IsKin w xs clear = grown-IsKin w (suc (length w)) xs (λ y i. clear_settles w y (clear y i))
+
+pub kin-IsKin : (w : List Class) → IsAcyclic w → (xs : List (List ℕ)) → IsKin w xs (kin w xs)
+kin-IsKin w acyclic xs = clear-IsKin w xs (λ y i z way far. acyclic z far)
 
 pub IsKin-one : (w : List Class) (xs : List (List ℕ)) (j k : Kin) → IsKin w xs j → IsKin w xs k → j ≡ k
 unfolding class_named grown kin
@@ -161,6 +168,16 @@ IsKin-one w (x ∷ xs) j k (known_here {c = c} {supers = p} {interfaces = q} {ne
     let rs = IsKin-one w xs r r' a b in
     cc
 
+pub clear-known : (w : List Class) (x : List ℕ) (c : Class) → IsClear w x → class_named w x ≡ Some c → kin w (x ∷ []) ≡ Known c (kin w c.supers) (kin w c.interfaces) End
+clear-known w x c clear e =
+    IsKin-one w (x ∷ []) (kin w (x ∷ [])) (Known c (kin w c.supers) (kin w c.interfaces) End) (clear-IsKin w (x ∷ []) (λ y i. alone y i))
+    (known_here e
+    (clear-IsKin w c.supers (λ y i. clear-up w x y c e (lists-front y c.supers c.interfaces i) clear))
+    (clear-IsKin w c.interfaces (λ y i. clear-up w x y c e (lists-behind y c.supers c.interfaces i) clear)) ends)
+  where
+    alone : (y : List ℕ) → Lists y (x ∷ []) → IsClear w y
+    alone y foremost = clear
+    alone y (after i) = elim i [ ]
+
 pub kin-known : (w : List Class) → IsAcyclic w → (x : List ℕ) (c : Class) → class_named w x ≡ Some c → kin w (x ∷ []) ≡ Known c (kin w c.supers) (kin w c.interfaces) End
-unfolding class_named grown kin
-kin-known w acyclic x c e = IsKin-one w (x ∷ []) (kin w (x ∷ [])) (Known c (kin w c.supers) (kin w c.interfaces) End) (kin-IsKin w acyclic (x ∷ [])) (known_here e (kin-IsKin w acyclic c.supers) (kin-IsKin w acyclic c.interfaces) ends)
+kin-known w acyclic x c e = clear-known w x c (λ z way far. acyclic z far) e

@@ -7,7 +7,7 @@ use Rattle.std.specs.Cmp.Lexicographic.{pointwise}
 use mathlib.Core.Bool.{beq}
 use Rattle.std.proofs.lemmas.Option.{slice_get_within}
 use Rattle.cjc_world.specs.Classes.{Class, class_named}
-use Rattle.cjc_world.specs.Kin.{End, known_as, grown, kin, upwards, line, is_below, stands, above_of, stands_above}
+use Rattle.cjc_world.specs.Kin.{End, known_as, grown, kin, is_below, stands, stands_by_supers, above_of, stands_above}
 use Rattle.cjc_world.specs.Rules.{throwable}
 use Rattle.cjc_world.specs.Working.Places.{place_named, has_name}
 use Rattle.cjc_world.specs.Working.Steps.{standing, name_stands_at, name_stands, any_stands, class_stands, IsStep, IsBegun, IsDone}
@@ -39,11 +39,11 @@ module _ (w : List Class) (by_supers : Bool) (y : List ℕ) where
       by true = below-empty w y n
       by false = stands-empty w y n
 
-  unknown : (n : ℕ) (x : List ℕ) → 0 < n → None ≡ class_named w x → (not by_supers && bytes_eq x y) ≡ standing by_supers y (grown w n (x ∷ []))
+  unknown : (n : ℕ) (x : List ℕ) → 0 < n → None ≡ class_named w x → bytes_eq x y ≡ standing by_supers y (grown w n (x ∷ []))
   unknown n x l e = by by_supers
     where
-      by : (b : Bool) → (not b && bytes_eq x y) ≡ standing b y (grown w n (x ∷ []))
-      by true = below-unknown w y n x e
+      by : (b : Bool) → bytes_eq x y ≡ standing b y (grown w n (x ∷ []))
+      by true = below-unknown w y n x l e
       by false = stands-unknown w y n x l e
 
   known_here : (k : ℕ) (x : List ℕ) (c : Class) → Some c ≡ class_named w x
@@ -62,19 +62,19 @@ module _ (w : List Class) (by_supers : Bool) (y : List ℕ) where
           ap (λ n. bytes_eq c.name y || standing false y (grown w n c.supers) || standing false y (grown w n c.interfaces)) (sym less)
           ∙ stands-known w y (k + 1) x c (omega arith) e
 
-  name-told : (k : ℕ) (known : List Bool) → 0 < k → Told k known → (x : List ℕ) → name_stands w by_supers y known x ≡ standing by_supers y (grown w k (x ∷ []))
+  name-told : (k : ℕ) (known : List Bool) → 0 < k → Told k known → (x : List ℕ) → name_stands w y known x ≡ standing by_supers y (grown w k (x ∷ []))
   unfolding Told
   name-told k known l told x = by (place_named w x) refl
     where
-      by : (o : Option ℕ) → place_named w x ≡ o → name_stands_at by_supers y known x o ≡ standing by_supers y (grown w k (x ∷ []))
+      by : (o : Option ℕ) → place_named w x ≡ o → name_stands_at y known x o ≡ standing by_supers y (grown w k (x ∷ []))
       by None e = unknown k x l (sym (place-none w x e))
       by (Some p) e = ap (λ o. unwrap_or o false) (told x p e)
 
-  pub any-told : (k : ℕ) (known : List Bool) → 0 < k → Told k known → (xs : List (List ℕ)) → any_stands w by_supers y known xs ≡ standing by_supers y (grown w k xs)
+  pub any-told : (k : ℕ) (known : List Bool) → 0 < k → Told k known → (xs : List (List ℕ)) → any_stands w y known xs ≡ standing by_supers y (grown w k xs)
   unfolding any_stands
   any-told k known l told [] = sym (empty k)
   any-told k known l told (x ∷ xs) =
-      ap (λ b. b || list_any (λ x. name_stands w by_supers y known x) xs) (name-told k known l told x)
+      ap (λ b. b || list_any (λ x. name_stands w y known x) xs) (name-told k known l told x)
       ∙ ap (λ b. standing by_supers y (grown w k (x ∷ [])) || b) (any-told k known l told xs)
       ∙ sym (row k x xs)
 
@@ -85,7 +85,7 @@ module _ (w : List Class) (by_supers : Bool) (y : List ℕ) where
       let c = d.0 in
       step p (slice_get_within w p c d.1)
       ∙ ap (λ o. Some (class_stands w by_supers y known o)) d.1
-      ∙ ap (λ b. Some (bytes_eq c.name y || b || (not by_supers && any_stands w by_supers y known c.interfaces))) (any-told k known l told c.supers)
+      ∙ ap (λ b. Some (bytes_eq c.name y || b || (not by_supers && any_stands w y known c.interfaces))) (any-told k known l told c.supers)
       ∙ ap (λ b. Some (bytes_eq c.name y || standing by_supers y (grown w k c.supers) || (not by_supers && b))) (any-told k known l told c.interfaces)
       ∙ ap Some (known_here k x c (sym d.2))
 
@@ -112,19 +112,19 @@ module _ (w : List Class) (by_supers : Bool) (y : List ℕ) where
   unfolding Told kin
   done-told k known e told x p f = told x p f ∙ ap (λ n. Some (standing by_supers y (grown w n (x ∷ [])))) e
 
-  pub any-done : (known : List Bool) → IsDone w by_supers y known → (xs : List (List ℕ)) → any_stands w by_supers y known xs ≡ standing by_supers y (kin w xs)
+  pub any-done : (known : List Bool) → IsDone w by_supers y known → (xs : List (List ℕ)) → any_stands w y known xs ≡ standing by_supers y (kin w xs)
   unfolding Told kin
   any-done known done xs = any-told (suc (length w)) known (omega arith) done xs
 
 pub own-stands : (w : List Class) (known : List Bool) (x : List ℕ) (p : ℕ) (c : Class) → place_named w x ≡ Some p → slice_get w p ≡ Some c → IsDone w false c.name known
-    → (any_stands w false c.name known c.supers || any_stands w false c.name known c.interfaces) ≡ stands_above w x x
+    → (any_stands w c.name known c.supers || any_stands w c.name known c.interfaces) ≡ stands_above w x x
 unfolding stands_above
 own-stands w known x p c e f done =
     let d = place-class w x p e in
     let is : d.0 ≡ c = let g = d.1 in cc in
     let named : class_named w x ≡ Some c = d.2 ∙ ap Some is in
     let name = class_named-name w x c named in
-    ap (λ b. b || any_stands w false c.name known c.interfaces) (any-done w false c.name known done c.supers)
+    ap (λ b. b || any_stands w c.name known c.interfaces) (any-done w false c.name known done c.supers)
     ∙ ap (λ b. stands c.name (kin w c.supers) || b) (any-done w false c.name known done c.interfaces)
     ∙ sym (stands_of_both w c.name c.supers c.interfaces)
     ∙ ap (λ z. stands z (kin w (c.supers ++ c.interfaces))) name
@@ -153,13 +153,13 @@ pub not-own : (w : List Class) (x : List ℕ) (p : ℕ) → place_named w x ≡ 
 not-own w x p e f = let d = place-class w x p e in let g = d.1 in cc
 
 pub done-below : (w : List Class) (known : List Bool) → IsDone w true throwable known → (x : List ℕ) (p : ℕ) → place_named w x ≡ Some p → slice_get known p ≡ Some (is_below w x throwable)
-unfolding is_below line
+unfolding is_below
 done-below w known done x p e = done x p e
 
 pub none-own : (w : List Class) (x : List ℕ) → place_named w x ≡ None → false ≡ stands_above w x x
 unfolding stands_above
 none-own w x e = sym (ap (λ o. stands x (above_of w o)) (place-none w x e))
 
-pub none-throwable : (w : List Class) (x : List ℕ) → place_named w x ≡ None → false ≡ is_below w x throwable
-unfolding is_below line kin grown
-none-throwable w x e = sym (ap (λ o. list_any (λ c. bytes_eq c.name throwable) (upwards (known_as (grown w (length w)) x o End))) (place-none w x e))
+pub none-throwable : (w : List Class) (x : List ℕ) → place_named w x ≡ None → bytes_eq x throwable ≡ is_below w x throwable
+unfolding is_below kin grown
+none-throwable w x e = sym (ap (λ o. stands_by_supers throwable (known_as (grown w (length w)) x o End)) (place-none w x e) ∙ or-false (bytes_eq x throwable))

@@ -74,6 +74,11 @@ subclass_of_above w x y far =
     or_second true b e = refl
     or_second false b e = e
 
+-- a name, and what stands above it, stand in its tree
+pub reaches : (w : List Class) (x y : List ℕ) → (x ≡ y) ⊎ Above w x y → stands y (kin w (x ∷ [])) ≡ true
+unfolding is_subclass
+reaches w x y way = ⊎_elim (λ same. subst (λ v. stands v (kin w (x ∷ [])) ≡ true) same (subclass_itself w x)) (λ far. subclass_of_above w x y far) way
+
 subclass_trans : (w : List Class) (x y z : List ℕ) → is_subclass w x y ≡ true → is_subclass w y z ≡ true → is_subclass w x z ≡ true
 subclass_trans w x y z e f =
     ⊎_elim

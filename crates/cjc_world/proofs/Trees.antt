@@ -7,11 +7,11 @@ use Rattle.cjc_world.specs.declared.tables.Above.{Above}
 use Rattle.cjc_world.specs.declared.tables.Order.{Order}
 use Rattle.cjc_world.specs.declared.tables.Order.TheVariants as orders
 use Rattle.cjc_world.specs.Classes.{Class, class_named}
-use Rattle.cjc_world.specs.Kin.{Kin, End, Unknown, Known, IsKin, ends, unknown_here, known_here, Lists, foremost, after, Above as IsAbove, directly, onwards, upwards}
+use Rattle.cjc_world.specs.Kin.{Kin, End, Unknown, Known, IsKin, ends, unknown_here, known_here, Lists, foremost, after, Above as IsAbove, directly, onwards, kin, upwards}
 use Rattle.cjc_world.specs.Interfaces.{Interface, where_listed, gathered, known}
 use Rattle.cjc_world.specs.Working.Places.{place_named, places_of, joined}
-use Rattle.cjc_world.specs.Working.Tables.{in_field_order, told, row_at, piece, pieces, above_at, is_row, is_ready_at, is_ready, are_ready, AreRight}
-use Rattle.cjc_world.proofs.Settled.{IsKin-one}
+use Rattle.cjc_world.specs.Working.Tables.{in_field_order, told, row_at, piece, pieces, above_at, is_row, is_ready_at, is_ready, are_ready, AreRight, IsClear}
+use Rattle.cjc_world.proofs.Settled.{IsKin-one, clear-IsKin}
 use Rattle.cjc_world.proofs.Cycles.{class_named-name}
 use Rattle.cjc_world.proofs.Rising.{known-append}
 use Rattle.cjc_world.proofs.Joined.{joined-append, joined-once}
@@ -43,11 +43,11 @@ pub record Grove (w : List Class) (rows : List (Option Above)) (xs : List (List 
   pub interfaces : (listed : Bool) → Alike (pieces w orders.Interfaces listed rows xs) (places_of w (known (gathered listed tree)))
   pub fields : Alike (pieces w orders.Fields false rows xs) (places_of w (in_field_order tree))
 
-all-front : (p q : Bool) → (p && q) ≡ true → p ≡ true
+pub all-front : (p q : Bool) → (p && q) ≡ true → p ≡ true
 all-front true q e = refl
 all-front false q e = cc
 
-all-back : (p q : Bool) → (p && q) ≡ true → q ≡ true
+pub all-back : (p q : Bool) → (p && q) ≡ true → q ≡ true
 all-back true q e = e
 all-back false q e = cc
 
@@ -161,7 +161,7 @@ size End = 0
 size (Unknown name next) = suc (size next)
 size (Known c supers interfaces next) = suc (size supers + size interfaces + size next)
 
-lists-split : (y : List ℕ) (a b : List (List ℕ)) → Lists y (a ++ b) → Lists y a ⊎ Lists y b
+pub lists-split : (y : List ℕ) (a b : List (List ℕ)) → Lists y (a ++ b) → Lists y a ⊎ Lists y b
 lists-split y [] b i = inr i
 lists-split y (x ∷ a) b foremost = inl foremost
 lists-split y (x ∷ a) b (after i) = ⊎_elim (λ h. inl (after h)) (λ h. inr h) (lists-split y a b i)
@@ -201,3 +201,18 @@ module _ (w : List Class) where
       let less : size t.0 < size k = t.2 in
       let eq : size t.0 ≡ size k = ap size same in
       absurd (omega arith)
+
+  -- ---- nor is anything that stands above it, so the tree is the one that `kin` grows
+
+  pub tree-clear : (x : List ℕ) (k : Kin) → IsKin w (x ∷ []) k → IsClear w x
+  tree-clear x k is = λ z way far. ⊎_elim
+      (λ same. not-own-super x k is (subst (λ v. IsAbove w v v) (sym same) far))
+      (λ up. let t = smaller x z up k is in not-own-super z t.0 t.1 far)
+      way
+
+  pub listed-clear : (xs : List (List ℕ)) (k : Kin) → IsKin w xs k → (y : List ℕ) → Lists y xs → IsClear w y
+  unfolding Smaller
+  listed-clear xs k is y i = let t = listed-tree y xs i k is in tree-clear y t.0 t.1
+
+  pub tree-is-kin : (xs : List (List ℕ)) (k : Kin) → IsKin w xs k → k ≡ kin w xs
+  tree-is-kin xs k is = IsKin-one w xs k (kin w xs) is (clear-IsKin w xs (listed-clear xs k is))

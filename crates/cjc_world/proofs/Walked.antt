@@ -10,11 +10,11 @@ use Rattle.cjc_world.specs.declared.found.Found.{Found}
 use Rattle.cjc_world.specs.declared.tables.Above.{Above}
 use Rattle.cjc_world.specs.declared.tables.Order.TheVariants as orders
 use Rattle.cjc_world.specs.Classes.{Class, class_named}
-use Rattle.cjc_world.specs.Kin.{Kin, End, Unknown, Known, IsKin, ends, unknown_here, known_here, known_as, grown, kin, upwards, line, is_below, stands}
-use Rattle.cjc_world.specs.Interfaces.{gathered, known}
+use Rattle.cjc_world.specs.Kin.{Kin, End, Unknown, Known, IsKin, ends, unknown_here, known_here, known_as, grown, kin, upwards, line, is_below, stands, stands_by_supers}
+use Rattle.cjc_world.specs.Interfaces.{gathered, has_interface, known}
 use Rattle.cjc_world.specs.Lookup.{or_else, first, own_field, field_in, find_field, own_method}
 use Rattle.cjc_world.specs.Subtype.{is_subclass}
-use Rattle.cjc_world.specs.Working.Places.{place_named, places_of, joined, first_place, field_of, method_of, has_name, names, names_of}
+use Rattle.cjc_world.specs.Working.Places.{place_named, places_of, joined, first_place, field_of, method_of, has_name, names, names_of, names_super, names_super_of}
 use Rattle.cjc_world.specs.Working.Tables.{in_field_order, told, IsTable, row_at}
 use Rattle.cjc_world.proofs.Settled.{kin-IsKin, kin-known}
 use Rattle.cjc_world.proofs.Cycles.{class_named-name}
@@ -115,6 +115,32 @@ stands-listed w y (x ∷ xs) k (known_here {c = c} {supers = s} {interfaces = i}
     ∙ ap (λ b. (bytes_eq x y || C) || ((bytes_eq c.name y || (A || B)) || (b || N))) (sym (list_any-append (names y) (in_field_order i) (in_field_order s)))
     ∙ ap (λ b. (bytes_eq x y || C) || ((bytes_eq c.name y || (A || B)) || b)) (sym (list_any-append (names y) (in_field_order i ++ in_field_order s) (in_field_order next)))
 
+-- the same of names on ways by supers alone
+
+together : (n a s c l : Bool) → ((n || (a || s)) || (c || l)) ≡ ((n || c) || ((n || a) || (s || l)))
+together true a s c l = refl
+together false true s true l = refl
+together false true s false l = refl
+together false false true true l = refl
+together false false true false l = refl
+together false false false true l = refl
+together false false false false l = refl
+
+below-listed : (w : List Class) (y : List ℕ) (xs : List (List ℕ)) (k : Kin) → IsKin w xs k → stands_by_supers y k ≡ (list_any (λ x. bytes_eq x y) xs || list_any (names_super y) (upwards k))
+below-listed w y xs k ends = refl
+below-listed w y (x ∷ xs) k (unknown_here {next = next} e n) =
+    ap (λ b. bytes_eq x y || b) (below-listed w y xs next n) ∙ or-assoc (bytes_eq x y) (list_any (λ x. bytes_eq x y) xs) (list_any (names_super y) (upwards next))
+below-listed w y (x ∷ xs) k (known_here {c = c} {supers = s} {interfaces = i} {next = next} e sk ik n) =
+    let S = list_any (names_super y) (upwards s) in
+    let N = list_any (names_super y) (upwards next) in
+    let A = list_any (λ x. bytes_eq x y) c.supers in
+    let C = list_any (λ x. bytes_eq x y) xs in
+    ap (λ b. (bytes_eq c.name y || b) || stands_by_supers y next) (below-listed w y c.supers s sk)
+    ∙ ap (λ b. (bytes_eq c.name y || (A || S)) || b) (below-listed w y xs next n)
+    ∙ together (bytes_eq c.name y) A S C N
+    ∙ ap (λ z. (bytes_eq z y || C) || ((bytes_eq c.name y || A) || (S || N))) (class_named-name w x c e)
+    ∙ ap (λ b. (bytes_eq x y || C) || ((bytes_eq c.name y || A) || b)) (sym (list_any-append (names_super y) (upwards s) (upwards next)))
+
 -- ---- by the table
 
 module _ (w : List Class) (rows : List (Option Above)) (table : IsTable w rows) (x : List ℕ) where
@@ -159,11 +185,31 @@ module _ (w : List Class) (rows : List (Option Above)) (table : IsTable w rows) 
         ∙ first-told w (λ q. field_of name desc (slice_get w q)) (own_field name desc) (in_field_order (kin w (x ∷ []))) (named-fields w (x ∷ []) (kin w (x ∷ [])) is_tree) (λ d q e. ap (field_of name desc) e)
         ∙ sym (fields-first (own_field name desc) (kin w (x ∷ [])))
 
-    pub line-has : (y : List ℕ) → list_any (λ q. has_name y (slice_get w q)) (row_at orders.Line (slice_get rows p)) ≡ is_below w x y
-    unfolding is_below line
-    line-has y =
-        ap (list_any (λ q. has_name y (slice_get w q))) line-row
-        ∙ any-told w (λ q. has_name y (slice_get w q)) (λ c. bytes_eq c.name y) (upwards (kin w (x ∷ []))) (named-upwards w (x ∷ []) (kin w (x ∷ [])) is_tree) (λ d q e. ap (has_name y) e)
+    pub line-below : (y : List ℕ) → list_any (λ q. names_super_of y (slice_get w q)) (row_at orders.Line (slice_get rows p)) ≡ is_below w x y
+    unfolding is_below
+    line-below y =
+        let c = place-class w x p place in
+        ap (list_any (λ q. names_super_of y (slice_get w q))) line-row
+        ∙ any-told w (λ q. names_super_of y (slice_get w q)) (names_super y) (upwards (kin w (x ∷ []))) (named-upwards w (x ∷ []) (kin w (x ∷ [])) is_tree) (λ d q e. ap (names_super_of y) e)
+        ∙ itself c.0 c.2
+        ∙ sym (below-listed w y (x ∷ []) (kin w (x ∷ [])) is_tree)
+      where
+        absorbs : (a b r : Bool) → ((a || b) || r) ≡ ((a || false) || ((a || b) || r))
+        absorbs true b r = refl
+        absorbs false b r = refl
+
+        itself : (c : Class) → class_named w x ≡ Some c → list_any (names_super y) (upwards (kin w (x ∷ []))) ≡ ((bytes_eq x y || false) || list_any (names_super y) (upwards (kin w (x ∷ []))))
+        itself c e =
+            ap (λ k. list_any (names_super y) (upwards k)) (kin-known w table.acyclic x c e)
+            ∙ absorbs (bytes_eq c.name y) (list_any (λ x. bytes_eq x y) c.supers) (list_any (names_super y) (upwards (kin w c.supers) ++ []))
+            ∙ ap (λ z. (bytes_eq z y || false) || list_any (names_super y) (upwards (Known c (kin w c.supers) (kin w c.interfaces) End))) (class_named-name w x c e)
+            ∙ ap (λ k. (bytes_eq x y || false) || list_any (names_super y) (upwards k)) (sym (kin-known w table.acyclic x c e))
+
+    pub interfaces-have : (y : List ℕ) → list_any (λ q. has_name y (slice_get w q)) (row_at orders.Interfaces (slice_get rows p)) ≡ has_interface w x y
+    unfolding has_interface
+    interfaces-have y =
+        ap (list_any (λ q. has_name y (slice_get w q))) interfaces-row
+        ∙ any-told w (λ q. has_name y (slice_get w q)) (λ c. bytes_eq c.name y) (known (gathered false (kin w (x ∷ [])))) (named-known w false (x ∷ []) (kin w (x ∷ [])) is_tree) (λ d q e. ap (has_name y) e)
 
     pub fields-stand : (y : List ℕ) → list_any (λ q. names_of y (slice_get w q)) (row_at orders.Fields (slice_get rows p)) ≡ is_subclass w x y
     unfolding is_subclass
@@ -199,9 +245,17 @@ module _ (w : List Class) (rows : List (Option Above)) (table : IsTable w rows) 
       or-none true = refl
       or-none false = refl
 
-  pub none-below : (y : List ℕ) → place_named w x ≡ None → false ≡ is_below w x y
-  unfolding is_below line
-  none-below y e = sym (ap (λ k. list_any (λ c. bytes_eq c.name y) (upwards k)) (nowhere e))
+  pub none-below : (y : List ℕ) → place_named w x ≡ None → bytes_eq x y ≡ is_below w x y
+  unfolding is_below
+  none-below y e = sym (ap (stands_by_supers y) (nowhere e) ∙ or-none (bytes_eq x y))
+    where
+      or-none : (b : Bool) → (b || false) ≡ b
+      or-none true = refl
+      or-none false = refl
+
+  pub none-has : (y : List ℕ) → place_named w x ≡ None → false ≡ has_interface w x y
+  unfolding has_interface gathered known
+  none-has y e = sym (ap (λ k. list_any (λ c. bytes_eq c.name y) (known (gathered false k))) (nowhere e))
 
   pub none-field : (name desc : List ℕ) → place_named w x ≡ None → None ≡ find_field w x name desc
   unfolding find_field

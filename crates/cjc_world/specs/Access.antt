@@ -1,7 +1,8 @@
 -- Access to members (Java Virtual Machine Specification, section 5.4.4). Access to classes is not tested.
 use Rattle.std.specs.Prelude.{ℕ, List, Bool, not, ◌&&◌, ◌||◌, if◌then◌else◌}
 use Rattle.std.specs.Str.{bytes_eq}
-use Rattle.cjc_world.specs.Classes.{Class, is_public, is_protected, is_private, is_static}
+use Rattle.cjc_world.specs.Classes.{Class}
+use Rattle.cjc_bytes.specs.AccessFlags.{is_public, is_protected, is_private, is_static}
 use Rattle.cjc_world.specs.Kin.{is_below}
 
 -- Whether code of the class `holder`, which is of the package, may use a member with these flags that the class

@@ -6,7 +6,8 @@ use Rattle.std.specs.Str.{bytes_eq}
 use Rattle.cjc_bytes.specs.declared.fault.MemberId.{MemberId}
 use Rattle.cjc_classfile.specs.declared.tree.ClassTree.{ClassTree}
 use Rattle.cjc_world.specs.Files.{Files}
-use Rattle.cjc_world.specs.Classes.{Member, Class, declared, all_classes, is_public, is_protected, is_static, is_interface, is_abstract}
+use Rattle.cjc_world.specs.Classes.{Member, Class, declared, all_classes}
+use Rattle.cjc_bytes.specs.AccessFlags.{is_public, is_protected, is_static, is_interface, is_abstract}
 use Rattle.cjc_world.specs.Kin.{Kin, End, Unknown, Known, kin}
 use Rattle.cjc_world.specs.Interfaces.{gathered, known}
 use Rattle.cjc_world.specs.Lookup.{is_called}

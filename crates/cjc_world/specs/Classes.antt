@@ -1,5 +1,5 @@
 -- The classes of a package and of its export files, seen alike, in the order of the list.
-use Rattle.std.specs.Prelude.{ℕ, ◌+◌, List, [], ◌∷◌, ◌++◌, map, length, slice_get, Bool, true, false, not, ◌&&◌, ◌==◌, nat_lt, bit_and, if◌then◌else◌, Option, Some, None}
+use Rattle.std.specs.Prelude.{ℕ, ◌+◌, List, [], ◌∷◌, ◌++◌, map, length, slice_get, Bool, true, false, not, ◌&&◌, ◌==◌, if◌then◌else◌, Option, Some, None}
 use Rattle.std.specs.Str.{bytes_eq}
 use Rattle.cjc_bytes.specs.declared.settings.FileLine.{FileLine}
 use Rattle.cjc_classfile.specs.declared.tree.ClassTree.{ClassTree}
@@ -32,29 +32,6 @@ pub record Class : Type 0 where
   pub interfaces : List (List ℕ)
   pub fields : List Member
   pub methods : List Member
-
-abbrev pub has : ℕ → ℕ → Bool
-has flags flag = nat_lt 0 (bit_and flags flag)
-
--- ---- access flags (Java Virtual Machine Specification, sections 4.1, 4.5 and 4.6)
-
-abbrev pub is_public : ℕ → Bool
-is_public flags = has flags 0x0001
-
-abbrev pub is_private : ℕ → Bool
-is_private flags = has flags 0x0002
-
-abbrev pub is_protected : ℕ → Bool
-is_protected flags = has flags 0x0004
-
-abbrev pub is_static : ℕ → Bool
-is_static flags = has flags 0x0008
-
-abbrev pub is_interface : ℕ → Bool
-is_interface flags = has flags 0x0200
-
-abbrev pub is_abstract : ℕ → Bool
-is_abstract flags = has flags 0x0400
 
 -- ---- the view of a class of either kind of file
 

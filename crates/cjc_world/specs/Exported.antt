@@ -1,6 +1,7 @@
 -- Which classes of a package others may name (Java Card Virtual Machine Specification 2.2.2, section 4.3.1).
 use Rattle.std.specs.Prelude.{ℕ, List, Bool, false, not, ◌&&◌, ◌||◌, Option, Some, None, codes}
-use Rattle.cjc_world.specs.Classes.{Class, class_named, is_interface, is_public}
+use Rattle.cjc_world.specs.Classes.{Class, class_named}
+use Rattle.cjc_bytes.specs.AccessFlags.{is_interface, is_public}
 use Rattle.cjc_world.specs.Subtype.{is_subtype}
 
 abbrev pub shareable : List ℕ

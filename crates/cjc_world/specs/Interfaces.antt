@@ -2,7 +2,7 @@
 use Rattle.std.specs.Prelude.{ℕ, List, [], ◌∷◌, ◌++◌, Bool, true, false, ◌||◌, if◌then◌else◌, Option, Some, None, option_to_list}
 use Rattle.std.specs.Str.{bytes_eq}
 use Rattle.cjc_world.specs.Classes.{Class}
-use Rattle.cjc_world.specs.Kin.{Kin, End, Unknown, Known, kin}
+use Rattle.cjc_world.specs.Kin.{Kin, End, Unknown, Known, kin, is_one_named}
 
 -- an interface by its name, with its class where some file has it
 pub record Interface : Type 0 where
@@ -38,3 +38,7 @@ interfaces_of w name = each_once [] (gathered false (kin w (name ∷ [])))
 unfoldable pub known : List Interface → List Class
 known [] = []
 known (i ∷ is) = option_to_list i.class ++ known is
+
+-- whether some file has the second name, and its class is one of the interfaces of the class of the first
+unfoldable pub has_interface : List Class → (class interface : List ℕ) → Bool
+has_interface w class interface = is_one_named (known (gathered false (kin w (class ∷ [])))) interface

@@ -88,6 +88,12 @@ once seen (c ∷ cs) = if is_one_named seen c.name then once seen cs else c ∷ 
 unfoldable pub line : List Class → List ℕ → List Class
 line w name = upwards (kin w (name ∷ []))
 
--- the second is the first, or a superclass of it
+-- whether the name stands in the tree on a way by supers alone, one of no class too
+abbrev pub stands_by_supers : List ℕ → Kin → Bool
+stands_by_supers name End = false
+stands_by_supers name (Unknown x next) = bytes_eq x name || stands_by_supers name next
+stands_by_supers name (Known c supers interfaces next) = bytes_eq c.name name || stands_by_supers name supers || stands_by_supers name next
+
+-- The second is the first, or a superclass of it. Both are names, and some file may have neither.
 unfoldable pub is_below : List Class → (sub sup : List ℕ) → Bool
-is_below w sub sup = list_any (λ c. bytes_eq c.name sup) (line w sub)
+is_below w sub sup = stands_by_supers sup (kin w (sub ∷ []))

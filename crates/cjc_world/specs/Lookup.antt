@@ -3,7 +3,8 @@
 use Rattle.std.specs.Prelude.{ℕ, ◌+◌, List, [], ◌∷◌, length, position, Bool, true, false, not, ◌&&◌, ◌==◌, if◌then◌else◌, Option, Some, None, option_map, codes}
 use Rattle.std.specs.Str.{bytes_eq}
 use Rattle.cjc_world.specs.declared.found.Found.{Found}
-use Rattle.cjc_world.specs.Classes.{Member, Class, is_private, is_static}
+use Rattle.cjc_world.specs.Classes.{Member, Class, class_named}
+use Rattle.cjc_bytes.specs.AccessFlags.{is_private, is_static}
 use Rattle.cjc_world.specs.Kin.{Kin, End, Unknown, Known, kin, line}
 use Rattle.cjc_world.specs.Interfaces.{known, gathered}
 
@@ -57,6 +58,14 @@ own_method selecting name desc c = option_map (λ i. member_at c (length c.field
 -- The class, then its superclasses going upwards, then its interfaces in order.
 unfoldable pub find_method : List Class → (class name desc : List ℕ) → Option Found
 find_method w class name desc = or_else (first (own_method false name desc) (line w class)) (first (own_method false name desc) (known (gathered false (kin w (class ∷ [])))))
+
+abbrev pub own_of : (name desc : List ℕ) → Option Class → Option Found
+own_of name desc None = None
+own_of name desc (Some c) = own_method false name desc c
+
+-- The method of an interface: its own, else that of the first of its superinterfaces, in their order, that declares one.
+unfoldable pub method_of_interface : List Class → (interface name desc : List ℕ) → Option Found
+method_of_interface w interface name desc = or_else (own_of name desc (class_named w interface)) (first (own_method false name desc) (known (gathered false (kin w (interface ∷ [])))))
 
 abbrev pub object : List ℕ
 object = codes "java/lang/Object"

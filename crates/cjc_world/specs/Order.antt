@@ -4,7 +4,8 @@ use Rattle.std.specs.Prelude.{ℕ, zero, suc, ◌+◌, ◌==◌, List, [], ◌�
 use Rattle.std.specs.List.{list_any}
 use Rattle.std.specs.Str.{bytes_eq}
 use Rattle.cjc_world.specs.declared.found.Found.{Found}
-use Rattle.cjc_world.specs.Classes.{Member, Class, is_interface, class_named}
+use Rattle.cjc_world.specs.Classes.{Member, Class, class_named}
+use Rattle.cjc_bytes.specs.AccessFlags.{is_interface}
 use Rattle.cjc_world.specs.Lookup.{member_at}
 use Rattle.cjc_world.specs.Added.{added}
 

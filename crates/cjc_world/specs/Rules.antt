@@ -1,21 +1,22 @@
 -- The rules of a world: a predicate for each, and where each is broken.
-use Rattle.std.specs.Prelude.{◌≡◌, ◌⊎◌, ℕ, ◌+◌, ◌-◌, ◌==◌, ◌^◌, List, [], ◌∷◌, ◌++◌, map, length, take, drop, slice_get, Bool, true, false, not, ◌&&◌, ◌||◌, nat_le, nat_lt, if◌then◌else◌, Option, Some, None, position, codes}
+use Rattle.std.specs.Prelude.{ℕ, ◌+◌, ◌-◌, ◌==◌, ◌^◌, List, [], ◌∷◌, ◌++◌, map, length, take, drop, slice_get, Bool, true, false, not, ◌&&◌, ◌||◌, nat_le, nat_lt, if◌then◌else◌, Option, Some, None, position, codes}
 use Rattle.std.specs.List.{list_any, list_all}
 use Rattle.std.specs.Str.{bytes_eq}
-use Rattle.cjc_bytes.specs.declared.fault.Fault.{Fault}
-use Rattle.cjc_bytes.specs.declared.fault.Fault.TheVariants as faults
-use Rattle.cjc_bytes.specs.declared.fault.Refusal.{Refusal}
+use Rattle.cjc_bytes.specs.declared.order.FileKey.{FileKey}
+use Rattle.cjc_bytes.specs.declared.order.FileKey.TheVariants as keys
 use Rattle.cjc_bytes.specs.declared.settings.FileLine.{FileLine}
 use Rattle.cjc_bytes.specs.Descriptor.{Parts}
 use Rattle.cjc_bytes.specs.Spots.{desc_of}
 use Rattle.cjc_classfile.specs.declared.tree.ClassTree.{ClassTree}
 use Rattle.cjc_export.specs.declared.tree.ExportTree.{ExportTree}
 use Rattle.cjc_world.specs.Files.{Files}
-use Rattle.cjc_world.specs.Classes.{Member, Class, declared, numbered, size, is_interface, all_classes, class_named}
-use Rattle.cjc_world.specs.Kin.{stands_above, is_below}
+use Rattle.cjc_world.specs.Classes.{Member, Class, declared, numbered, size, all_classes, class_named}
+use Rattle.cjc_bytes.specs.AccessFlags.{is_interface}
+use Rattle.cjc_world.specs.Kin.{kin, stands, stands_above, is_below}
 use Rattle.cjc_world.specs.Lookup.{is_called, object}
 use Rattle.cjc_world.specs.Added.{added}
-use Rattle.cjc_bytes.specs.Order.{Rank, NotAfter}
+use Rattle.cjc_bytes.specs.Breaks.{Break, broken_at, class_spot, list_spot, member_spot}
+use Rattle.cjc_bytes.specs.Refused.{field_text, method_text}
 
 -- ---- 201: the name of a class of the package is not the package's name, a slash and one name part
 
@@ -96,14 +97,15 @@ lists_missing w c = list_any (λ x. is_missing w x) c.supers || list_any (λ x. 
 abbrev pub is_own_super : List Class → Class → Bool
 is_own_super w c = stands_above w c.name c.name
 
-unfoldable pub has_cycle : List Class → Bool
-has_cycle w = list_any (λ c. is_own_super w c) w
+-- some class that stands above this one is its own super; a class on a cycle stands above itself
+unfoldable pub is_under_cycle : List Class → Class → Bool
+is_under_cycle w c = list_any (λ d. stands d.name (kin w (c.supers ++ c.interfaces)) && is_own_super w d) w
 
 -- ---- 203 again: the descriptor of a method that an abstract class gets names a class that is in no file. Which
--- ---- methods a class gets is told only of a world without cycles: in any other this counts as unbroken.
+-- ---- methods a class gets is told only where no cycle is at it or above it: else this counts as unbroken.
 
 unfoldable pub gets_missing : List Class → Class → Bool
-gets_missing w c = not (has_cycle w) && list_any (λ m. is_desc_missing w m.desc) (added w c)
+gets_missing w c = not (is_under_cycle w c) && list_any (λ m. is_desc_missing w m.desc) (added w c)
 
 -- ---- 207: no export file is java/lang, or it lacks a class that is needed, or an exception is no subclass of Throwable
 
@@ -163,11 +165,6 @@ lists_wrong w c =
 
 -- ---- what is broken, and where
 
--- a broken rule: where it stands in the order, and what is told
-pub record Break : Type 0 where
-  pub rank : Rank
-  pub refusal : Refusal
-
 abbrev pub when : Bool → ℕ → List ℕ
 when true rule = rule ∷ []
 when false rule = []
@@ -190,16 +187,12 @@ class_rules package_name w c =
 unfoldable pub member_rules : List Class → Class → List Member → ℕ → (name desc : List ℕ) → List ℕ
 member_rules w c ms i name desc = when (is_twice ms i name desc) 202 ++ when (not c.is_imported && is_desc_missing w desc) 203
 
-abbrev pub at_class : ℕ → List ℕ → ℕ → List ℕ → ℕ → Break
-at_class file file_name class class_name rule = record {
-  rank = record { family = 2; file = file; class = class; member = 0; offset = 0; rule = rule };
-  refusal = record { rule = record { 0 = rule }; place = record { file = file_name; class = class_name; member = []; offset = 0 } };
-}
+abbrev pub at_class : FileKey → List ℕ → ℕ → List ℕ → ℕ → Break
+at_class file file_name class class_name rule = broken_at (class_spot (record { key = file; name = file_name }) class class_name) rule
 
--- a field is told by its name, a colon and its descriptor, a method by its name and its descriptor
 abbrev pub told : (field : Bool) → (name desc : List ℕ) → List ℕ
-told true name desc = name ++ 58 ∷ desc
-told false name desc = name ++ desc
+told true name desc = field_text name desc
+told false name desc = method_text name desc
 
 -- the fields or the methods of a class, and how many members are counted before them
 abbrev pub members : (field : Bool) → Class → List Member
@@ -210,35 +203,32 @@ abbrev pub members_before : (field : Bool) → Class → ℕ
 members_before true c = 0
 members_before false c = length c.fields
 
-abbrev pub at_member : ℕ → List ℕ → ℕ → List ℕ → ℕ → List ℕ → ℕ → Break
-at_member file file_name class class_name member text rule = record {
-  rank = record { family = 2; file = file; class = class; member = member; offset = 0; rule = rule };
-  refusal = record { rule = record { 0 = rule }; place = record { file = file_name; class = class_name; member = text; offset = 0 } };
-}
+abbrev pub at_member : FileKey → List ℕ → ℕ → List ℕ → ℕ → List ℕ → ℕ → Break
+at_member file file_name class class_name member text rule = broken_at (member_spot (record { key = file; name = file_name }) class class_name member text 0) rule
 
 -- of the fields or the methods of a class from a place on
-unfoldable pub members_from : ℕ → List ℕ → ℕ → List Class → Class → (field : Bool) → ℕ → List Member → List Break
+unfoldable pub members_from : FileKey → List ℕ → ℕ → List Class → Class → (field : Bool) → ℕ → List Member → List Break
 members_from file file_name class w c field i [] = []
 members_from file file_name class w c field i (m ∷ rest) =
     map (λ rule. at_member file file_name class c.name (members_before field c + i + 1) (told field m.name m.desc) rule) (member_rules w c (members field c) i m.name m.desc)
     ++ members_from file file_name class w c field (i + 1) rest
 
-unfoldable pub class_breaks : List ℕ → ℕ → List ℕ → ℕ → List Class → Class → List Break
+unfoldable pub class_breaks : List ℕ → FileKey → List ℕ → ℕ → List Class → Class → List Break
 class_breaks package_name file file_name class w c =
     map (λ rule. at_class file file_name class c.name rule) (class_rules package_name w c)
     ++ members_from file file_name class w c true 0 c.fields
     ++ members_from file file_name class w c false 0 c.methods
 
-unfoldable pub classes_breaks : List ℕ → ℕ → List ℕ → ℕ → List Class → List Class → List Break
+unfoldable pub classes_breaks : List ℕ → FileKey → List ℕ → ℕ → List Class → List Class → List Break
 classes_breaks package_name file file_name class w [] = []
 classes_breaks package_name file file_name class w (c ∷ cs) =
     class_breaks package_name file file_name class w c ++ classes_breaks package_name file file_name (class + 1) w cs
 
-abbrev pub class_file_breaks : Files → ℕ → List ℕ → List Class → ℕ → Option ClassTree → List Break
+abbrev pub class_file_breaks : Files → FileKey → List ℕ → List Class → ℕ → Option ClassTree → List Break
 class_file_breaks files file file_name w number None = []
 class_file_breaks files file file_name w number (Some c) = class_breaks files.package_name file file_name 1 w (declared number c)
 
-abbrev pub export_file_breaks : Files → ℕ → List ℕ → List Class → (export_file number : ℕ) → Option ExportTree → List Break
+abbrev pub export_file_breaks : Files → FileKey → List ℕ → List Class → (export_file number : ℕ) → Option ExportTree → List Break
 export_file_breaks files file file_name w e number None = []
 export_file_breaks files file file_name w e number (Some t) =
     map (λ rule. at_class file file_name 0 [] rule) (when (is_second_package files e t) 202)
@@ -249,25 +239,11 @@ unfoldable pub breaks_from : Files → List Class → (file class_files export_f
 breaks_from files w k c e i [] = []
 breaks_from files w k c e i (line ∷ lines) =
     if line.class_file
-    then class_file_breaks files (k + 1) line.name w c (slice_get files.classes c) ++ breaks_from files w (k + 1) (c + 1) e i lines
-    else export_file_breaks files (k + 1) line.name w e i (slice_get files.exports e) ++ breaks_from files w (k + 1) c (e + 1) (i + size (slice_get files.exports e)) lines
+    then class_file_breaks files (keys.Line k) line.name w c (slice_get files.classes c) ++ breaks_from files w (k + 1) (c + 1) e i lines
+    else export_file_breaks files (keys.Line k) line.name w e i (slice_get files.exports e) ++ breaks_from files w (k + 1) c (e + 1) (i + size (slice_get files.exports e)) lines
 
 -- All that is broken of 201, 202, 203, 204, 207 and 208; the list's name is that of the file.
 unfoldable pub breaks : (list : List ℕ) → Files → List Break
 breaks list files =
-    map (λ rule. at_class 0 list 0 [] rule) (when (not (has_language (all_classes files) files.exports)) 207)
+    map (λ rule. broken_at (list_spot list) rule) (when (not (has_language (all_classes files) files.exports)) 207)
     ++ breaks_from files (all_classes files) 0 0 0 0 files.lines
-
--- one of a list
-pub data Among (b : Break) : List Break → Type 0 where
-  foremost : {bs : List Break} → Among b (b ∷ bs)
-  after : {a : Break} {bs : List Break} → Among b bs → Among b (a ∷ bs)
-
--- The break is one of these, and no other stands before it.
-pub record IsFirst (b : Break) (bs : List Break) : Type 0 where
-  pub among : Among b bs
-  pub least : (a : Break) → Among a bs → NotAfter b.rank a.rank
-
--- The error is the refusal of the first break, or that memory ran out.
-abbrev pub IsFirstRefusal : List Break → Fault → Type 0
-IsFirstRefusal bs e = (e ≡ faults.NoMemory) ⊎ ((b : Break) × IsFirst b bs × (e ≡ faults.Refused b.refusal))

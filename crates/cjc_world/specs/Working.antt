@@ -7,4 +7,3 @@ pub mod Known
 pub mod Spots
 pub mod Steps
 pub mod Drafts
-pub mod Broken

@@ -1,13 +1,14 @@
 //! The methods that abstract classes get from their interfaces.
 
-ghost use Rattle.std.specs.Prelude.{◌≡◌, ◌<◌, ◌&&◌, ℕ, IfOk, OnOk, length, map, slice_get, Some};
+ghost use Rattle.std.specs.Prelude.{◌≡◌, ◌&&◌, ℕ, IfOk, OnOk, true, length, map, slice_get, Some};
 ghost use Rattle.std.specs.List.{list_any};
 ghost use Rattle.std.specs.Str.{bytes_eq};
 ghost use Rattle.cjc_world.specs.Added.{added, added_at, is_one_of, named_by, own_methods};
 ghost use Rattle.cjc_world.specs.Working.Asked.{got, got_all, got_one, has_id, is_asked_at, is_had, is_open_at};
 ghost use Rattle.cjc_world.specs.Classes.{all_classes};
 ghost use Rattle.cjc_world.specs.Working.Known.{class_of};
-ghost use Rattle.cjc_world.specs.Working.Tables.{IsTable};
+ghost use Rattle.cjc_world.specs.Working.Drafts.{is_number_ready};
+ghost use Rattle.cjc_world.specs.Working.Tables.{are_ready, IsPart};
 
 use crate::class::Known;
 use crate::roster::Roster;
@@ -92,7 +93,7 @@ impl<'a> Roster<'a> {
     }
 
     /// Whether a class has such a method, or one of its superclasses, whose places these are.
-    #[tactic(auto, unfolding(crate::specs::Asked::is_had))]
+    #[tactic(auto, unfolding(crate::specs::Working::Asked::is_had))]
     fn is_had(
         &self,
         rows: &[Option<Above>],
@@ -107,7 +108,7 @@ impl<'a> Roster<'a> {
     }
 
     /// Puts a method at the end, where the class neither has it nor got it yet.
-    #[tactic(auto, unfolding(crate::specs::Asked::got_one))]
+    #[tactic(auto, unfolding(crate::specs::Working::Asked::got_one))]
     fn get_one(
         &self,
         alloc: Global,
@@ -174,7 +175,8 @@ impl<'a> Roster<'a> {
         rows: &[Option<Above>],
         class: Known<'_, 'a>,
     ) -> Result<Row<MemberId>, NoMemory>
-        requires { IsTable (all_classes self.now) rows.now }
+        requires part { IsPart (all_classes self.now) rows.now }
+        requires ready { are_ready (all_classes self.now) rows.now (class_of class) ≡ true }
         ensures { IfOk result (λ row. row ≡ map (named_by (class_of class.entry).name) (added (all_classes self.now) (class_of class.entry))) }
     {
         let mut ids = Vec::new(alloc);
@@ -193,20 +195,37 @@ impl<'a> Roster<'a> {
         Ok(Row::of(ids))
     }
 
-    /// What each class of the package gets.
+    /// The same where the rows of all that the class lists are there, and else nothing.
+    fn added_where_ready(
+        &self,
+        alloc: Global,
+        rows: &[Option<Above>],
+        class: Known<'_, 'a>,
+    ) -> Result<Row<MemberId>, NoMemory>
+        requires { IsPart (all_classes self.now) rows.now }
+        ensures { IfOk result (λ row. are_ready (all_classes self.now) rows.now (class_of class.entry) ≡ true → row ≡ map (named_by (class_of class.entry).name) (added (all_classes self.now) (class_of class.entry))) }
+    {
+        if self.are_ready(rows, class) {
+            self.added_row(alloc, rows, class)
+        } else {
+            Ok(Row::new(alloc))
+        }
+    }
+
+    /// What each class of the package gets, where no cycle is at it or above it.
     pub(crate) fn added_rows(
         &self,
         alloc: Global,
         rows: &[Option<Above>],
     ) -> Result<Row<Row<MemberId>>, NoMemory>
-        requires { IsTable (all_classes self.now) rows.now }
+        requires { IsPart (all_classes self.now) rows.now }
         ensures count { IfOk result (λ added. length added ≡ length self.now.classes) }
-        ensures added { IfOk result (λ added. (i : ℕ) → i < length self.now.classes → slice_get added i ≡ Some (added_at self.now i)) }
+        ensures added { IfOk result (λ added. (i : ℕ) → is_number_ready self.now rows.now i ≡ true → slice_get added i ≡ Some (added_at self.now i)) }
     {
         let mut added = Vec::new(alloc);
         for place in 0..self.class_count()? {
             let class = Known::Declared(place, &self.classes().items()[place as usize]);
-            added.push(self.added_row(alloc, rows, class)?)?;
+            added.push(self.added_where_ready(alloc, rows, class)?)?;
         }
         Ok(Row::of(added))
     }

@@ -30,36 +30,32 @@ fn are_same(left: &[bool], right: &[bool]) -> bool
     left == right
 }
 
-fn name_stands_at(
-    known: &[bool],
-    by_supers: bool,
-    name: &[u8],
-    other: &[u8],
-    place: Option<u32>,
-) -> bool
-    ensures { result ≡ name_stands_at by_supers name.now known.now other.now place }
+fn name_stands_at(known: &[bool], name: &[u8], other: &[u8], place: Option<u32>) -> bool
+    ensures { result ≡ name_stands_at name.now known.now other.now place }
 {
     match place {
         Some(place) => match known.get(place as usize) {
             Some(stands) => *stands,
             None => false,
         },
-        None => !by_supers && other == name,
+        None => other == name,
     }
 }
 
 impl<'a> Roster<'a> {
-    fn name_stands(&self, known: &[bool], by_supers: bool, name: &[u8], other: &[u8]) -> bool
-        ensures { result ≡ name_stands (all_classes self.now) by_supers name.now known.now other.now }
+    fn name_stands(&self, known: &[bool], name: &[u8], other: &[u8]) -> bool
+        ensures { result ≡ name_stands (all_classes self.now) name.now known.now other.now }
     {
-        name_stands_at(known, by_supers, name, other, self.place_named(other))
+        name_stands_at(known, name, other, self.place_named(other))
     }
 
-    #[tactic(auto, unfolding(crate::specs::Steps::any_stands))]
-    fn any_stands(&self, known: &[bool], by_supers: bool, name: &[u8], others: &[Bytes]) -> bool
-        ensures { result ≡ any_stands (all_classes self.now) by_supers name.now known.now others.now }
+    #[tactic(auto, unfolding(crate::specs::Working::Steps::any_stands))]
+    fn any_stands(&self, known: &[bool], name: &[u8], others: &[Bytes]) -> bool
+        ensures { result ≡ any_stands (all_classes self.now) name.now known.now others.now }
     {
-        others.iter().any(|other| self.name_stands(known, by_supers, name, other.items()))
+        others
+            .iter()
+            .any(|other| self.name_stands(known, name, other.items()))
     }
 
     /// Whether the name stands above the class at a place or is its name, one step further.
@@ -69,8 +65,8 @@ impl<'a> Roster<'a> {
         match self.class_in(place) {
             Some(class) => {
                 class.name() == name
-                    || self.any_stands(known, by_supers, name, class.supers())
-                    || (!by_supers && self.any_stands(known, by_supers, name, class.interfaces()))
+                    || self.any_stands(known, name, class.supers())
+                    || (!by_supers && self.any_stands(known, name, class.interfaces()))
             }
             None => false,
         }
@@ -102,7 +98,7 @@ impl<'a> Roster<'a> {
         Ok(next)
     }
 
-    /// Whether the name stands above each class or is its name; by supers alone, whether it is that of a superclass.
+    /// Whether the name stands above each class or is its name, over supers and interfaces or by supers alone.
     fn standing(&self, alloc: Global, by_supers: bool, name: &[u8]) -> Result<Vec<bool>, NoMemory>
         ensures { IfOk result (λ known. IsDone (all_classes self.now) by_supers name.now known.items) }
     {
@@ -119,10 +115,10 @@ impl<'a> Roster<'a> {
 
     /// Whether one of the classes that a class lists is it or stands below it.
     fn is_listed_below(&self, known: &[bool], class: Known<'_, 'a>) -> bool
-        ensures { let c = class_of class.entry in result ≡ (any_stands (all_classes self.now) false c.name known.now c.supers || any_stands (all_classes self.now) false c.name known.now c.interfaces) }
+        ensures { let c = class_of class.entry in result ≡ (any_stands (all_classes self.now) c.name known.now c.supers || any_stands (all_classes self.now) c.name known.now c.interfaces) }
     {
-        self.any_stands(known, false, class.name(), class.supers())
-            || self.any_stands(known, false, class.name(), class.interfaces())
+        self.any_stands(known, class.name(), class.supers())
+            || self.any_stands(known, class.name(), class.interfaces())
     }
 
     /// Whether the class at a place is its own super.
@@ -170,7 +166,7 @@ impl<'a> Roster<'a> {
     {
         match self.place_named(class) {
             Some(place) => is_set(cycles.below.items(), place),
-            None => false,
+            None => class == THROWABLE,
         }
     }
 }

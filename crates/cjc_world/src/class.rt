@@ -3,7 +3,8 @@
 ghost use Rattle.std.specs.Prelude.{◌≡◌, ◌<◌, ◌+◌, ◌^◌, ◌&&◌, ◌==◌, get_or, length, MatchOption, None, Some, option_map, position, slice_get};
 ghost use Rattle.std.specs.Str.{bytes_eq};
 ghost use Rattle.std.specs.List.{find, list_any};
-ghost use Rattle.cjc_world.specs.Classes.{Member, has, is_interface};
+ghost use Rattle.cjc_world.specs.Classes.{Member};
+ghost use Rattle.cjc_bytes.specs.AccessFlags.{is_interface};
 ghost use Rattle.cjc_world.specs.Added.{declares_open, is_open, takes_added};
 ghost use Rattle.cjc_world.specs.Working.Asked.{IsNamed, asked, positioned};
 ghost use Rattle.cjc_classfile.specs.declared.tree.MethodTree.{MethodTree as ClassMethod};
@@ -13,7 +14,7 @@ ghost use Rattle.cjc_world.specs.Working.Known.{class_of};
 ghost use Rattle.cjc_world.specs.Lookup.{is_called, is_selectable, is_wanted, member_at, own_field, own_method};
 
 use crate::found::Found;
-use cjc_bytes::Bytes;
+use cjc_bytes::{Bytes, is_abstract, is_interface, is_private, is_protected, is_public, is_static};
 use cjc_classfile::{ClassTree, FieldTree, MethodTree};
 use cjc_export::{ExportClass, ExportField, ExportMethod};
 use std::slice;
@@ -29,18 +30,11 @@ pub enum Known<'w, 'a> {
     Imported(u32, &'w ExportClass),
 }
 
-/// Whether access flags have one (Java Virtual Machine Specification, sections 4.1, 4.5 and 4.6).
-pub fn has(flags: u16, flag: u16) -> bool
-    ensures { result ≡ has flags flag }
-{
-    flags & flag > 0
-}
-
 /// Whether a method is neither private nor static.
 fn is_selectable(flags: u16) -> bool
     ensures { result ≡ is_selectable flags }
 {
-    !has(flags, 0x0002) && !has(flags, 0x0008)
+    !is_private(flags) && !is_static(flags)
 }
 
 fn is_wanted(selecting: bool, flags: u16) -> bool
@@ -70,7 +64,7 @@ fn export_opens(methods: &[ExportMethod], name: &[u8], desc: &[u8]) -> bool
 fn is_open(flags: u16) -> bool
     ensures { result ≡ is_open flags }
 {
-    (has(flags, 0x0001) || has(flags, 0x0004)) && !has(flags, 0x0008)
+    (is_public(flags) || is_protected(flags)) && !is_static(flags)
 }
 
 fn class_method_at<'w>(
@@ -185,8 +179,8 @@ impl<'w, 'a> Known<'w, 'a> {
         ensures { result ≡ is_interface (class_of self.entry).flags }
     {
         match self {
-            Known::Declared(_, class) => has(class.flags, 0x0200),
-            Known::Imported(_, class) => has(class.flags, 0x0200),
+            Known::Declared(_, class) => is_interface(class.flags),
+            Known::Imported(_, class) => is_interface(class.flags),
         }
     }
 
@@ -310,7 +304,7 @@ impl<'w, 'a> Known<'w, 'a> {
         ensures { result ≡ takes_added (class_of self.entry) }
     {
         match self {
-            Known::Declared(_, class) => has(class.flags, 0x0400) && !has(class.flags, 0x0200),
+            Known::Declared(_, class) => is_abstract(class.flags) && !is_interface(class.flags),
             Known::Imported(..) => false,
         }
     }

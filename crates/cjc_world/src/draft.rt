@@ -1,20 +1,26 @@
 //! A world whose rules are not tested yet.
 
-ghost use Rattle.std.specs.Prelude.{◌≡◌, [], IfSome, IfNone, IfOk};
-ghost use Rattle.cjc_world.specs.Rules.{breaks, IsFirstRefusal};
+ghost use Rattle.std.specs.Prelude.{◌≡◌, ℕ, [], true, is_some, length, slice_get, IfSome, IfNone, IfOk, MatchOption, Some};
+ghost use Rattle.std.specs.List.{list_all};
+ghost use Rattle.cjc_world.specs.Added.{added_at};
+ghost use Rattle.cjc_world.specs.Classes.{all_classes};
+ghost use Rattle.cjc_world.specs.Kin.{IsAcyclic};
+ghost use Rattle.cjc_bytes.specs.Breaks.{IsFirstRefusal};
+ghost use Rattle.cjc_world.specs.Rules.{breaks};
+ghost use Rattle.cjc_world.specs.Working.Drafts.{AreTables, is_number_ready};
+ghost use Rattle.cjc_world.specs.Working.Steps.{AreCycles};
+ghost use Rattle.cjc_world.specs.Working.Tables.{IsPart};
 
-use crate::broken::refused;
 use crate::circular::Cycles;
 use crate::roster::Roster;
-use crate::tables::Above;
-use cjc_bytes::{Fault, FileLine, MemberId, NoMemory, Row};
+use crate::tables::{Above, all_there};
+use cjc_bytes::{Fault, FileLine, MemberId, NoMemory, Row, refused_at};
 use cjc_classfile::ClassTree;
 use cjc_export::ExportTree;
 use std::alloc::Global;
 use std::marker::Model;
 
-/// What is kept of the classes where no class is its own super.
-#[derive(Drop)]
+/// What is kept of the classes that have no cycle at them or above them.
 pub(crate) struct Tables {
     /// Of each class what stands above it, in the order of the list.
     pub above: Row<Option<Above>>,
@@ -22,20 +28,31 @@ pub(crate) struct Tables {
     pub added: Row<Row<MemberId>>,
 }
 
-/// What is kept beside the classes.
-#[derive(Drop)]
-pub(crate) enum Kept {
-    /// Where no class is its own super.
-    Tables(Tables),
-    /// Where a class is.
-    Cycles(Cycles),
+impl Drop for Tables {
+    fn drop(self) {
+        let Tables {
+            above: _above,
+            added: _added,
+        } = self;
+    }
 }
 
 /// The classes, with what is kept of them.
-#[derive(Drop)]
 pub(crate) struct Draft<'a> {
     pub roster: Roster<'a>,
-    pub kept: Kept,
+    pub tables: Tables,
+    /// Where a class is its own super.
+    pub cycles: Option<Cycles>,
+}
+
+impl Drop for Draft<'_> {
+    fn drop(self) {
+        let Draft {
+            roster: _roster,
+            tables: _tables,
+            cycles: _cycles,
+        } = self;
+    }
 }
 
 impl<'a> Model for Draft<'a> {
@@ -46,21 +63,60 @@ impl<'a> Model for Draft<'a> {
 
     ghost view = { λ d. d.roster };
 
-    ghost invariant = { λ d. IsKept d.roster d.kept };
+    ghost invariant = { λ d. IsKept d.roster d.tables d.cycles };
+}
+
+/// What stands above each class, and what each gets.
+fn tables_of(alloc: Global, roster: &Roster<'_>) -> Result<Tables, NoMemory>
+    ensures part { IfOk result (λ t. IsPart (all_classes roster.now) t.above) }
+    ensures all { IfOk result (λ t. list_all is_some t.above ≡ true → IsAcyclic (all_classes roster.now)) }
+    ensures count { IfOk result (λ t. length t.added ≡ length roster.now.classes) }
+    ensures added { IfOk result (λ t. (i : ℕ) → is_number_ready roster.now t.above i ≡ true → slice_get t.added i ≡ Some (added_at roster.now i)) }
+{
+    let above = roster.above_all(alloc)?;
+    let added = roster.added_rows(alloc, above.items())?;
+    Ok(Tables { above, added })
+}
+
+/// What the rules ask of cycles, or None where all rows are there, so that there is none.
+fn cycles_of(
+    alloc: Global,
+    roster: &Roster<'_>,
+    rows: &[Option<Above>],
+) -> Result<Option<Cycles>, NoMemory>
+    ensures { IfOk result (λ o. MatchOption o (list_all is_some rows.now ≡ true) (λ c. AreCycles (all_classes roster.now) c)) }
+{
+    if all_there(rows) {
+        Ok(None)
+    } else {
+        Ok(Some(roster.cycles(alloc)?))
+    }
 }
 
 impl<'a> Draft<'a> {
     pub(crate) fn new(alloc: Global, roster: Roster<'a>) -> Result<Draft<'a>, NoMemory>
         ensures { IfOk result (λ d. d ≡ roster.entry) }
     {
-        let kept = match roster.above_all(alloc)? {
-            Some(above) => {
-                let added = roster.added_rows(alloc, above.items())?;
-                Kept::Tables(Tables { above, added })
-            }
-            None => Kept::Cycles(roster.cycles(alloc)?),
-        };
-        Ok(Draft { roster, kept })
+        let tables = tables_of(alloc, &roster)?;
+        let cycles = cycles_of(alloc, &roster, tables.above.items())?;
+        Ok(Draft {
+            roster,
+            tables,
+            cycles,
+        })
+    }
+
+    /// The classes, with what is kept of them where there is no cycle.
+    pub(crate) fn into_parts(self) -> (Roster<'a>, Tables)
+        ensures roster { result.0 ≡ self.entry }
+        ensures tables { IsAcyclic (all_classes self.entry) → AreTables self.entry result.1 }
+    {
+        let Draft {
+            roster,
+            tables,
+            cycles: _cycles,
+        } = self;
+        (roster, tables)
     }
 
     pub(crate) fn classes(&self) -> &Row<ClassTree<'a>>
@@ -88,7 +144,7 @@ impl<'a> Draft<'a> {
     {
         match self.first_broken(list) {
             Ok(None) => None,
-            Ok(Some(broken)) => Some(refused(alloc, broken)),
+            Ok(Some(broken)) => Some(refused_at(alloc, broken.rule, broken.spot.place)),
             Err(NoMemory) => Some(Fault::NoMemory),
         }
     }

@@ -3,7 +3,6 @@
 #![tactic(auto)]
 
 mod added;
-mod broken;
 mod circular;
 mod class;
 mod draft;
@@ -18,7 +17,7 @@ mod spot;
 mod tables;
 mod world;
 
-pub use class::{Known, has};
+pub use class::Known;
 pub use found::Found;
 pub use image::{ArrayCell, StaticImage, ValueCell};
 pub use laws::{lookup_laws, subtype_laws};

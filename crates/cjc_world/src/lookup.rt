@@ -3,14 +3,14 @@
 ghost use Rattle.std.specs.Prelude.{◌≡◌, ◌||◌, ◌∷◌, [], false, slice_get};
 ghost use Rattle.std.specs.List.{list_any};
 ghost use Rattle.std.specs.Str.{bytes_eq};
-ghost use Rattle.cjc_world.specs.Classes.{all_classes};
-ghost use Rattle.cjc_world.specs.Interfaces.{gathered, known};
+ghost use Rattle.cjc_world.specs.Classes.{all_classes, class_named};
+ghost use Rattle.cjc_world.specs.Interfaces.{gathered, has_interface, known};
 ghost use Rattle.cjc_world.specs.Kin.{is_below, kin, line};
 ghost use Rattle.cjc_world.specs.Working.Known.{class_of};
-ghost use Rattle.cjc_world.specs.Lookup.{find_field, find_method, first, own_method};
+ghost use Rattle.cjc_world.specs.Lookup.{find_field, find_method, first, method_of_interface, own_method, own_of};
 ghost use Rattle.cjc_world.specs.Subtype.{is_subclass};
 ghost use Rattle.cjc_world.specs.Working.Tables.{IsTable};
-ghost use Rattle.cjc_world.specs.Working.Places.{field_of, first_place, has_name, method_of, names, names_of};
+ghost use Rattle.cjc_world.specs.Working.Places.{field_of, first_place, has_name, method_of, names, names_of, names_super, names_super_of};
 
 use crate::class::Known;
 use crate::found::Found;
@@ -29,6 +29,13 @@ fn is_naming(class: Known<'_, '_>, name: &[u8]) -> bool
     ensures { result ≡ names name.now (class_of class.entry) }
 {
     class.name() == name || (any_is(class.supers(), name) || any_is(class.interfaces(), name))
+}
+
+/// Whether a class has the name or lists it as a super.
+fn is_naming_super(class: Known<'_, '_>, name: &[u8]) -> bool
+    ensures { result ≡ names_super name.now (class_of class.entry) }
+{
+    class.name() == name || any_is(class.supers(), name)
 }
 
 impl<'a> Roster<'a> {
@@ -64,6 +71,15 @@ impl<'a> Roster<'a> {
     {
         match self.class_in(place) {
             Some(class) => is_naming(class, name),
+            None => false,
+        }
+    }
+
+    fn is_naming_super(&self, place: u32, name: &[u8]) -> bool
+        ensures { result ≡ names_super_of name.now (slice_get (all_classes self.now) place) }
+    {
+        match self.class_in(place) {
+            Some(class) => is_naming_super(class, name),
             None => false,
         }
     }
@@ -112,6 +128,15 @@ impl<'a> Roster<'a> {
         places.iter().any(|place| self.is_naming(*place, name))
     }
 
+    /// Whether one of these classes has the name or lists it as a super.
+    pub(crate) fn any_naming_super(&self, places: &[u32], name: &[u8]) -> bool
+        ensures { result ≡ list_any (λ p. names_super_of name.now (slice_get (all_classes self.now) p)) places.now }
+    {
+        places
+            .iter()
+            .any(|place| self.is_naming_super(*place, name))
+    }
+
     /// Whether a class is another or stands below it.
     pub(crate) fn is_subclass(&self, rows: &[Option<Above>], sub: &[u8], sup: &[u8]) -> bool
         requires { IsTable (all_classes self.now) rows.now }
@@ -123,13 +148,29 @@ impl<'a> Roster<'a> {
         }
     }
 
-    /// Whether a class is a superclass of another, or the class itself.
+    /// Whether a name is that of a class or of a superclass of it, one of no file too.
     pub(crate) fn is_below(&self, rows: &[Option<Above>], sub: &[u8], sup: &[u8]) -> bool
         requires { IsTable (all_classes self.now) rows.now }
         ensures { result ≡ is_below (all_classes self.now) sub.now sup.now }
     {
         match self.place_named(sub) {
-            Some(place) => self.any_has_name(row_at(rows, Order::Line, place), sup),
+            Some(place) => self.any_naming_super(row_at(rows, Order::Line, place), sup),
+            None => sub == sup,
+        }
+    }
+
+    /// Whether the class of a name is one of the interfaces of another.
+    pub(crate) fn has_interface(
+        &self,
+        rows: &[Option<Above>],
+        class: &[u8],
+        interface: &[u8],
+    ) -> bool
+        requires { IsTable (all_classes self.now) rows.now }
+        ensures { result ≡ has_interface (all_classes self.now) class.now interface.now }
+    {
+        match self.place_named(class) {
+            Some(place) => self.any_has_name(row_at(rows, Order::Interfaces, place), interface),
             None => false,
         }
     }
@@ -190,6 +231,34 @@ impl<'a> Roster<'a> {
                 self.first_method(row_at(rows, Order::Interfaces, place), false, name, desc)
             }
             None => None,
+        }
+    }
+
+    /// A class's own method.
+    fn own_of(&self, class: &[u8], name: &[u8], desc: &[u8]) -> Option<Found>
+        ensures { result ≡ own_of name.now desc.now (class_named (all_classes self.now) class.now) }
+    {
+        match self.class_named(class) {
+            Some(class) => class.method(false, name, desc),
+            None => None,
+        }
+    }
+
+    /// The method of an interface: its own, else that of the first of its superinterfaces that declares one.
+    #[tactic(auto, unfolding(crate::specs::Lookup::method_of_interface))]
+    pub(crate) fn method_of_interface(
+        &self,
+        rows: &[Option<Above>],
+        interface: &[u8],
+        name: &[u8],
+        desc: &[u8],
+    ) -> Option<Found>
+        requires { IsTable (all_classes self.now) rows.now }
+        ensures { result ≡ method_of_interface (all_classes self.now) interface.now name.now desc.now }
+    {
+        match self.own_of(interface, name, desc) {
+            Some(found) => Some(found),
+            None => self.interface_method(rows, interface, name, desc),
         }
     }
 

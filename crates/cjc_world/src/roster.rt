@@ -25,7 +25,6 @@ use std::alloc::Global;
 use std::marker::Model;
 
 /// A package with the export files that it stands on, before any rule is tested.
-#[derive(Drop)]
 pub(crate) struct Roster<'a> {
     package: Bytes,
     lines: Row<FileLine>,
@@ -33,6 +32,19 @@ pub(crate) struct Roster<'a> {
     exports: Row<ExportTree>,
     spots: Row<Spot>,
     names: Names,
+}
+
+impl Drop for Roster<'_> {
+    fn drop(self) {
+        let Roster {
+            package: _package,
+            lines: _lines,
+            classes: _classes,
+            exports: _exports,
+            spots: _spots,
+            names: _names,
+        } = self;
+    }
 }
 
 impl<'a> Model for Roster<'a> {

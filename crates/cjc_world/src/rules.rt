@@ -2,23 +2,23 @@
 //! the first that is met, since files, classes and members are walked in the order of refusals.
 
 ghost use Rattle.std.specs.Prelude.{◌≡◌, ◌<◌, ◌^◌, ◌+◌, ◌||◌, IfOk, length, slice_get, [], ◌∷◌, ◌++◌, not, option_map};
-ghost use Rattle.cjc_world.specs.Working.Broken.{break_of, member_of, text_of};
+ghost use Rattle.cjc_bytes.specs.Told.{break_of, text_of};
 ghost use Rattle.std.specs.List.{list_any, list_all};
 ghost use Rattle.std.specs.Str.{bytes_eq};
-ghost use Rattle.cjc_world.specs.Classes.{all_classes, class_named, is_interface, numbered};
+ghost use Rattle.cjc_world.specs.Classes.{all_classes, class_named, numbered};
+ghost use Rattle.cjc_bytes.specs.AccessFlags.{is_interface};
 ghost use Rattle.cjc_world.specs.Working.Drafts.{IsHeld};
 ghost use Rattle.cjc_world.specs.Kin.{is_below, stands_above};
 ghost use Rattle.cjc_world.specs.Working.Known.{class_of};
 ghost use Rattle.cjc_world.specs.Lookup.{object};
 ghost use Rattle.cjc_world.specs.Rules.{breaks, breaks_from, class_breaks, class_file_breaks, classes_breaks, export_file_breaks, is_second_package, class_rules, is_earlier, member_rules, members, members_before, members_from, told, gets_missing, has_array_exceptions, has_class, has_exception, has_language, has_needed, has_other_exceptions, has_roots, head, is_class_of, is_desc_missing, is_element_missing, is_interface_of, is_missing, is_of_class_file, is_of_package, is_part, is_part_byte, is_second, is_slash_part, is_type_missing, lists_missing, lists_wrong, same_place, throwable};
 
-use crate::broken::{Break, Part};
 use crate::class::Known;
-use crate::draft::{Draft, Kept};
+use crate::draft::Draft;
 use crate::roster::Roster;
 use crate::spot::{size, sum};
 use crate::world::OBJECT;
-use cjc_bytes::{Bytes, Desc, MemberId, NoMemory};
+use cjc_bytes::{Break, Bytes, Desc, FileKey, MemberId, NoMemory, Part, PlaceRef, Spot};
 use cjc_export::{ExportClass, ExportTree};
 
 const LANGUAGE: &[u8] = b"java/lang";
@@ -265,7 +265,7 @@ impl<'a> Roster<'a> {
     /// The first rule that a field, or a method, of a class breaks.
     fn member_break<'w>(
         &'w self,
-        file: usize,
+        file: FileKey,
         file_name: &'w [u8],
         class: usize,
         known: Known<'w, 'a>,
@@ -278,11 +278,17 @@ impl<'a> Roster<'a> {
             if let Some(rule) = self.member_rule(known, field, place, name, desc) {
                 return Some(Break {
                     rule,
-                    file,
-                    file_name,
-                    class,
-                    class_name: known.name(),
-                    part: part(known, field, place, name, desc),
+                    spot: Spot {
+                        file,
+                        class,
+                        member: member_number(known, field, place),
+                        place: PlaceRef {
+                            file: file_name,
+                            class: known.name(),
+                            part: part(field, name, desc),
+                            offset: 0,
+                        },
+                    },
                 });
             }
         }
@@ -312,14 +318,11 @@ impl<'a> Draft<'a> {
         requires { IsHeld self.now class }
         ensures { result ≡ gets_missing (all_classes self.now) (class_of class.entry) }
     {
-        let tables = match &self.kept {
-            Kept::Tables(tables) => tables,
-            Kept::Cycles(_) => return false,
-        };
         match class {
             Known::Declared(number, _) => {
-                let added = tables.added.items();
-                any_desc_missing(&self.roster, added[number as usize].items())
+                let added = self.tables.added.items();
+                self.roster.are_ready(self.tables.above.items(), class)
+                    && any_desc_missing(&self.roster, added[number as usize].items())
             }
             Known::Imported(..) => false,
         }
@@ -352,9 +355,9 @@ impl<'a> Draft<'a> {
     fn is_own_super(&self, class: &[u8]) -> bool
         ensures { result ≡ stands_above (all_classes self.now) class.now class.now }
     {
-        match &self.kept {
-            Kept::Tables(_) => false,
-            Kept::Cycles(cycles) => self.roster.is_own_super(cycles, class),
+        match &self.cycles {
+            None => false,
+            Some(cycles) => self.roster.is_own_super(cycles, class),
         }
     }
 
@@ -362,9 +365,11 @@ impl<'a> Draft<'a> {
     fn is_throwable(&self, class: &[u8]) -> bool
         ensures { result ≡ is_below (all_classes self.now) class.now throwable }
     {
-        match &self.kept {
-            Kept::Tables(tables) => self.roster.is_below(tables.above.items(), class, THROWABLE),
-            Kept::Cycles(cycles) => self.roster.is_throwable(cycles, class),
+        match &self.cycles {
+            None => self
+                .roster
+                .is_below(self.tables.above.items(), class, THROWABLE),
+            Some(cycles) => self.roster.is_throwable(cycles, class),
         }
     }
 
@@ -414,7 +419,7 @@ impl<'a> Draft<'a> {
     /// The first rule that a field, or a method, of a class breaks.
     fn member_break<'w>(
         &'w self,
-        file: usize,
+        file: FileKey,
         file_name: &'w [u8],
         class: usize,
         known: Known<'w, 'a>,
@@ -429,7 +434,7 @@ impl<'a> Draft<'a> {
     /// The first rule that a class or its members break.
     fn class_break<'w>(
         &'w self,
-        file: usize,
+        file: FileKey,
         file_name: &'w [u8],
         class: usize,
         known: Known<'w, 'a>,
@@ -440,11 +445,17 @@ impl<'a> Draft<'a> {
         if let Some(rule) = self.class_rule(known) {
             return Some(Break {
                 rule,
-                file,
-                file_name,
-                class,
-                class_name: known.name(),
-                part: Part::Whole,
+                spot: Spot {
+                    file,
+                    class,
+                    member: 0,
+                    place: PlaceRef {
+                        file: file_name,
+                        class: known.name(),
+                        part: Part::Whole,
+                        offset: 0,
+                    },
+                },
             });
         }
         if let Some(broken) = self.member_break(file, file_name, class, known, true) {
@@ -456,7 +467,7 @@ impl<'a> Draft<'a> {
     /// The first rule that these classes of an export file or their members break, the first of them numbered so.
     fn classes_break<'w>(
         &'w self,
-        file: usize,
+        file: FileKey,
         file_name: &'w [u8],
         number: u32,
         classes: &'w [ExportClass],
@@ -477,7 +488,7 @@ impl<'a> Draft<'a> {
     #[tactic(auto, unfolding(crate::specs::Rules::head))]
     fn class_file_break<'w>(
         &'w self,
-        file: usize,
+        file: FileKey,
         file_name: &'w [u8],
         place: u32,
     ) -> Option<Break<'w>>
@@ -493,7 +504,7 @@ impl<'a> Draft<'a> {
     #[tactic(auto, unfolding(crate::specs::Rules::head))]
     fn export_file_break<'w>(
         &'w self,
-        file: usize,
+        file: FileKey,
         file_name: &'w [u8],
         place: u32,
         number: u32,
@@ -508,11 +519,17 @@ impl<'a> Draft<'a> {
         if self.roster.is_second_package(place, tree) {
             return Ok(Some(Break {
                 rule: 202,
-                file,
-                file_name,
-                class: 0,
-                class_name: &[],
-                part: Part::Whole,
+                spot: Spot {
+                    file,
+                    class: 0,
+                    member: 0,
+                    place: PlaceRef {
+                        file: file_name,
+                        class: &[],
+                        part: Part::Whole,
+                        offset: 0,
+                    },
+                },
             }));
         }
         Ok(self.classes_break(file, file_name, number, tree.classes.items()))
@@ -528,12 +545,17 @@ impl<'a> Draft<'a> {
         for (place, line) in self.lines().items().iter().enumerate() {
             let name = line.name.items();
             if line.class_file {
-                if let Some(broken) = self.class_file_break(place + 1, name, classes) {
+                if let Some(broken) = self.class_file_break(FileKey::Line(place), name, classes) {
                     return Ok(Some(broken));
                 }
                 classes = sum(classes, 1)?;
             } else {
-                if let Some(broken) = self.export_file_break(place + 1, name, exports, imports)? {
+                if let Some(broken) = self.export_file_break(
+                    FileKey::Line(place),
+                    name,
+                    exports,
+                    imports,
+                )? {
                     return Ok(Some(broken));
                 }
                 imports = sum(imports, size(self.exports().items(), exports))?;
@@ -551,11 +573,17 @@ impl<'a> Draft<'a> {
         if !self.has_language() {
             return Ok(Some(Break {
                 rule: 207,
-                file: 0,
-                file_name: list,
-                class: 0,
-                class_name: &[],
-                part: Part::Whole,
+                spot: Spot {
+                    file: FileKey::List,
+                    class: 0,
+                    member: 0,
+                    place: PlaceRef {
+                        file: list,
+                        class: &[],
+                        part: Part::Whole,
+                        offset: 0,
+                    },
+                },
             }));
         }
         self.files_break()
@@ -577,20 +605,24 @@ fn is_earlier(place: Option<usize>, other: usize) -> bool
     }
 }
 
-fn part<'w>(
-    known: Known<'_, '_>,
-    field: bool,
-    place: usize,
-    name: &'w [u8],
-    desc: &'w [u8],
-) -> Part<'w>
-    ensures text { text_of result ≡ told field name.now desc.now }
-    ensures member { member_of result ≡ members_before field (class_of known.entry) + place + 1 }
+fn part<'w>(field: bool, name: &'w [u8], desc: &'w [u8]) -> Part<'w>
+    ensures { text_of result ≡ told field name.now desc.now }
 {
     if field {
-        Part::Field(place, name, desc)
+        Part::Field(name, desc)
     } else {
-        Part::Method(known.field_count(), place, name, desc)
+        Part::Method(name, desc)
+    }
+}
+
+/// The place of a field or method among the members of its class, from 1.
+fn member_number(known: Known<'_, '_>, field: bool, place: usize) -> u128
+    ensures { result ≡ members_before field (class_of known.entry) + place + 1 }
+{
+    if field {
+        place as u128 + 1
+    } else {
+        known.field_count() as u128 + place as u128 + 1
     }
 }
 

@@ -1,13 +1,14 @@
-//! Tables of what stands above each class, made once, supers first, where no class is its own super.
+//! Tables of what stands above each class, made once, supers first. A class has a row exactly where no cycle is at it or
+//! above it.
 
-ghost use Rattle.std.specs.Prelude.{◌≡◌, ◌<◌, ◌+◌, ℕ, [], ◌∷◌, false, length, is_some, slice_get, IfOk, OnOk, MatchOption};
+ghost use Rattle.std.specs.Prelude.{◌≡◌, ◌<◌, ◌+◌, ℕ, [], ◌∷◌, false, true, length, is_some, slice_get, IfOk, OnOk};
 ghost use Rattle.std.specs.List.{list_all};
 ghost use Rattle.cjc_world.specs.Classes.{all_classes};
 ghost use Rattle.cjc_world.specs.Kin.{IsAcyclic};
 ghost use Rattle.cjc_world.specs.declared.tables.Order.TheVariants as orders;
 ghost use Rattle.cjc_world.specs.Working.Known.{class_of};
 ghost use Rattle.cjc_world.specs.Working.Places.{is_in, joined};
-ghost use Rattle.cjc_world.specs.Working.Tables.{above_at, are_ready, Closer, is_ready, is_ready_at, is_row, IsTable, piece, pieces, row_at, row_in};
+ghost use Rattle.cjc_world.specs.Working.Tables.{above_at, are_ready, Closer, is_ready, is_ready_at, is_row, IsPart, piece, pieces, row_at, row_in};
 
 use crate::class::Known;
 use crate::roster::Roster;
@@ -168,8 +169,8 @@ impl<'a> Roster<'a> {
     }
 
     /// Whether the rows of all that a class lists are there.
-    #[tactic(auto, unfolding(crate::specs::Tables::are_ready))]
-    fn are_ready(&self, rows: &[Option<Above>], class: Known<'_, 'a>) -> bool
+    #[tactic(auto, unfolding(crate::specs::Working::Tables::are_ready))]
+    pub(crate) fn are_ready(&self, rows: &[Option<Above>], class: Known<'_, '_>) -> bool
         ensures { result ≡ are_ready (all_classes self.now) rows.now (class_of class.entry) }
     {
         self.all_ready(rows, class.supers()) && self.all_ready(rows, class.interfaces())
@@ -193,7 +194,7 @@ impl<'a> Roster<'a> {
     }
 
     /// The interfaces of a class that some file has, in order.
-    #[tactic(auto, unfolding(crate::specs::Tables::above_at))]
+    #[tactic(auto, unfolding(crate::specs::Working::Tables::above_at))]
     pub(crate) fn interfaces(
         &self,
         alloc: Global,
@@ -229,7 +230,7 @@ impl<'a> Roster<'a> {
     }
 
     /// What stands above the class at a place, where the rows of all that it lists are there.
-    #[tactic(auto, using(crate::proofs::Joined::joined_first), unfolding(crate::specs::Tables::above_at))]
+    #[tactic(auto, using(crate::proofs::Joined::joined_first), unfolding(crate::specs::Working::Tables::above_at))]
     fn above(
         &self,
         alloc: Global,
@@ -305,29 +306,26 @@ impl<'a> Roster<'a> {
         Ok(())
     }
 
-    /// What stands above each class, or None where a class is its own super. Each pass reaches a step further, and
-    /// one is enough where the list has supers first or last.
-    pub(crate) fn above_all(&self, alloc: Global) -> Result<Option<Row<Option<Above>>>, NoMemory>
-        ensures { IfOk result (λ o. MatchOption o (IsAcyclic (all_classes self.now) → ⊥) (λ rows. IsTable (all_classes self.now) rows)) }
+    /// What stands above each class that has no cycle at it or above it. Each pass reaches a step further, and one is
+    /// enough where the list has supers first or last.
+    pub(crate) fn above_all(&self, alloc: Global) -> Result<Row<Option<Above>>, NoMemory>
+        ensures part { IfOk result (λ rows. IsPart (all_classes self.now) rows) }
+        ensures all { IfOk result (λ rows. list_all is_some rows ≡ true → IsAcyclic (all_classes self.now)) }
     {
         let count = self.count();
         let mut rows = no_rows(alloc, count)?;
         for _step in 0..count as u64 + 2 {
             if all_there(&rows) {
-                return Ok(Some(Row::of(rows)));
+                return Ok(Row::of(rows));
             }
             self.pass(alloc, &mut rows, count)?;
             self.pass_back(alloc, &mut rows, count)?;
         }
-        if all_there(&rows) {
-            Ok(Some(Row::of(rows)))
-        } else {
-            Ok(None)
-        }
+        Ok(Row::of(rows))
     }
 }
 
-fn all_there(rows: &[Option<Above>]) -> bool
+pub(crate) fn all_there(rows: &[Option<Above>]) -> bool
     ensures { result ≡ list_all is_some rows.now }
 {
     rows.iter().all(|row| row.is_some())

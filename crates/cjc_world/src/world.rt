@@ -3,24 +3,25 @@
 ghost use Rattle.std.specs.Prelude.{◌≡◌, ◌<◌, [], ◌++◌, true, false, length, slice_get, option_map, IfSome, IfOk, IfErr, OnOk};
 ghost use Rattle.cjc_world.specs.Classes.{all_classes, class_at, class_named};
 ghost use Rattle.cjc_world.specs.Files.{files_of};
-ghost use Rattle.cjc_world.specs.Rules.{breaks, IsFirstRefusal};
+ghost use Rattle.cjc_bytes.specs.Breaks.{IsFirstRefusal};
+ghost use Rattle.cjc_world.specs.Rules.{breaks};
 ghost use Rattle.cjc_world.specs.Added.{added_at};
 ghost use Rattle.cjc_world.specs.Exported.{is_exported, is_imported, is_shareable};
 ghost use Rattle.cjc_world.specs.Kin.{IsAcyclic, is_below, kin, once, upwards};
-ghost use Rattle.cjc_world.specs.Interfaces.{each_once, gathered, known};
+ghost use Rattle.cjc_world.specs.Interfaces.{each_once, gathered, has_interface, known};
 ghost use Rattle.cjc_world.specs.Working.Known.{class_of};
 ghost use Rattle.cjc_world.specs.Working.Places.{at_places};
 ghost use Rattle.cjc_world.specs.Working.Spots.{IsCounted};
 ghost use Rattle.cjc_world.specs.Subtype.{element, inner, is_element, is_subclass, is_subtype, starts};
 ghost use Rattle.cjc_world.specs.Working.Tables.{IsTable};
-ghost use Rattle.cjc_world.specs.Lookup.{find_field, find_method, receiver, selected};
+ghost use Rattle.cjc_world.specs.Lookup.{find_field, find_method, method_of_interface, receiver, selected};
 
-use crate::class::{Known, has};
-use crate::draft::{Draft, Kept, Tables};
+use crate::class::Known;
+use crate::draft::{Draft, Tables};
 use crate::found::Found;
 use crate::roster::Roster;
 use crate::tables::Above;
-use cjc_bytes::{Fault, FileLine, MemberId, NoMemory, Row};
+use cjc_bytes::{Fault, FileLine, MemberId, NoMemory, Row, is_public};
 use cjc_classfile::ClassTree;
 use cjc_export::ExportTree;
 use std::alloc::Global;
@@ -31,10 +32,18 @@ pub(crate) const OBJECT: &[u8] = b"java/lang/Object";
 const SHAREABLE: &[u8] = b"javacard/framework/Shareable";
 
 /// A package with the export files that it stands on.
-#[derive(Drop)]
 pub struct World<'a> {
     roster: Roster<'a>,
     tables: Tables,
+}
+
+impl Drop for World<'_> {
+    fn drop(self) {
+        let World {
+            roster: _roster,
+            tables: _tables,
+        } = self;
+    }
 }
 
 impl<'a> Model for World<'a> {
@@ -69,11 +78,8 @@ impl<'a> World<'a> {
         if let Some(fault) = draft.first_fault(alloc, list) {
             return Err(fault);
         }
-        let Draft { roster, kept } = draft;
-        match kept {
-            Kept::Tables(tables) => Ok(World { roster, tables }),
-            Kept::Cycles(_) => unreachable!(),
-        }
+        let (roster, tables) = draft.into_parts();
+        Ok(World { roster, tables })
     }
 
     /// The class files, in list order.
@@ -174,12 +180,19 @@ impl<'a> World<'a> {
         self.roster.is_subclass(self.rows(), sub, sup)
     }
 
-    /// Whether a class is a superclass of another, or the class itself: the way up goes by superclasses, of an
-    /// imported class by the supers that its file lists.
+    /// Whether a name is that of a class or of a superclass of it: the way up goes by superclasses, of an imported
+    /// class by the supers that its file lists. A super that no file has is one too, and is below itself alone.
     pub fn is_below(&self, sub: &[u8], sup: &[u8]) -> bool
         ensures { result ≡ is_below (all_classes self.now) sub.now sup.now }
     {
         self.roster.is_below(self.rows(), sub, sup)
+    }
+
+    /// Whether the class of a name, which some file has, is one of the interfaces of another.
+    pub fn has_interface(&self, class: &[u8], interface: &[u8]) -> bool
+        ensures { result ≡ has_interface (all_classes self.now) class.now interface.now }
+    {
+        self.roster.has_interface(self.rows(), class, interface)
     }
 
     /// Whether elements of one type are of another. Both are descriptors.
@@ -242,7 +255,7 @@ impl<'a> World<'a> {
     pub fn is_exported(&self, applets: bool, class: Known<'_, '_>) -> bool
         ensures { result ≡ is_exported (all_classes self.now) applets (class_of class.entry) }
     {
-        has(class.flags(), 0x0001) && (!applets || self.is_shareable(class))
+        is_public(class.flags()) && (!applets || self.is_shareable(class))
     }
 
     /// The field that is found by its class, name and descriptor: in the class, then in the same way in each
@@ -270,6 +283,15 @@ impl<'a> World<'a> {
             id.name.items(),
             id.desc.items(),
         )
+    }
+
+    /// The method of an interface: its own of this name and descriptor, else that of the first of its superinterfaces, in
+    /// their order, that declares one. None where there is none.
+    pub fn method_of_interface(&self, interface: &[u8], name: &[u8], desc: &[u8]) -> Option<Found>
+        ensures { result ≡ method_of_interface (all_classes self.now) interface.now name.now desc.now }
+    {
+        self.roster
+            .method_of_interface(self.rows(), interface, name, desc)
     }
 
     /// The method that is selected on an object of a class: the first of this name and descriptor from the class

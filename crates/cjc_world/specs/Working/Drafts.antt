@@ -1,16 +1,16 @@
 -- What a world keeps beside its files.
-use Rattle.std.specs.Prelude.{◌≡◌, ℕ, ◌<◌, length, slice_get, Some}
+use Rattle.std.specs.Prelude.{◌≡◌, ℕ, ◌<◌, List, length, slice_get, Bool, true, false, Option, Some, None}
+use Rattle.cjc_classfile.specs.declared.tree.ClassTree.{ClassTree}
 use Rattle.cjc_world.specs.declared.class.Known.{Known}
 use Rattle.cjc_world.specs.declared.class.Known.TheVariants as kinds
 use Rattle.cjc_world.specs.declared.circular.Cycles.{Cycles}
-use Rattle.cjc_world.specs.declared.draft.Kept.{Kept}
-use Rattle.cjc_world.specs.declared.draft.Kept.TheVariants as kepts
 use Rattle.cjc_world.specs.declared.draft.Tables.{Tables}
 use Rattle.cjc_world.specs.Working.Steps.{AreCycles}
 use Rattle.cjc_world.specs.Files.{Files}
-use Rattle.cjc_world.specs.Classes.{all_classes}
+use Rattle.cjc_world.specs.declared.tables.Above.{Above}
+use Rattle.cjc_world.specs.Classes.{all_classes, declared}
 use Rattle.cjc_world.specs.Kin.{IsAcyclic}
-use Rattle.cjc_world.specs.Working.Tables.{IsTable}
+use Rattle.cjc_world.specs.Working.Tables.{IsTable, IsPart, are_ready}
 use Rattle.cjc_world.specs.Added.{added_at}
 
 pub record AreTables (files : Files) (t : Tables) : Type 0 where
@@ -18,11 +18,21 @@ pub record AreTables (files : Files) (t : Tables) : Type 0 where
   pub count : length t.added ≡ length files.classes
   pub added : (i : ℕ) → i < length files.classes → slice_get t.added i ≡ Some (added_at files i)
 
--- The tables are kept exactly where no class is its own super.
-pub record IsKept (files : Files) (kept : Kept) : Type 0 where
-  pub tables : (t : Tables) → kept ≡ kepts.Tables t → AreTables files t
-  pub cyclic : (c : Cycles) → kept ≡ kepts.Cycles c → IsAcyclic (all_classes files) → ⊥
-  pub cycles : (c : Cycles) → kept ≡ kepts.Cycles c → AreCycles (all_classes files) c
+-- whether the rows of all that a class of the package lists are there
+abbrev pub is_ready_of : Files → List (Option Above) → ℕ → Option ClassTree → Bool
+is_ready_of files rows number None = false
+is_ready_of files rows number (Some c) = are_ready (all_classes files) rows (declared number c)
+
+abbrev pub is_number_ready : Files → List (Option Above) → ℕ → Bool
+is_number_ready files rows number = is_ready_of files rows number (slice_get files.classes number)
+
+-- What is kept of classes with no cycle at them or above them; and where there is some cycle, what is asked of it.
+pub record IsKept (files : Files) (t : Tables) (cycles : Option Cycles) : Type 0 where
+  pub part : IsPart (all_classes files) t.above
+  pub count : length t.added ≡ length files.classes
+  pub added : (i : ℕ) → is_number_ready files t.above i ≡ true → slice_get t.added i ≡ Some (added_at files i)
+  pub acyclic : cycles ≡ None → IsAcyclic (all_classes files)
+  pub asked : (c : Cycles) → cycles ≡ Some c → AreCycles (all_classes files) c
 
 -- a class of the package stands at its number
 abbrev pub IsHeld : Files → Known → Type 0

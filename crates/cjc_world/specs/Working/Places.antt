@@ -55,3 +55,11 @@ names name c = bytes_eq c.name name || (list_any (λ x. bytes_eq x name) c.super
 abbrev pub names_of : List ℕ → Option Class → Bool
 names_of name None = false
 names_of name (Some c) = names name c
+
+-- the class has the name, or lists it as a super
+abbrev pub names_super : List ℕ → Class → Bool
+names_super name c = bytes_eq c.name name || list_any (λ x. bytes_eq x name) c.supers
+
+abbrev pub names_super_of : List ℕ → Option Class → Bool
+names_super_of name None = false
+names_super_of name (Some c) = names_super name c

@@ -4,30 +4,30 @@ use Rattle.std.specs.List.{list_any}
 use Rattle.std.specs.Str.{bytes_eq}
 use Rattle.cjc_world.specs.declared.circular.Cycles.{Cycles}
 use Rattle.cjc_world.specs.Classes.{Class}
-use Rattle.cjc_world.specs.Kin.{Kin, kin, upwards, stands, stands_above, is_below}
+use Rattle.cjc_world.specs.Kin.{Kin, kin, stands, stands_by_supers, stands_above, is_below}
 use Rattle.cjc_world.specs.Working.Places.{place_named, has_name}
 use Rattle.cjc_world.specs.Rules.{throwable}
 
--- whether the name stands in the tree, or is that of a class which is reached by supers alone
+-- whether the name stands in the tree, or does so on a way by supers alone
 abbrev pub standing : (by_supers : Bool) → List ℕ → Kin → Bool
-standing true name tree = list_any (λ c. bytes_eq c.name name) (upwards tree)
+standing true name tree = stands_by_supers name tree
 standing false name tree = stands name tree
 
 -- the same of one more name, by what is known of the classes so far
-abbrev pub name_stands_at : (by_supers : Bool) → List ℕ → List Bool → List ℕ → Option ℕ → Bool
-name_stands_at by_supers name known x None = not by_supers && bytes_eq x name
-name_stands_at by_supers name known x (Some p) = unwrap_or (slice_get known p) false
+abbrev pub name_stands_at : List ℕ → List Bool → List ℕ → Option ℕ → Bool
+name_stands_at name known x None = bytes_eq x name
+name_stands_at name known x (Some p) = unwrap_or (slice_get known p) false
 
-abbrev pub name_stands : List Class → (by_supers : Bool) → List ℕ → List Bool → List ℕ → Bool
-name_stands w by_supers name known x = name_stands_at by_supers name known x (place_named w x)
+abbrev pub name_stands : List Class → List ℕ → List Bool → List ℕ → Bool
+name_stands w name known x = name_stands_at name known x (place_named w x)
 
-unfoldable pub any_stands : List Class → (by_supers : Bool) → List ℕ → List Bool → List (List ℕ) → Bool
-any_stands w by_supers name known xs = list_any (λ x. name_stands w by_supers name known x) xs
+unfoldable pub any_stands : List Class → List ℕ → List Bool → List (List ℕ) → Bool
+any_stands w name known xs = list_any (λ x. name_stands w name known x) xs
 
 abbrev pub class_stands : List Class → (by_supers : Bool) → List ℕ → List Bool → Option Class → Bool
 class_stands w by_supers name known None = false
 class_stands w by_supers name known (Some c) =
-    bytes_eq c.name name || any_stands w by_supers name known c.supers || (not by_supers && any_stands w by_supers name known c.interfaces)
+    bytes_eq c.name name || any_stands w name known c.supers || (not by_supers && any_stands w name known c.interfaces)
 
 -- the next step, of all classes
 abbrev pub IsStep : List Class → (by_supers : Bool) → List ℕ → (known next : List Bool) → Type 0

@@ -1,11 +1,11 @@
 -- What a world keeps of its classes where no class is its own super, and how it is made, supers first.
-use Rattle.std.specs.Prelude.{◌≡◌, ℕ, ◌<◌, ◌≤◌, List, [], ◌∷◌, ◌++◌, length, slice_get, Bool, true, false, ◌&&◌, if◌then◌else◌, Option, Some, None}
+use Rattle.std.specs.Prelude.{◌≡◌, ◌⊎◌, ℕ, ◌<◌, ◌≤◌, List, [], ◌∷◌, ◌++◌, length, slice_get, Bool, true, false, ◌&&◌, if◌then◌else◌, Option, Some, None}
 use Rattle.std.specs.List.{list_all}
 use Rattle.cjc_world.specs.declared.tables.Above.{Above}
 use Rattle.cjc_world.specs.declared.tables.Order.{Order}
 use Rattle.cjc_world.specs.declared.tables.Order.TheVariants as orders
 use Rattle.cjc_world.specs.Classes.{Class}
-use Rattle.cjc_world.specs.Kin.{Kin, End, Unknown, Known, IsKin, IsAcyclic, kin, upwards}
+use Rattle.cjc_world.specs.Kin.{Kin, End, Unknown, Known, IsKin, IsAcyclic, kin, upwards, Above as StandsAbove}
 use Rattle.cjc_world.specs.Interfaces.{gathered, known}
 use Rattle.cjc_world.specs.Working.Places.{place_named, places_of, is_in, joined}
 
@@ -22,6 +22,10 @@ told w tree = record {
   interfaces = joined [] (places_of w (known (gathered false tree)));
   fields = joined [] (places_of w (in_field_order tree));
 }
+
+-- No class of this name or above it is its own super.
+abbrev pub IsClear : List Class → List ℕ → Type 0
+IsClear w x = (z : List ℕ) → (x ≡ z) ⊎ StandsAbove w x z → StandsAbove w z z → ⊥
 
 -- No class is its own super, and of the class of each name is kept what stands above it.
 pub record IsTable (w : List Class) (rows : List (Option Above)) : Type 0 where
@@ -77,6 +81,11 @@ are_ready w rows c = list_all (λ x. is_ready w rows x) c.supers && list_all (λ
 -- each row that is there is right
 abbrev pub AreRight : List Class → List (Option Above) → Type 0
 AreRight w rows = (x : List ℕ) (p : ℕ) (a : Above) → place_named w x ≡ Some p → slice_get rows p ≡ Some (Some a) → (tree : Kin) × IsKin w (x ∷ []) tree × (a ≡ told w tree)
+
+-- Each row that is there is right, and a class has its row where no cycle is at it or above it.
+pub record IsPart (w : List Class) (rows : List (Option Above)) : Type 0 where
+  pub right : AreRight w rows
+  pub there : (x : List ℕ) (p : ℕ) → place_named w x ≡ Some p → IsClear w x → is_row (slice_get rows p) ≡ true
 
 -- Where there is a mark for a place, it says whether the place is among these.
 abbrev pub AreMarked : List Bool → List ℕ → Type 0

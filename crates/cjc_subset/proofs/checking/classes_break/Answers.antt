@@ -2,11 +2,11 @@ use Rattle.std.proofs.Common.{◌≡◌, ◌<◌, ◌≤◌, List, length, get_o
 use Rattle.std.specs.Prelude.{option_map}
 use Rattle.cjc_bytes.specs.declared.settings.FileLine.{FileLine}
 use Rattle.cjc_classfile.specs.declared.tree.ClassTree.{ClassTree}
-use Rattle.cjc_subset.specs.Breaks.{break_of}
+use Rattle.cjc_bytes.specs.Told.{break_of, file_place_of}
 use Rattle.cjc_subset.specs.Checks.{class_breaks}
-use Rattle.cjc_subset.specs.Places.{FilePlace, IsFirstOf, file_of}
-use Rattle.cjc_subset.proofs.Files.{same_place}
-use Rattle.cjc_subset.proofs.Firsts.{each_none, each_more, each_all}
+use Rattle.cjc_bytes.specs.Order.{FilePlace, file_of}
+use Rattle.cjc_bytes.specs.Breaks.{IsFirstOf}
+use Rattle.cjc_bytes.proofs.Firsts.{each_none, each_more, each_all}
 use Rattle.cjc_subset.proofs.checking.classes_break.Goals as goal
 
 pub loop-number-init : goal.loop-number-init
@@ -19,8 +19,8 @@ loop-number-preserved c =
     let classes = c.items-classes.ensures ∙ c.classes.ensures in
     let within = subst (λ (xs : List ClassTree). i < length xs) classes c.loop-number-test.true in
     let is = c.index-classes-number.is ∙ ap (λ (xs : List ClassTree). get_or xs i c.index-classes-number.result) classes in
-    let f : FilePlace = record { place = c.file_of-file.result.0; name = c.file_of-file.result.1.now } in
-    let file : f ≡ file_of files.lines i = same_place c.file_of-file.result.0 c.file_of-file.result.1.now (file_of c.items.result.now i) c.file_of-file.ensures.place c.file_of-file.ensures.name ∙ ap (λ (ls : List FileLine). file_of ls i) (c.items.ensures ∙ c.lines.ensures) in
+    let f : FilePlace = file_place_of c.file_of-file.result in
+    let file : f ≡ file_of files.lines i = c.file_of-file.ensures ∙ ap (λ (ls : List FileLine). file_of ls i) (c.items.ensures ∙ c.lines.ensures) in
     each_more (λ (n : ℕ) (x : ClassTree). class_breaks files c.args.settings.now (file_of files.lines n) n x) i files.classes c.index-classes-number.result (option_map break_of c.first-least.result) within is
     (c.first-least.ensures _ _ c.loop-number.invariant
     (subst (λ (p : FilePlace). IsFirstOf (class_breaks files c.args.settings.now p i c.index-classes-number.result) (option_map break_of c.in_ok-broken.broken)) file (c.in_ok-broken.ensures f c.class_spot-spot.ensures)))

@@ -1,8 +1,8 @@
 use Rattle.std.specs.Prelude.{option_map}
 use Rattle.cjc_code.specs.declared.method_code.MethodCode.{MethodCode}
-use Rattle.cjc_subset.specs.Breaks.{break_of}
+use Rattle.cjc_bytes.specs.Told.{break_of}
 use Rattle.cjc_subset.specs.Checks.{code_breaks}
-use Rattle.cjc_subset.proofs.Firsts.{each_none, each_more, each_all}
+use Rattle.cjc_bytes.proofs.Firsts.{each_none, each_more, each_all}
 use Rattle.cjc_subset.proofs.checking.codes_break.Goals as goal
 
 pub loop-code-init : goal.loop-code-init

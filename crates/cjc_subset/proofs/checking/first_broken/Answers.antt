@@ -1,9 +1,9 @@
 use Rattle.std.proofs.Common.{List, subst}
 use Rattle.std.specs.Prelude.{option_map}
 use Rattle.cjc_code.specs.declared.method_code.MethodCode.{MethodCode}
-use Rattle.cjc_subset.specs.Breaks.{break_of}
+use Rattle.cjc_bytes.specs.Told.{break_of}
 use Rattle.cjc_subset.specs.Checks.{check_breaks, code_breaks}
-use Rattle.cjc_subset.specs.Places.{IsFirstOf, each}
+use Rattle.cjc_bytes.specs.Breaks.{IsFirstOf, each}
 use Rattle.cjc_subset.proofs.checking.first_broken.Goals as goal
 
 pub returns : goal.returns

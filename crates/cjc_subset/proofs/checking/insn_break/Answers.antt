@@ -1,5 +1,5 @@
 use Rattle.cjc_subset.specs.Checks.{insn_breaks}
-use Rattle.cjc_subset.proofs.Firsts.{at_same}
+use Rattle.cjc_bytes.proofs.Firsts.{at_same}
 use Rattle.cjc_subset.proofs.checking.insn_break.Goals as goal
 
 pub returns : goal.returns

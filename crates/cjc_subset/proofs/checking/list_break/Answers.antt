@@ -5,13 +5,13 @@ use Rattle.cjc_classfile.specs.declared.tree.ClassTree.{ClassTree}
 use Rattle.cjc_world.specs.Classes.{all_classes}
 use Rattle.cjc_subset.specs.Applets.{has_unfit_applets}
 use Rattle.cjc_subset.specs.Checks.{list_breaks}
-use Rattle.cjc_subset.proofs.Firsts.{at_same}
+use Rattle.cjc_bytes.proofs.Firsts.{at_same}
 use Rattle.cjc_subset.proofs.checking.list_break.Goals as goal
 
 pub returns : goal.returns
 unfolding list_breaks
 returns c =
-    let here = c.list_spot-spot.ensures in
+    let here = c.of_list-spot.ensures in
     let w = all_classes c.args.world.now in
     let applets = c.items-applets.ensures in
     c.first-4.ensures _ _

@@ -2,7 +2,7 @@ use Rattle.std.proofs.Common.{ap, ◌∙◌}
 use Rattle.std.specs.Prelude.{not, ◌&&◌}
 use Rattle.cjc_subset.specs.Checks.{method_breaks}
 use Rattle.cjc_subset.specs.Types.{is_foreign_desc, is_int_desc}
-use Rattle.cjc_subset.proofs.Firsts.{at_same}
+use Rattle.cjc_bytes.proofs.Firsts.{at_same}
 use Rattle.cjc_subset.proofs.checking.method_break.Goals as goal
 
 pub returns : goal.returns

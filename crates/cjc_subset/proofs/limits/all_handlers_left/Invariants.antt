@@ -1,6 +1,7 @@
 use Rattle.std.proofs.Common.{◌≡◌, drop}
 use Rattle.std.specs.Prelude.{sum_by}
-use Rattle.cjc_subset.specs.Limits.{handlers_of_class, left_of}
+use Rattle.cjc_subset.specs.Limits.{handlers_of_class}
+use Rattle.cjc_subset.specs.Working.Sums.{left_of}
 use Rattle.cjc_subset.proofs.limits.all_handlers_left.Given as goal
 
 abbrev pub invariant-loop-class : goal.invariant-loop-class

@@ -1,6 +1,7 @@
 use Rattle.std.proofs.Common.{◌≡◌, drop}
 use Rattle.std.specs.Prelude.{sum_by}
-use Rattle.cjc_subset.specs.Limits.{handlers, left_of}
+use Rattle.cjc_subset.specs.Limits.{handlers}
+use Rattle.cjc_subset.specs.Working.Sums.{left_of}
 use Rattle.cjc_subset.proofs.limits.handlers_left.Given as goal
 
 abbrev pub invariant-loop-method : goal.invariant-loop-method

@@ -1,8 +1,8 @@
 use Rattle.std.specs.Prelude.{option_map}
 use Rattle.cjc_classfile.specs.declared.tree.Catch.{Catch}
-use Rattle.cjc_subset.specs.Breaks.{break_of}
+use Rattle.cjc_bytes.specs.Told.{break_of}
 use Rattle.cjc_subset.specs.Names.{catch_breaks}
-use Rattle.cjc_subset.proofs.Firsts.{at_same, each_none, each_more, each_all}
+use Rattle.cjc_bytes.proofs.Firsts.{at_same, each_none, each_more, each_all}
 use Rattle.cjc_subset.proofs.naming.catches_break.Goals as goal
 
 pub loop-catch-init : goal.loop-catch-init

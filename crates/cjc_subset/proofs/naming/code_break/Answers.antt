@@ -3,11 +3,11 @@ use Rattle.std.specs.Prelude.{Some, slice_get, option_map}
 use Rattle.std.proofs.lemmas.Option.{slice_get_read}
 use Rattle.cjc_bytes.specs.declared.settings.FileLine.{FileLine}
 use Rattle.cjc_code.specs.declared.insn.JInsn.{JInsn}
-use Rattle.cjc_subset.specs.Breaks.{break_of}
-use Rattle.cjc_subset.specs.Places.{FilePlace, IsFirstOf, file_of}
+use Rattle.cjc_bytes.specs.Told.{break_of, file_place_of}
+use Rattle.cjc_bytes.specs.Order.{FilePlace, file_of}
+use Rattle.cjc_bytes.specs.Breaks.{IsFirstOf}
 use Rattle.cjc_subset.specs.Names.{code_breaks, method_breaks}
 use Rattle.cjc_subset.proofs.Codes.{code_there}
-use Rattle.cjc_subset.proofs.Files.{same_place}
 use Rattle.cjc_subset.proofs.naming.code_break.Goals as goal
 
 pub returns : goal.returns
@@ -19,10 +19,10 @@ returns c =
     let method = c.in_ok-method.method.now in
     let a = c.in_ok-class.ensures.lookup in
     let d = c.in_ok-method.ensures.lookup in
-    let f : FilePlace = record { place = c.file_of-file.result.0; name = c.file_of-file.result.1.now } in
+    let f : FilePlace = file_place_of c.file_of-file.result in
     let lines = c.items-3.ensures ∙ c.lines.ensures in
     let in_classes : slice_get files.classes code.class ≡ Some class = ap (λ xs. slice_get xs code.class) (sym (c.items.ensures ∙ c.classes.ensures)) ∙ slice_get_read c.items.result.now (length c.items.result.now) code.class class refl a.3.0 a.1 in
     let in_methods : slice_get class.methods code.method ≡ Some method = ap (λ xs. slice_get xs code.method) (sym c.items-2.ensures) ∙ slice_get_read c.items-2.result.now (length c.items-2.result.now) code.method method refl d.3.0 d.1 in
-    let file : f ≡ file_of files.lines code.class = same_place c.file_of-file.result.0 c.file_of-file.result.1.now (file_of c.items-3.result.now code.class) c.file_of-file.ensures.place c.file_of-file.ensures.name ∙ ap (λ (ls : List FileLine). file_of ls code.class) lines in
+    let file : f ≡ file_of files.lines code.class = c.file_of-file.ensures ∙ ap (λ (ls : List FileLine). file_of ls code.class) lines in
     code_there files code.class code.method (λ f c m. method_breaks files f c code.method m code.insns) class method f (option_map break_of c.method_break.result) in_classes in_methods file
     (subst (λ (is : List JInsn). IsFirstOf (method_breaks files f class code.method method is) (option_map break_of c.method_break.result)) c.items-4.ensures (c.method_break.ensures f c.class_spot-spot.ensures))

@@ -1,7 +1,7 @@
 use Rattle.std.proofs.Common.{take}
 use Rattle.std.specs.Prelude.{option_map}
-use Rattle.cjc_subset.specs.Breaks.{break_of}
-use Rattle.cjc_subset.specs.Places.{IsFirstOf, each}
+use Rattle.cjc_bytes.specs.Told.{break_of}
+use Rattle.cjc_bytes.specs.Breaks.{IsFirstOf, each}
 use Rattle.cjc_subset.specs.Names.{code_breaks}
 use Rattle.cjc_subset.proofs.naming.codes_break.Given as goal
 

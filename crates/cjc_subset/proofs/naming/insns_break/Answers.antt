@@ -1,8 +1,8 @@
 use Rattle.std.specs.Prelude.{option_map}
 use Rattle.cjc_code.specs.declared.insn.JInsn.{JInsn}
-use Rattle.cjc_subset.specs.Breaks.{break_of}
+use Rattle.cjc_bytes.specs.Told.{break_of}
 use Rattle.cjc_subset.specs.Names.{insn_breaks}
-use Rattle.cjc_subset.proofs.Firsts.{each_none, each_more, each_all}
+use Rattle.cjc_bytes.proofs.Firsts.{each_none, each_more, each_all}
 use Rattle.cjc_subset.proofs.naming.insns_break.Goals as goal
 
 pub loop-insn-init : goal.loop-insn-init

@@ -1,7 +1,9 @@
 use Rattle.std.proofs.Common.{◌≡◌, take}
 use Rattle.std.specs.Prelude.{option_map}
-use Rattle.cjc_subset.specs.Breaks.{break_of, spot_of}
-use Rattle.cjc_subset.specs.Places.{FilePlace, IsFirstOf, at_class, each}
+use Rattle.cjc_bytes.specs.Told.{break_of, spot_of}
+use Rattle.cjc_subset.specs.Places.{at_class}
+use Rattle.cjc_bytes.specs.Order.{FilePlace}
+use Rattle.cjc_bytes.specs.Breaks.{IsFirstOf, each}
 use Rattle.cjc_subset.specs.Names.{insn_breaks}
 use Rattle.cjc_subset.proofs.naming.insns_break.Given as goal
 

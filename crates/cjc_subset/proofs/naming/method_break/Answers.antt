@@ -1,8 +1,8 @@
 use Rattle.std.proofs.Common.{subst, List}
 use Rattle.std.specs.Prelude.{option_map}
 use Rattle.cjc_classfile.specs.declared.tree.Catch.{Catch}
-use Rattle.cjc_subset.specs.Breaks.{break_of}
-use Rattle.cjc_subset.specs.Places.{IsFirstOf, each}
+use Rattle.cjc_bytes.specs.Told.{break_of}
+use Rattle.cjc_bytes.specs.Breaks.{IsFirstOf, each}
 use Rattle.cjc_subset.specs.Names.{catch_breaks, method_breaks}
 use Rattle.cjc_subset.proofs.naming.method_break.Goals as goal
 

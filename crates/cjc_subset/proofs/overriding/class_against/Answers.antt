@@ -1,5 +1,5 @@
 use Rattle.cjc_subset.specs.Overriding.{class_against}
-use Rattle.cjc_subset.proofs.Firsts.{at_same}
+use Rattle.cjc_bytes.proofs.Firsts.{at_same}
 use Rattle.cjc_subset.proofs.overriding.class_against.Goals as goal
 
 pub returns : goal.returns

@@ -3,10 +3,10 @@ use Rattle.std.specs.Prelude.{option_map}
 use Rattle.cjc_export.specs.declared.tree.ExportClass.{ExportClass}
 use Rattle.cjc_export.specs.declared.tree.ExportTree.{ExportTree}
 use Rattle.cjc_world.specs.Classes.{all_classes, imported}
-use Rattle.cjc_subset.specs.Breaks.{break_of}
+use Rattle.cjc_bytes.specs.Told.{break_of}
 use Rattle.cjc_subset.specs.Overriding.{kin_breaks}
-use Rattle.cjc_subset.specs.Places.{IsFirstOf, each}
-use Rattle.cjc_subset.proofs.Firsts.{each_none, each_more, each_all}
+use Rattle.cjc_bytes.specs.Breaks.{IsFirstOf, each}
+use Rattle.cjc_bytes.proofs.Firsts.{each_none, each_more, each_all}
 use Rattle.cjc_subset.proofs.overriding.imports_break.Goals as goal
 
 pub loop-tree-init : goal.loop-tree-init

@@ -2,9 +2,9 @@ use Rattle.std.proofs.Common.{◌<◌, ◌≤◌, List, length, get_or, ap, subs
 use Rattle.std.specs.Prelude.{option_map}
 use Rattle.cjc_classfile.specs.declared.tree.MethodTree.{MethodTree}
 use Rattle.cjc_world.specs.Working.Known.{class_of}
-use Rattle.cjc_subset.specs.Breaks.{break_of}
+use Rattle.cjc_bytes.specs.Told.{break_of}
 use Rattle.cjc_subset.specs.Overriding.{method_against}
-use Rattle.cjc_subset.proofs.Firsts.{each_none, each_more, each_all}
+use Rattle.cjc_bytes.proofs.Firsts.{each_none, each_more, each_all}
 use Rattle.cjc_subset.proofs.overriding.methods_against.Goals as goal
 
 pub loop-place-init : goal.loop-place-init

@@ -3,10 +3,10 @@ use Rattle.std.specs.Prelude.{option_map}
 use Rattle.cjc_classfile.specs.declared.tree.ClassTree.{ClassTree}
 use Rattle.cjc_export.specs.declared.tree.ExportTree.{ExportTree}
 use Rattle.cjc_world.specs.Classes.{all_classes, declared, imported}
-use Rattle.cjc_subset.specs.Breaks.{break_of}
+use Rattle.cjc_bytes.specs.Told.{break_of}
 use Rattle.cjc_subset.specs.Overriding.{kin_breaks, overriding_breaks}
-use Rattle.cjc_subset.specs.Places.{IsFirstOf, each}
-use Rattle.cjc_subset.proofs.Firsts.{at_same}
+use Rattle.cjc_bytes.specs.Breaks.{IsFirstOf, each}
+use Rattle.cjc_bytes.proofs.Firsts.{at_same}
 use Rattle.cjc_subset.proofs.overriding.overriding_break.Goals as goal
 
 pub returns : goal.returns

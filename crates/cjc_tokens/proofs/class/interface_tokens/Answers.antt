@@ -5,6 +5,7 @@ use Rattle.cjc_world.specs.Classes.{all_classes, declared, method_of_class}
 use Rattle.cjc_tokens.specs.Fields.{field_tokens, instance_tokens}
 use Rattle.cjc_tokens.specs.Methods.{interface_methods, interface_token}
 use Rattle.cjc_world.specs.Exported.{is_exported}
+use Rattle.cjc_world.specs.Lookup.{method_of_interface}
 use Rattle.cjc_tokens.specs.Working.{is_high_interface, signature_in, signs}
 use Rattle.cjc_tokens.proofs.Sums.{few-instances}
 use Rattle.cjc_tokens.proofs.Classes.{high-interface, tokens-interface}
@@ -46,10 +47,11 @@ returns c =
           ∙ ap (λ b. is_high_interface b (length c.as_slice-methods.result.now) c.args.class.now) (sym c.is_exported-exported.ensures)
           ∙ sym c.is_high_interface.ensures ∙ c.if-is_high_interface.false,
       tokens-interface w n c.args.class.now c.args.applets c.args.before
-          c.own_token.result c.put_interface_tokens.new.tokens c.in_ok-instances.instances c.new.result c.new-2.result
+          c.own_token.result c.put_interface_tokens.new.tokens c.in_ok-instances.instances c.in_ok-public_methods.public_methods c.new.result
           c.requires.plain
           (c.own_token.ensures ∙ ap (λ b. if b then Some c.args.before else None) c.is_exported-exported.ensures)
           two
           (c.in_ok-instances.ensures ∙ ap (λ q. instance_tokens q 0 q) c.items-3.ensures)
-          c.new.ensures c.new-2.ensures,
+          (c.in_ok-public_methods.ensures ss signed ∙ ap (λ q. map (λ s. method_of_interface w q s.name s.desc) ss) c.items-4.ensures)
+          c.new.ensures,
     )

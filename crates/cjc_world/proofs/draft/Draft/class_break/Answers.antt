@@ -1,6 +1,6 @@
 use Rattle.std.proofs.Common.{ℕ, true, false, ◌++◌, sym, ap, ◌∙◌}
 use Rattle.std.specs.Prelude.{Some, map, option_map}
-use Rattle.cjc_world.specs.Working.Broken.{break_of}
+use Rattle.cjc_bytes.specs.Told.{break_of}
 use Rattle.cjc_world.specs.Classes.{all_classes}
 use Rattle.cjc_world.specs.Working.Known.{class_of}
 use Rattle.cjc_world.specs.Rules.{at_class, class_breaks, class_rules, members_from}

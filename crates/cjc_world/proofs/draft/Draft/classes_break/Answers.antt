@@ -1,5 +1,5 @@
 use Rattle.std.proofs.Common.{sym, ◌∙◌}
-use Rattle.cjc_world.specs.Working.Broken.{break_of}
+use Rattle.cjc_bytes.specs.Told.{break_of}
 use Rattle.cjc_world.specs.Classes.{all_classes}
 use Rattle.cjc_world.proofs.Heads.{classes_break_here, classes_go_on, classes_end}
 use Rattle.cjc_world.proofs.draft.Draft.classes_break.Goals as goal

@@ -1,6 +1,7 @@
 use Rattle.std.proofs.Common.{◌≡◌, ◌<◌, ◌≤◌, ◌+◌, length, get_or, sym, ap, subst, ◌∙◌}
 use Rattle.std.specs.Prelude.{None, option_map, slice_get}
-use Rattle.cjc_world.specs.Working.Broken.{break_of}
+use Rattle.cjc_bytes.specs.declared.order.FileKey.TheVariants as keys
+use Rattle.cjc_bytes.specs.Told.{break_of}
 use Rattle.cjc_world.specs.Classes.{all_classes, size}
 use Rattle.cjc_world.specs.Rules.{export_file_breaks, head}
 use Rattle.cjc_world.proofs.Heads.{class_line_breaks, class_line_keeps, export_line_breaks, export_line_keeps, lines_end}
@@ -40,7 +41,7 @@ loop-place-preserved c =
           let r : c.loop-place.exports + 1 ≡ c.if-line.exports = let a = w.in_ok-exports.ensures in cc in
           let t = w.items.ensures ∙ w.exports.ensures in
           let s : c.loop-place.imports + size (slice_get c.args.self.now.exports c.loop-place.exports) ≡ c.if-line.imports = let a = w.in_ok-imports.ensures in let b = w.size.ensures ∙ ap (λ es. size (slice_get es c.loop-place.exports)) t in cc in
-          let none : None ≡ head (export_file_breaks c.args.self.now (c.loop-place.place + 1) c.items-name.result.now (all_classes c.args.self.now) c.loop-place.exports c.loop-place.imports (slice_get c.args.self.now.exports c.loop-place.exports)) = ap (option_map break_of) (sym w.in_default-2.is) ∙ w.in_ok-broken.ensures in
+          let none : None ≡ head (export_file_breaks c.args.self.now (keys.Line c.loop-place.place) c.items-name.result.now (all_classes c.args.self.now) c.loop-place.exports c.loop-place.imports (slice_get c.args.self.now.exports c.loop-place.exports)) = ap (option_map break_of) (sym w.in_default-2.is) ∙ w.in_ok-broken.ensures in
           sym (export_line_keeps c.args.self.now (all_classes c.args.self.now) c.loop-place.place c.loop-place.classes c.loop-place.exports c.loop-place.imports c.line-item.result c.items-name.result.now c.if-line.classes c.if-line.exports c.if-line.imports within is w.if-line.false c.items-name.ensures none q r s)
           ∙ c.loop-place.invariant
     ]

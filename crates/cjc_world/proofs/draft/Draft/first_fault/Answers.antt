@@ -1,6 +1,6 @@
 use Rattle.std.proofs.Common.{inl, inr, ⊎_elim, sym, ap, ◌∙◌}
 use Rattle.std.specs.Prelude.{option_map}
-use Rattle.cjc_world.specs.Working.Broken.{break_of}
+use Rattle.cjc_bytes.specs.Told.{break_of}
 use Rattle.cjc_world.specs.Rules.{breaks}
 use Rattle.cjc_world.proofs.Sorted.{first_is_first}
 use Rattle.cjc_world.proofs.Heads.{head_empty}
@@ -15,4 +15,4 @@ returns-in-Ok-Some-clause-some c =
     ⊎_elim
     (λ h. inr (break_of c.in-Ok-Some.broken, first_is_first c.args.list.now c.args.self.now (break_of c.in-Ok-Some.broken) first, h))
     (λ h. inl h)
-    c.refused.ensures
+    c.refused_at.ensures

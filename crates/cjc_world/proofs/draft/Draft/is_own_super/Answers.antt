@@ -4,10 +4,10 @@ use Rattle.cjc_world.specs.Kin.{stands_above}
 use Rattle.cjc_world.proofs.Gets.{none-above}
 use Rattle.cjc_world.proofs.draft.Draft.is_own_super.Goals as goal
 
-pub returns-in-Tables : goal.returns-in-Tables
-returns-in-Tables c =
-    none-above (all_classes c.self.inside.roster) (c.self.invariant.tables c.in-Tables.field-0 c.in-Tables.is).above.acyclic c.args.class.now
+pub returns-in-None : goal.returns-in-None
+returns-in-None c =
+    none-above (all_classes c.self.inside.roster) (c.self.invariant.acyclic c.in-None.is) c.args.class.now
     ∙ ap (λ f. stands_above (all_classes f) c.args.class.now c.args.class.now) c.self.view_is
 
 pub is_own_super-requires : goal.is_own_super-requires
-is_own_super-requires c = c.self.invariant.cycles c.in-Cycles.cycles c.in-Cycles.is
+is_own_super-requires c = c.self.invariant.asked c.in-Some.cycles c.in-Some.is

@@ -2,8 +2,8 @@ use Rattle.std.proofs.Common.{◌≡◌, true, sym, ap, subst, arith, ◌∙◌}
 use Rattle.std.specs.Prelude.{is_some, slice_get}
 use Rattle.std.specs.List.{list_all}
 use Rattle.cjc_world.specs.Classes.{all_classes}
-use Rattle.cjc_world.specs.Working.Tables.{IsTable, is_row}
-use Rattle.cjc_world.proofs.Filling.{closer-still, reached-none, reached-next, filled, unfilled}
+use Rattle.cjc_world.specs.Working.Tables.{IsPart, is_row}
+use Rattle.cjc_world.proofs.Filling.{closer-still, reached-none, reached-next, filled, reached-part, all-acyclic}
 use Rattle.cjc_world.proofs.roster.Roster.above_all.Goals as goal
 
 pub loop-step-init : goal.loop-step-init
@@ -23,17 +23,19 @@ loop-step-preserved c =
       reached = reached-next w c.loop-step.rows.items c.pass_back.new.rows.items c.loop-step._step c.count-count.result c.count-count.ensures closer c.loop-step.invariant.reached;
     }
 
-pub returns-then-all_there : goal.returns-then-all_there
-returns-then-all_there c =
-    subst (λ rows. IsTable (all_classes c.args.self.now) rows) (sym c.of.ensures)
+pub returns-then-all_there-clause-part : goal.returns-then-all_there-clause-part
+returns-then-all_there-clause-part c =
+    subst (λ rows. IsPart (all_classes c.args.self.now) rows) (sym c.of.ensures)
     (filled (all_classes c.args.self.now) c.loop-step.rows.items c.loop-step.invariant.right c.loop-step.invariant.count (ap (list_all is_some) (sym c.deref.ensures.value) ∙ sym c.all_there.ensures ∙ c.if-all_there.true))
 
-pub returns-then-all_there-2 : goal.returns-then-all_there-2
-returns-then-all_there-2 c =
-    subst (λ rows. IsTable (all_classes c.args.self.now) rows) (sym c.of-then-all_there-2.ensures)
-    (filled (all_classes c.args.self.now) c.loop-step.rows.items c.loop-step.invariant.right c.loop-step.invariant.count (ap (list_all is_some) (sym c.deref-2.ensures.value) ∙ sym c.all_there-2.ensures ∙ c.if-all_there-2.true))
+pub returns-then-all_there-clause-all : goal.returns-then-all_there-clause-all
+returns-then-all_there-clause-all c = λ all. all-acyclic (all_classes c.args.self.now) c.loop-step.rows.items c.loop-step.invariant.right c.loop-step.invariant.count (ap (list_all is_some) (sym c.of.ensures) ∙ all)
 
-pub returns-else-all_there-2 : goal.returns-else-all_there-2
-returns-else-all_there-2 c =
+pub returns-clause-part : goal.returns-clause-part
+returns-clause-part c =
     let n = c.count-count.ensures in
-    unfilled (all_classes c.args.self.now) c.loop-step.rows.items c.loop-step._step c.loop-step.invariant.reached (omega arith) c.loop-step.invariant.count (ap (list_all is_some) (sym c.deref-2.ensures.value) ∙ sym c.all_there-2.ensures ∙ c.if-all_there-2.false)
+    subst (λ rows. IsPart (all_classes c.args.self.now) rows) (sym c.of-2.ensures)
+    (reached-part (all_classes c.args.self.now) c.loop-step.rows.items c.loop-step._step c.loop-step.invariant.right c.loop-step.invariant.reached (omega arith))
+
+pub returns-clause-all : goal.returns-clause-all
+returns-clause-all c = λ all. all-acyclic (all_classes c.args.self.now) c.loop-step.rows.items c.loop-step.invariant.right c.loop-step.invariant.count (ap (list_all is_some) (sym c.of-2.ensures) ∙ all)

@@ -19,7 +19,7 @@ returns c =
           ∙ ap (λ ids. got_all w (there b.items.result.now) k.name ids b.items-then-takes_added.result.now) c.new-ids.ensures.items
           ∙ ap (λ ps. got_all w (there b.items.result.now) k.name [] ps) (b.items-then-takes_added.ensures ∙ b.in_ok-interfaces.ensures)
           ∙ ap (λ ps. got_all w (there ps) k.name [] (above_at w rows 0 k).interfaces) (b.items.ensures ∙ b.in_ok-line.ensures)
-          ∙ gets-added w rows c.requires k (sym c.takes_added.ensures ∙ b.if-takes_added.true)
+          ∙ gets-added w rows c.requires.part k c.requires.ready (sym c.takes_added.ensures ∙ b.if-takes_added.true)
       | else-takes_added b ↦
-          ap (λ v. v.items) b.ids-is ∙ c.new-ids.ensures.items ∙ gets-none w rows c.requires k (sym c.takes_added.ensures ∙ b.if-takes_added.false)
+          ap (λ v. v.items) b.ids-is ∙ c.new-ids.ensures.items ∙ gets-none w rows c.requires.part k (sym c.takes_added.ensures ∙ b.if-takes_added.false)
     ]

@@ -1,6 +1,6 @@
 use Rattle.std.proofs.Common.{◌≡◌, ◌<◌, ◌≤◌, ◌+◌, [], length, get_or, sym, ap, subst, ◌∙◌}
 use Rattle.std.specs.Prelude.{Some}
-use Rattle.cjc_world.specs.Working.Broken.{member_of, text_of}
+use Rattle.cjc_bytes.specs.Told.{text_of}
 use Rattle.cjc_world.specs.Classes.{Member, all_classes}
 use Rattle.cjc_world.specs.Working.Known.{class_of}
 use Rattle.cjc_world.specs.Rules.{at_member, head, member_rules, members, members_before, told}
@@ -26,9 +26,9 @@ returns-in-Some c =
     let part = c.part.result in
     let broken : Some rule ≡ head (member_rules w k ms i m.name m.desc) =
     c.in-Some.ensures ∙ ap (λ n. head (member_rules w k ms i n c.member_at.result.1.now)) name ∙ ap (λ n. head (member_rules w k ms i m.name n)) desc in
-    ap (λ n. Some (at_member file file_name c.args.class n (member_of part) (text_of part) rule)) c.name.ensures
-    ∙ ap (λ n. Some (at_member file file_name c.args.class k.name n (text_of part) rule)) c.part.ensures.member
-    ∙ ap (λ t. Some (at_member file file_name c.args.class k.name (members_before c.args.field k + i + 1) t rule)) (c.part.ensures.text ∙ ap (λ n. told c.args.field n c.member_at.result.1.now) name ∙ ap (λ n. told c.args.field m.name n) desc)
+    ap (λ n. Some (at_member file file_name c.args.class n c.member_number.result (text_of part) rule)) c.name.ensures
+    ∙ ap (λ n. Some (at_member file file_name c.args.class k.name n (text_of part) rule)) c.member_number.ensures
+    ∙ ap (λ t. Some (at_member file file_name c.args.class k.name (members_before c.args.field k + i + 1) t rule)) (c.part.ensures ∙ ap (λ n. told c.args.field n c.member_at.result.1.now) name ∙ ap (λ n. told c.args.field m.name n) desc)
     ∙ sym (member_breaks file file_name c.args.class w k c.args.field i ms nobody rule within broken)
     ∙ c.loop-place.invariant
 

@@ -1,0 +1,6 @@
+-- Sums that are counted down.
+use Rattle.std.specs.Prelude.{ℕ, ◌-◌, nat_le, if◌then◌else◌, Option, Some, None}
+
+-- what a sum leaves of an allowance
+abbrev pub left_of : (allowance sum : ℕ) → Option ℕ
+left_of allowance sum = if nat_le sum allowance then Some (allowance - sum) else None
