@@ -1,3 +1,11 @@
+pub mod AllMarked
+pub mod Filled
+pub mod Gathering
 pub mod Lattices
+pub mod Listing
+pub mod Marked
+pub mod Runs
+pub mod Shortening
 pub mod Steps
 pub mod Waiting
+pub mod Walking

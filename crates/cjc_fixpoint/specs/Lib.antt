@@ -1,6 +1,11 @@
 pub mod Dataflow
-pub mod Working
+pub mod Gathered
+pub mod Kept
 pub mod Lattice
-pub mod Names
+pub mod Marked
+pub mod Segments
+pub mod Shortened
 pub mod Steps
 pub mod Tables
+pub mod Walks
+pub mod Working

@@ -1,3 +1,6 @@
 -- What the code and its proofs keep for themselves; a reader of the contracts may pass over it.
 pub mod Edges
-pub mod NameLaws
+pub mod GatheredLaws
+pub mod HandedLaws
+pub mod SegmentLaws
+pub mod ShortenedLaws

@@ -5,10 +5,16 @@
 #![tactic(auto)]
 
 mod flow;
+mod handed;
+mod marks;
+mod pending;
+mod segments;
 mod solver;
+mod table;
+mod walk;
 
-pub use flow::{Edge, Flow};
-pub use solver::{Table, solve};
-
-#[cfg(test)]
-mod tests;
+pub use flow::{Edge, Flow, Repeating};
+pub use handed::moved_on;
+pub use marks::{all_marks, is_at, is_marked, marks_of};
+pub use table::{Table, solve};
+pub use walk::{Walk, passed_on};

@@ -1,9 +1,10 @@
 -- Spans inside spans, and each row on operands inside wider ones.
-use Rattle.std.proofs.Common.{◌≡◌, ◌≤◌, ◌<ℤ◌, neg_ℤ, int_div, ℕ, ◌^◌, ℤ, pos, negsuc, ◌+ℤ◌, ◌-ℤ◌, ◌*ℤ◌, ◌≤ℤ◌, ◌⊎◌, Bool, true, false, cond, ◌&&◌, int_le, refl, sym, ap, subst, inl, inr, arith}
+use Rattle.std.proofs.Common.{◌≡◌, ◌<◌, ◌≤◌, ◌<ℤ◌, unsigned_abs, neg_ℤ, int_div, ℕ, ◌^◌, ℤ, pos, negsuc, ◌+ℤ◌, ◌-ℤ◌, ◌*ℤ◌, ◌≤ℤ◌, ◌⊎◌, Bool, true, false, cond, ◌&&◌, int_le, refl, sym, ap, subst, inl, inr, arith}
 use Rattle.std.specs.Int.{int_min, int_max, int_shr}
 use Rattle.std.proofs.lemmas.Int.{ints, clamps, by_lt_z}
-use Rattle.cjc_range.specs.Span.{Span, span, Holds, Within, IsWord, full, byte_range, short_range}
-use Rattle.cjc_range.specs.Rows.{clip, over_ends, greatest_size, add_row, sub_row, mul_row, neg_row, div_row, rem_bound, rem_within, rem_row, join_row, to_byte_row, to_short_row, shift_of, shl_row, shr_row}
+use Rattle.cjc_range.specs.Span.{Span, span, width, Holds, Within, IsWord, full, byte_range, short_range}
+use Rattle.cjc_words.specs.Words.{shift_distance}
+use Rattle.cjc_range.specs.Rows.{clip, over_ends, greatest_size, add_row, sub_row, mul_row, neg_row, div_row, rem_bound, rem_within, rem_row, join_row, to_byte_row, to_short_row, shl_row, shr_row}
 use Rattle.cjc_range.specs.Laws.{IsMonotone, IsMonotoneAlone, GivesWords, GivesWordsAlone}
 use Rattle.cjc_range.proofs.Spans.{span_same, clip_cases, mul_up, mul_ends, div_ends, div_size, size_between, size_of_held, shr_up, shr_spread}
 
@@ -37,6 +38,42 @@ word_full = record { within = within_refl full; ordered = omega (arith, ints) }
 
 pub le_cases : (a b : ℤ) → (a ≤ℤ b) ⊎ (b <ℤ a)
 le_cases a b = by_lt_z b a (λ h. inr h) (λ h. inl h)
+
+-- ---- widths
+
+-- the size of a number that is not negative is the number
+size_is : (z : ℤ) → pos 0 ≤ℤ z → pos (unsigned_abs z) ≡ z
+size_is (pos n) h = refl
+size_is (negsuc n) h = absurd (omega (arith, ints, h))
+
+width_is : (s : Span) → s.low ≤ℤ s.high → pos (width s) ≡ s.high -ℤ s.low
+width_is s h = size_is (s.high -ℤ s.low) (omega (arith, ints, h))
+
+wider_ordered : (s t : Span) → IsWord s → Within s t → t.low ≤ℤ t.high
+wider_ordered s t w h = let a = h.low in let b = h.high in let c = w.ordered in omega (arith, ints, a, b, c)
+
+pub width_up : (s t : Span) → IsWord s → Within s t → width s ≤ width t
+width_up s t w h =
+    let a = h.low in
+    let b = h.high in
+    let e = width_is s w.ordered in
+    let f = width_is t (wider_ordered s t w h) in
+    omega (arith, ints, a, b, e, f)
+
+pub width_rises : (s t : Span) → IsWord s → Within s t → width t ≤ width s → Within t s
+width_rises s t w h le =
+    let a = h.low in
+    let b = h.high in
+    let e = width_is s w.ordered in
+    let f = width_is t (wider_ordered s t w h) in
+    record { low = omega (arith, ints, a, b, e, f, le); high = omega (arith, ints, a, b, e, f, le) }
+
+pub width_small : (s : Span) → IsWord s → width s < 4294967296
+width_small s w =
+    let a = w.within.low in
+    let b = w.within.high in
+    let e = width_is s w.ordered in
+    omega (arith, ints, a, b, e)
 
 -- a choice by an order, at either answer
 pub le_yes : (a b : ℤ) (x y : Span) → a ≤ℤ b → cond (int_le a b) x y ≡ x
@@ -274,31 +311,31 @@ shifted_down s k = span (int_shr s.low k) (int_shr s.high k)
 abbrev spread : Span → Span
 spread s = span (int_min s.low (pos 0)) (int_max s.high (negsuc 0))
 
-shl_one : (s t : Span) → t.high ≤ℤ t.low → shl_row s t ≡ clip full (shifted_up s (shift_of t.low))
-shl_one s t h = le_yes t.high t.low (clip full (shifted_up s (shift_of t.low))) full h
+shl_one : (s t : Span) → t.high ≤ℤ t.low → shl_row s t ≡ clip full (shifted_up s (shift_distance t.low))
+shl_one s t h = le_yes t.high t.low (clip full (shifted_up s (shift_distance t.low))) full h
 
 shl_many : (s t : Span) → t.low <ℤ t.high → shl_row s t ≡ full
-shl_many s t h = le_no t.high t.low (clip full (shifted_up s (shift_of t.low))) full h
+shl_many s t h = le_no t.high t.low (clip full (shifted_up s (shift_distance t.low))) full h
 
 pub shl_word : GivesWords shl_row
 shl_word s t ws wt = elim (le_cases t.high t.low) [
-  | inl one ↦ rw (shl_one s t one) (clip_word (shifted_up s (shift_of t.low)) (mul_up s.low s.high (2 ^ shift_of t.low) ws.ordered))
+  | inl one ↦ rw (shl_one s t one) (clip_word (shifted_up s (shift_distance t.low)) (mul_up s.low s.high (2 ^ shift_distance t.low) ws.ordered))
   | inr many ↦ rw (shl_many s t many) word_full
 ]
 
 pub shl_monotone : IsMonotone shl_row
 shl_monotone s t u v ws wt wu wv h k = elim (le_cases v.high v.low) [
   | inl one ↦ subst (λ (t : Span). Within (shl_row s t) (shl_row u v)) (sym (one_distance t v wt k one))
-      (rw (shl_one s v one, shl_one u v one) (clip_within full (shifted_up s (shift_of v.low)) (shifted_up u (shift_of v.low))
-      (record { low = mul_up u.low s.low (2 ^ shift_of v.low) h.low; high = mul_up s.high u.high (2 ^ shift_of v.low) h.high })))
+      (rw (shl_one s v one, shl_one u v one) (clip_within full (shifted_up s (shift_distance v.low)) (shifted_up u (shift_distance v.low))
+      (record { low = mul_up u.low s.low (2 ^ shift_distance v.low) h.low; high = mul_up s.high u.high (2 ^ shift_distance v.low) h.high })))
   | inr many ↦ rw (shl_many u v many) (shl_word s t ws wt).within
 ]
 
-shr_one : (s t : Span) → t.high ≤ℤ t.low → shr_row s t ≡ shifted_down s (shift_of t.low)
-shr_one s t h = le_yes t.high t.low (shifted_down s (shift_of t.low)) (spread s) h
+shr_one : (s t : Span) → t.high ≤ℤ t.low → shr_row s t ≡ shifted_down s (shift_distance t.low)
+shr_one s t h = le_yes t.high t.low (shifted_down s (shift_distance t.low)) (spread s) h
 
 shr_many : (s t : Span) → t.low <ℤ t.high → shr_row s t ≡ spread s
-shr_many s t h = le_no t.high t.low (shifted_down s (shift_of t.low)) (spread s) h
+shr_many s t h = le_no t.high t.low (shifted_down s (shift_distance t.low)) (spread s) h
 
 -- any shift of a part lies in the spread
 down_within : (s u : Span) (k : ℕ) → IsWord s → Within s u → Within (shifted_down s k) (spread u)
@@ -312,9 +349,9 @@ spread_up s u h = let a = h.low in let b = h.high in record { low = omega (arith
 pub shr_monotone : IsMonotone shr_row
 shr_monotone s t u v ws wt wu wv h k = elim (le_cases v.high v.low) [
   | inl one ↦ subst (λ (t : Span). Within (shr_row s t) (shr_row u v)) (sym (one_distance t v wt k one))
-      (rw (shr_one s v one, shr_one u v one) (record { low = shr_up u.low s.low (shift_of v.low) h.low; high = shr_up s.high u.high (shift_of v.low) h.high }))
+      (rw (shr_one s v one, shr_one u v one) (record { low = shr_up u.low s.low (shift_distance v.low) h.low; high = shr_up s.high u.high (shift_distance v.low) h.high }))
   | inr many ↦ rw (shr_many u v many) (elim (le_cases t.high t.low) [
-    | inl one ↦ rw (shr_one s t one) (down_within s u (shift_of t.low) ws h)
+    | inl one ↦ rw (shr_one s t one) (down_within s u (shift_distance t.low) ws h)
     | inr some ↦ rw (shr_many s t some) (spread_up s u h)
   ])
 ]
@@ -327,6 +364,6 @@ down_word s k w = record { within = within_trans (shifted_down s k) (spread s) f
 
 pub shr_word : GivesWords shr_row
 shr_word s t ws wt = elim (le_cases t.high t.low) [
-  | inl one ↦ rw (shr_one s t one) (down_word s (shift_of t.low) ws)
+  | inl one ↦ rw (shr_one s t one) (down_word s (shift_distance t.low) ws)
   | inr many ↦ rw (shr_many s t many) (spread_full s ws)
 ]

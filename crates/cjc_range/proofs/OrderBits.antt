@@ -7,7 +7,8 @@ use Rattle.std.proofs.Math.Nat.{div-le_self}
 use Rattle.std.proofs.lemmas.Int.{ints, clamps}
 use Rattle.std.proofs.lemmas.Bool.Decides.{nat_tests}
 use Rattle.cjc_range.specs.Span.{Span, span, Within, IsWord, full}
-use Rattle.cjc_range.specs.Rows.{shift_of, ushr_by, ushr_row, of_bits, greatest_mag, least_bits, or_row, and_row}
+use Rattle.cjc_words.specs.Words.{shift_distance}
+use Rattle.cjc_range.specs.Rows.{ushr_by, ushr_row, of_bits, greatest_mag, least_bits, or_row, and_row}
 use Rattle.cjc_range.specs.Laws.{IsMonotone, GivesWords}
 use Rattle.cjc_range.proofs.Spans.{shr_up, shr_of_neg, bits_half, half_lt}
 use Rattle.cjc_range.proofs.Bits.{word_fits, greatest_small, least_bits_up, least_bits_small, or_row_fits}
@@ -140,11 +141,11 @@ by_word s k w = elim (zero_or k) [
 abbrev any_by : Span → Span
 any_by s = cond (int_le (pos 0) s.low) (span (pos 0) s.high) full
 
-ushr_one : (s t : Span) → t.high ≤ℤ t.low → ushr_row s t ≡ ushr_by s (shift_of t.low)
-ushr_one s t h = le_yes t.high t.low (ushr_by s (shift_of t.low)) (any_by s) h
+ushr_one : (s t : Span) → t.high ≤ℤ t.low → ushr_row s t ≡ ushr_by s (shift_distance t.low)
+ushr_one s t h = le_yes t.high t.low (ushr_by s (shift_distance t.low)) (any_by s) h
 
 ushr_many : (s t : Span) → t.low <ℤ t.high → ushr_row s t ≡ any_by s
-ushr_many s t h = le_no t.high t.low (ushr_by s (shift_of t.low)) (any_by s) h
+ushr_many s t h = le_no t.high t.low (ushr_by s (shift_distance t.low)) (any_by s) h
 
 any_up : (s : Span) → pos 0 ≤ℤ s.low → any_by s ≡ span (pos 0) s.high
 any_up s h = le_yes (pos 0) s.low (span (pos 0) s.high) full h
@@ -160,7 +161,7 @@ any_word s w = elim (le_cases (pos 0) s.low) [
 
 pub ushr_word : GivesWords ushr_row
 ushr_word s t ws wt = elim (le_cases t.high t.low) [
-  | inl one ↦ rw (ushr_one s t one) (by_word s (shift_of t.low) ws)
+  | inl one ↦ rw (ushr_one s t one) (by_word s (shift_distance t.low) ws)
   | inr many ↦ rw (ushr_many s t many) (any_word s ws)
 ]
 
@@ -177,7 +178,7 @@ many_monotone s t u ws wt h = elim (le_cases (pos 0) u.low) [
       let low : pos 0 ≤ℤ s.low = let a = h.low in omega (arith, ints, above, a) in
       let wider : Within (span (pos 0) s.high) (span (pos 0) u.high) = record { low = omega (arith, ints); high = h.high } in
       rw (any_up u above) (elim (le_cases t.high t.low) [
-        | inl one ↦ rw (ushr_one s t one) (within_trans (ushr_by s (shift_of t.low)) (span (pos 0) s.high) (span (pos 0) u.high) (by_lessens s (shift_of t.low) ws low) wider)
+        | inl one ↦ rw (ushr_one s t one) (within_trans (ushr_by s (shift_distance t.low)) (span (pos 0) s.high) (span (pos 0) u.high) (by_lessens s (shift_distance t.low) ws low) wider)
         | inr many ↦ rw (ushr_many s t many, any_up s low) wider
       ])
   | inr below ↦ rw (any_full u below) (ushr_word s t ws wt).within
@@ -186,7 +187,7 @@ many_monotone s t u ws wt h = elim (le_cases (pos 0) u.low) [
 pub ushr_monotone : IsMonotone ushr_row
 ushr_monotone s t u v ws wt wu wv h k = elim (le_cases v.high v.low) [
   | inl one ↦ subst (λ (t : Span). Within (ushr_row s t) (ushr_row u v)) (sym (one_distance t v wt k one))
-      (rw (ushr_one s v one, ushr_one u v one) (by_monotone s u (shift_of v.low) ws wu h))
+      (rw (ushr_one s v one, ushr_one u v one) (by_monotone s u (shift_distance v.low) ws wu h))
   | inr many ↦ rw (ushr_many u v many) (many_monotone s t u ws wt h)
 ]
 

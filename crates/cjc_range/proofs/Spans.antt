@@ -9,7 +9,8 @@ use Rattle.std.proofs.Math.Nat.{le_trans, mul-le-mul_left, div-mul-le_self, div-
 use Rattle.std.proofs.lemmas.Nat.{le-div}
 use Rattle.std.proofs.lemmas.Bool.Decides.{nat_tests}
 use Rattle.cjc_range.specs.Span.{Span, span, Holds, Within, IsWord, full, byte_range, short_range}
-use Rattle.cjc_range.specs.Rows.{clip, IsClipped, IsHull, over_ends, int_min_of, int_max_of, greatest_size, add_row, sub_row, mul_row, neg_row, div_row, rem_bound, rem_within, rem_row, to_byte_row, to_short_row, shift_of, shl_row, shr_row, int_ushr, ushr_by, ushr_row}
+use Rattle.cjc_words.specs.Words.{shift_distance, unsigned_shift}
+use Rattle.cjc_range.specs.Rows.{clip, IsClipped, IsHull, over_ends, int_min_of, int_max_of, greatest_size, add_row, sub_row, mul_row, neg_row, div_row, rem_bound, rem_within, rem_row, to_byte_row, to_short_row, shl_row, shr_row, ushr_by, ushr_row}
 
 pub span_same : (a b c d : ℤ) → a ≡ b → c ≡ d → span a c ≡ span b d
 span_same a b c d e f = cc
@@ -295,15 +296,15 @@ shr_spread a b (negsuc x) k h i = let e = div-le_self x (2 ^ k) in record { abov
 pub single : (t : Span) (y : ℤ) → t.high ≤ℤ t.low → Holds t y → y ≡ t.low
 single t y e h = let a = h.above in let b = h.below in omega (arith, ints, a, b, e)
 
-pub shr_holds : (s t : Span) (x y : ℤ) → Holds s x → Holds t y → Holds (shr_row s t) (int_shr x (shift_of y))
+pub shr_holds : (s t : Span) (x y : ℤ) → Holds s x → Holds t y → Holds (shr_row s t) (int_shr x (shift_distance y))
 shr_holds s t x y h k = go (int_le t.high t.low) refl
   where
-    go : (b : Bool) → int_le t.high t.low ≡ b → Holds (cond b (span (int_shr s.low (shift_of t.low)) (int_shr s.high (shift_of t.low))) (span (int_min s.low (pos 0)) (int_max s.high (negsuc 0)))) (int_shr x (shift_of y))
+    go : (b : Bool) → int_le t.high t.low ≡ b → Holds (cond b (span (int_shr s.low (shift_distance t.low)) (int_shr s.high (shift_distance t.low))) (span (int_min s.low (pos 0)) (int_max s.high (negsuc 0)))) (int_shr x (shift_distance y))
     go true e =
         let is : y ≡ t.low = single t y (grind (arith, ints, e)) k in
-        subst (λ (z : ℤ). Holds (span (int_shr s.low (shift_of t.low)) (int_shr s.high (shift_of t.low))) (int_shr x (shift_of z))) (sym is)
-        (record { above = shr_up s.low x (shift_of t.low) h.above; below = shr_up x s.high (shift_of t.low) h.below })
-    go false e = shr_spread s.low s.high x (shift_of y) h.above h.below
+        subst (λ (z : ℤ). Holds (span (int_shr s.low (shift_distance t.low)) (int_shr s.high (shift_distance t.low))) (int_shr x (shift_distance z))) (sym is)
+        (record { above = shr_up s.low x (shift_distance t.low) h.above; below = shr_up x s.high (shift_distance t.low) h.below })
+    go false e = shr_spread s.low s.high x (shift_distance y) h.above h.below
 
 pub shr_fits : (z : ℤ) (k : ℕ) → FitsSigned w32 z → FitsSigned w32 (int_shr z k)
 shr_fits z k f = let a = f.sfits in let b = mag_shr z (2 ^ k) in record { sfits = omega (arith, a, b) }
@@ -313,15 +314,15 @@ pub shr_up_word : (a x : ℤ) (k : ℕ) → FitsSigned w32 a → FitsSigned w32 
 shr_up_word a x k f g h = rw (to_z-of_z w32 a f, to_z-of_z w32 x g, to_z-of_z w32 (int_shr a k) (shr_fits a k f), to_z-of_z w32 (int_shr x k) (shr_fits x k g)) (shr_up a x k h)
 
 -- a shift up multiplies
-pub shl_holds : (s t : Span) (x y : ℤ) → Holds s x → Holds t y → Holds (shl_row s t) (int_wrap w32 (x *ℤ pos (2 ^ shift_of y)))
+pub shl_holds : (s t : Span) (x y : ℤ) → Holds s x → Holds t y → Holds (shl_row s t) (int_wrap w32 (x *ℤ pos (2 ^ shift_distance y)))
 shl_holds s t x y h k = go (int_le t.high t.low) refl
   where
-    go : (b : Bool) → int_le t.high t.low ≡ b → Holds (cond b (clip full (span (s.low *ℤ pos (2 ^ shift_of t.low)) (s.high *ℤ pos (2 ^ shift_of t.low)))) full) (int_wrap w32 (x *ℤ pos (2 ^ shift_of y)))
+    go : (b : Bool) → int_le t.high t.low ≡ b → Holds (cond b (clip full (span (s.low *ℤ pos (2 ^ shift_distance t.low)) (s.high *ℤ pos (2 ^ shift_distance t.low)))) full) (int_wrap w32 (x *ℤ pos (2 ^ shift_distance y)))
     go true e =
         let is : y ≡ t.low = single t y (grind (arith, ints, e)) k in
-        subst (λ (z : ℤ). Holds (clip full (span (s.low *ℤ pos (2 ^ shift_of t.low)) (s.high *ℤ pos (2 ^ shift_of t.low)))) (int_wrap w32 (x *ℤ pos (2 ^ shift_of z)))) (sym is)
-        (clip_holds _ (x *ℤ pos (2 ^ shift_of t.low)) (record { above = mul_up s.low x (2 ^ shift_of t.low) h.above; below = mul_up x s.high (2 ^ shift_of t.low) h.below }))
-    go false e = wraps_word (x *ℤ pos (2 ^ shift_of y))
+        subst (λ (z : ℤ). Holds (clip full (span (s.low *ℤ pos (2 ^ shift_distance t.low)) (s.high *ℤ pos (2 ^ shift_distance t.low)))) (int_wrap w32 (x *ℤ pos (2 ^ shift_distance z)))) (sym is)
+        (clip_holds _ (x *ℤ pos (2 ^ shift_distance t.low)) (record { above = mul_up s.low x (2 ^ shift_distance t.low) h.above; below = mul_up x s.high (2 ^ shift_distance t.low) h.below }))
+    go false e = wraps_word (x *ℤ pos (2 ^ shift_distance y))
 
 -- what the code computes: a shift of 32 bits up by fewer than 32 keeps all bits in 64
 pub shl_exact : (x : ℤ) (k : ℕ) → FitsSigned w32 x → k < 32 → to_z w64 (of_z w64 x * 2 ^ k % 18446744073709551616) ≡ x *ℤ pos (2 ^ k)
@@ -350,28 +351,28 @@ half_lt u k h i =
     omega (arith, e, f)
 
 -- a shift by 1 or more gives a number that is not negative
-ushr_is : (x : ℤ) (k : ℕ) → FitsSigned w32 x → 0 < k → int_ushr x k ≡ pos (of_z w32 x / 2 ^ k)
+ushr_is : (x : ℤ) (k : ℕ) → FitsSigned w32 x → 0 < k → unsigned_shift x k ≡ pos (of_z w32 x / 2 ^ k)
 ushr_is x k f h = to_z_pos w32 (of_z w32 x / 2 ^ k) (half_lt (of_z w32 x) k (word_lt x f) h)
 
-ushr_zero : (x : ℤ) → FitsSigned w32 x → int_ushr x 0 ≡ x
+ushr_zero : (x : ℤ) → FitsSigned w32 x → unsigned_shift x 0 ≡ x
 ushr_zero x f = let e : of_z w32 x / 2 ^ 0 ≡ of_z w32 x = omega arith in ap (λ (n : ℕ). to_z w32 n) e ∙ to_z-of_z w32 x f
 
-ushr_pos : (n k : ℕ) → n < 2147483648 → int_ushr (pos n) k ≡ pos (n / 2 ^ k)
+ushr_pos : (n k : ℕ) → n < 2147483648 → unsigned_shift (pos n) k ≡ pos (n / 2 ^ k)
 ushr_pos n k h = let e = div-le_self n (2 ^ k) in to_z_pos w32 (n / 2 ^ k) (omega (arith, e))
 
 -- the value of the bits of a negative number
 of_neg : (n : ℕ) → n < 2147483648 → negsuc n +ℤ pos 4294967296 ≡ pos (of_z w32 (negsuc n))
 of_neg n h = omega (arith, ints)
 
-ushr_nonneg : (x : ℤ) (k : ℕ) → FitsSigned w32 x → pos 0 ≤ℤ x → int_ushr x k ≡ int_shr x k
+ushr_nonneg : (x : ℤ) (k : ℕ) → FitsSigned w32 x → pos 0 ≤ℤ x → unsigned_shift x k ≡ int_shr x k
 ushr_nonneg (pos n) k f h = let a = f.sfits in ushr_pos n k (omega (arith, a))
 ushr_nonneg (negsuc n) k f h = absurd (omega (arith, ints, h))
 
-ushr_neg : (x : ℤ) (k : ℕ) → FitsSigned w32 x → x <ℤ pos 0 → 0 < k → int_ushr x k ≡ int_shr (x +ℤ pos (2 ^ 32)) k
+ushr_neg : (x : ℤ) (k : ℕ) → FitsSigned w32 x → x <ℤ pos 0 → 0 < k → unsigned_shift x k ≡ int_shr (x +ℤ pos (2 ^ 32)) k
 ushr_neg (pos n) k f h i = absurd (omega (arith, ints, h))
 ushr_neg (negsuc n) k f h i = let a = f.sfits in ushr_is (negsuc n) k f i ∙ sym (ap (λ (z : ℤ). int_shr z k) (of_neg n (omega (arith, a))))
 
-ushr_any : (x : ℤ) (k : ℕ) → FitsSigned w32 x → Holds full (int_ushr x k)
+ushr_any : (x : ℤ) (k : ℕ) → FitsSigned w32 x → Holds full (unsigned_shift x k)
 ushr_any x zero f = rw (ushr_zero x f) (fit_held x f)
   where
     fit_held : (x : ℤ) → FitsSigned w32 x → Holds full x
@@ -379,10 +380,10 @@ ushr_any x zero f = rw (ushr_zero x f) (fit_held x f)
     fit_held (negsuc n) f = let a = f.sfits in record { above = omega (arith, ints, a); below = omega (arith, ints, a) }
 ushr_any x (suc k) f = rw (ushr_is x (suc k) f (omega arith)) (let e = half_lt (of_z w32 x) (suc k) (word_lt x f) (omega arith) in record { above = omega (arith, ints, e); below = omega (arith, ints, e) })
 
-ushr_single : (s : Span) (x : ℤ) (k : ℕ) → FitsSigned w32 x → Holds s x → Holds (ushr_by s k) (int_ushr x k)
+ushr_single : (s : Span) (x : ℤ) (k : ℕ) → FitsSigned w32 x → Holds s x → Holds (ushr_by s k) (unsigned_shift x k)
 ushr_single s x k f h = start (k == 0) refl
   where
-    go : 0 < k → (b c : Bool) → int_le (pos 0) s.low ≡ b → int_lt s.high (pos 0) ≡ c → Holds (cond b (span (int_shr s.low k) (int_shr s.high k)) (cond c (span (int_shr (s.low +ℤ pos (2 ^ 32)) k) (int_shr (s.high +ℤ pos (2 ^ 32)) k)) (span (pos 0) (pos ((2 ^ 32 - 1) / 2 ^ k))))) (int_ushr x k)
+    go : 0 < k → (b c : Bool) → int_le (pos 0) s.low ≡ b → int_lt s.high (pos 0) ≡ c → Holds (cond b (span (int_shr s.low k) (int_shr s.high k)) (cond c (span (int_shr (s.low +ℤ pos (2 ^ 32)) k) (int_shr (s.high +ℤ pos (2 ^ 32)) k)) (span (pos 0) (pos ((2 ^ 32 - 1) / 2 ^ k))))) (unsigned_shift x k)
     go some true c e g = let low : pos 0 ≤ℤ s.low = grind (arith, ints, e) in let a = h.above in
         rw (ushr_nonneg x k f (omega (arith, ints, a, low))) (record { above = shr_up s.low x k h.above; below = shr_up x s.high k h.below })
     go some false true e g = let high : s.high <ℤ pos 0 = grind (arith, ints, g) in let a = h.above in let b = h.below in
@@ -392,28 +393,28 @@ ushr_single s x k f h = start (k == 0) refl
 
     start : (b : Bool) → (k == 0) ≡ b → Holds (cond b s (if int_le (pos 0) s.low then span (int_shr s.low k) (int_shr s.high k)
         else if int_lt s.high (pos 0) then span (int_shr (s.low +ℤ pos (2 ^ 32)) k) (int_shr (s.high +ℤ pos (2 ^ 32)) k)
-        else span (pos 0) (pos ((2 ^ 32 - 1) / 2 ^ k)))) (int_ushr x k)
-    start true e = let none : k ≡ 0 = grind (arith, nat_tests, e) in subst (λ (n : ℕ). Holds s (int_ushr x n)) (sym none) (rw (ushr_zero x f) h)
+        else span (pos 0) (pos ((2 ^ 32 - 1) / 2 ^ k)))) (unsigned_shift x k)
+    start true e = let none : k ≡ 0 = grind (arith, nat_tests, e) in subst (λ (n : ℕ). Holds s (unsigned_shift x n)) (sym none) (rw (ushr_zero x f) h)
     start false e = go (grind (arith, nat_tests, e)) (int_le (pos 0) s.low) (int_lt s.high (pos 0)) refl refl
 
-pub ushr_other : (s : Span) (x : ℤ) (k : ℕ) → FitsSigned w32 x → Holds s x → Holds (if int_le (pos 0) s.low then span (pos 0) s.high else full) (int_ushr x k)
+pub ushr_other : (s : Span) (x : ℤ) (k : ℕ) → FitsSigned w32 x → Holds s x → Holds (if int_le (pos 0) s.low then span (pos 0) s.high else full) (unsigned_shift x k)
 ushr_other s x k f h = go (int_le (pos 0) s.low) refl
   where
     down : (z : ℤ) → pos 0 ≤ℤ z → z ≤ℤ s.high → Holds (span (pos 0) s.high) (int_shr z k)
     down (pos n) p q = let e = div-le_self n (2 ^ k) in record { above = omega (arith, ints); below = omega (arith, ints, e, q) }
     down (negsuc n) p q = absurd (omega (arith, ints, p))
 
-    go : (b : Bool) → int_le (pos 0) s.low ≡ b → Holds (cond b (span (pos 0) s.high) full) (int_ushr x k)
+    go : (b : Bool) → int_le (pos 0) s.low ≡ b → Holds (cond b (span (pos 0) s.high) full) (unsigned_shift x k)
     go true e = let low : pos 0 ≤ℤ s.low = grind (arith, ints, e) in let a = h.above in let up : pos 0 ≤ℤ x = omega (arith, ints, a, low) in
         rw (ushr_nonneg x k f up) (down x up h.below)
     go false e = ushr_any x k f
 
-pub ushr_holds : (s t : Span) (x y : ℤ) → FitsSigned w32 x → Holds s x → Holds t y → Holds (ushr_row s t) (int_ushr x (shift_of y))
+pub ushr_holds : (s t : Span) (x y : ℤ) → FitsSigned w32 x → Holds s x → Holds t y → Holds (ushr_row s t) (unsigned_shift x (shift_distance y))
 ushr_holds s t x y f h k = go (int_le t.high t.low) refl
   where
-    go : (b : Bool) → int_le t.high t.low ≡ b → Holds (cond b (ushr_by s (shift_of t.low)) (if int_le (pos 0) s.low then span (pos 0) s.high else full)) (int_ushr x (shift_of y))
-    go true e = rw (single t y (grind (arith, ints, e)) k) (ushr_single s x (shift_of t.low) f h)
-    go false e = ushr_other s x (shift_of y) f h
+    go : (b : Bool) → int_le t.high t.low ≡ b → Holds (cond b (ushr_by s (shift_distance t.low)) (if int_le (pos 0) s.low then span (pos 0) s.high else full)) (unsigned_shift x (shift_distance y))
+    go true e = rw (single t y (grind (arith, ints, e)) k) (ushr_single s x (shift_distance t.low) f h)
+    go false e = ushr_other s x (shift_distance y) f h
 
 -- a number that two ends of 32 bits enclose has 32 bits
 pub held_fits : (s : Span) (x : ℤ) → FitsSigned w32 s.low → FitsSigned w32 s.high → Holds s x → FitsSigned w32 x

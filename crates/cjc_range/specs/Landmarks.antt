@@ -19,6 +19,7 @@ landmark_below z = unwrap_or (find (λ m. int_le m z) (reverse landmarks)) (negs
 abbrev pub round_row : Span → Span
 round_row s = span (landmark_below s.low) (landmark_above s.high)
 
+-- the number is a landmark
 abbrev pub IsLandmark : ℤ → Type 0
 IsLandmark z = Contains landmarks z
 

@@ -1,8 +1,9 @@
 -- The row of each operation: the span of its result, from the spans of its operands. In each row the
 -- left operand is from a to b and the right one from c to d.
-use Rattle.std.specs.Prelude.{◌≡◌, ℕ, zero, suc, ◌+◌, ◌-◌, ◌/◌, ◌%◌, ◌^◌, ◌≤◌, min, max, ℤ, pos, negsuc, ◌+ℤ◌, ◌-ℤ◌, ◌*ℤ◌, neg_ℤ, int_le, int_lt, int_div, unsigned_abs, ◌==◌, nat_lt, ◌&&◌, if◌then◌else◌, MatchBool}
-use Rattle.std.specs.Int.{w32, int_min, int_max, int_shr, cast_unsigned, cast_signed}
+use Rattle.std.specs.Prelude.{◌≡◌, ℕ, zero, suc, ◌+◌, ◌-◌, ◌/◌, ◌^◌, ◌≤◌, min, max, ℤ, pos, negsuc, ◌+ℤ◌, ◌-ℤ◌, ◌*ℤ◌, neg_ℤ, int_le, int_lt, int_div, unsigned_abs, ◌==◌, nat_lt, ◌&&◌, if◌then◌else◌, MatchBool}
+use Rattle.std.specs.Int.{int_min, int_max, int_shr}
 use Rattle.std.specs.Int.Signed.{mag}
+use Rattle.cjc_words.specs.Words.{shift_distance}
 use Rattle.cjc_range.specs.Span.{Span, span, Holds, full, byte_range, short_range}
 
 -- the span where it fits the range, else the range
@@ -36,12 +37,15 @@ over_ends f s t =
 abbrev pub add_row : Span → Span → Span
 add_row s t = clip full (over_ends (λ x y. x +ℤ y) s t)
 
+-- differences
 abbrev pub sub_row : Span → Span → Span
 sub_row s t = clip full (over_ends (λ x y. x -ℤ y) s t)
 
+-- products
 abbrev pub mul_row : Span → Span → Span
 mul_row s t = clip full (over_ends (λ x y. x *ℤ y) s t)
 
+-- numbers with their signs turned
 abbrev pub neg_row : Span → Span
 neg_row s = clip full (span (int_min (neg_ℤ s.low) (neg_ℤ s.high)) (int_max (neg_ℤ s.low) (neg_ℤ s.high)))
 
@@ -64,6 +68,7 @@ rem_bound s t = min (greatest_size t - 1) (greatest_size s)
 abbrev pub rem_within : Span → ℕ → Span
 rem_within s k = span (if int_le (pos 0) s.low then pos 0 else neg_ℤ (pos k)) (if int_le s.high (pos 0) then pos 0 else pos k)
 
+-- remainders, with the sign of the number that is divided
 abbrev pub rem_row : Span → Span → Span
 rem_row s t = rem_within s (rem_bound s t)
 
@@ -75,32 +80,25 @@ join_row s t = span (int_min s.low t.low) (int_max s.high t.high)
 abbrev pub to_byte_row : Span → Span
 to_byte_row s = clip byte_range s
 
+-- the same of shorts
 abbrev pub to_short_row : Span → Span
 to_short_row s = clip short_range s
 
 -- ---- shifts
 
--- the low five bits
-abbrev pub shift_of : ℤ → ℕ
-shift_of y = cast_unsigned w32 y % 32
-
 -- c = d: both ends times 2 to the distance; otherwise all numbers
 abbrev pub shl_row : Span → Span → Span
 shl_row s t =
     if int_le t.high t.low
-    then clip full (span (s.low *ℤ pos (2 ^ shift_of t.low)) (s.high *ℤ pos (2 ^ shift_of t.low)))
+    then clip full (span (s.low *ℤ pos (2 ^ shift_distance t.low)) (s.high *ℤ pos (2 ^ shift_distance t.low)))
     else full
 
 -- c = d: both ends shifted; otherwise up to 0 and down to -1 too
 abbrev pub shr_row : Span → Span → Span
 shr_row s t =
     if int_le t.high t.low
-    then span (int_shr s.low (shift_of t.low)) (int_shr s.high (shift_of t.low))
+    then span (int_shr s.low (shift_distance t.low)) (int_shr s.high (shift_distance t.low))
     else span (int_min s.low (pos 0)) (int_max s.high (negsuc 0))
-
--- the number whose 32 bits are those of x, shifted down with zeros
-abbrev pub int_ushr : ℤ → ℕ → ℤ
-int_ushr x k = cast_signed w32 (cast_unsigned w32 x / 2 ^ k)
 
 -- the row of one distance k
 abbrev pub ushr_by : Span → ℕ → Span
@@ -113,7 +111,7 @@ ushr_by s k =
 -- c = d: by the distance; otherwise from 0 to b where a is not negative, else all numbers
 abbrev pub ushr_row : Span → Span → Span
 ushr_row s t =
-    if int_le t.high t.low then ushr_by s (shift_of t.low)
+    if int_le t.high t.low then ushr_by s (shift_distance t.low)
     else (if int_le (pos 0) s.low then span (pos 0) s.high else full)
 
 -- ---- bits
@@ -168,6 +166,7 @@ greatest_mag s t = max (max (mag s.low) (mag s.high)) (max (mag t.low) (mag t.hi
 abbrev pub or_row : Span → Span → Span
 or_row s t = of_bits s t (least_bits (greatest_mag s t))
 
+-- the row of and, from the signs of the low ends
 abbrev pub and_row : Span → Span → Span
 and_row s t =
     if int_le (pos 0) s.low

@@ -1,11 +1,12 @@
 -- Spans of whole numbers: what an interval is to a contract.
-use Rattle.std.specs.Prelude.{ℤ, pos, negsuc, ◌≤ℤ◌}
+use Rattle.std.specs.Prelude.{ℕ, ℤ, pos, negsuc, ◌-ℤ◌, ◌≤ℤ◌, unsigned_abs}
 
 -- the numbers from low to high
 pub record Span : Type 0 where
   pub low : ℤ
   pub high : ℤ
 
+-- the span of two ends
 abbrev pub span : ℤ → ℤ → Span
 span low high = record { low = low; high = high }
 
@@ -18,6 +19,10 @@ pub record Holds (s : Span) (z : ℤ) : Type 0 where
 pub record Within (s t : Span) : Type 0 where
   pub low : t.low ≤ℤ s.low
   pub high : s.high ≤ℤ t.high
+
+-- how far its ends lie apart
+abbrev pub width : Span → ℕ
+width s = unsigned_abs (s.high -ℤ s.low)
 
 -- all numbers of 8, 16 and 32 bits
 abbrev pub byte_range : Span

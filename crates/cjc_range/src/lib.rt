@@ -5,10 +5,11 @@
 #![tactic(auto)]
 
 ghost use Rattle.std.specs.Prelude.{◌≡◌, ◌≢◌, ◌+◌, ◌-◌, ◌/◌, ◌<◌, ◌≤◌, ◌^◌, ◌↔◌, max, ℤ, pos, negsuc, neg_ℤ, ◌+ℤ◌, ◌-ℤ◌, ◌*ℤ◌, ◌≤ℤ◌, ◌<ℤ◌, int_div, int_rem, IsTrue};
-ghost use Rattle.std.specs.Int.{w8, w16, w32, int_wrap, int_shr, int_min, int_max, int_bit_and, int_bit_or, int_bit_xor, cast_unsigned};
+ghost use Rattle.std.specs.Int.{w32, int_shr, int_min, int_max, int_bit_and, int_bit_or, int_bit_xor, cast_unsigned};
 ghost use Rattle.std.specs.Int.Signed.{mag};
-ghost use Rattle.cjc_range.specs.Span.{Holds, Within, IsWord, span};
-ghost use Rattle.cjc_range.specs.Rows.{clip, greatest_size, add_row, sub_row, mul_row, neg_row, div_row, rem_row, rem_within, join_row, to_byte_row, to_short_row, shift_of, shl_row, shr_row, int_ushr, ushr_by, ushr_row, IsOrRow, IsAndRow, IsClipped, below_power};
+ghost use Rattle.cjc_range.specs.Span.{Holds, Within, IsWord, span, width};
+ghost use Rattle.cjc_words.specs.Words.{wide, low_word, low_byte, shift_distance, unsigned_shift};
+ghost use Rattle.cjc_range.specs.Rows.{clip, greatest_size, add_row, sub_row, mul_row, neg_row, div_row, rem_row, rem_within, join_row, to_byte_row, to_short_row, shl_row, shr_row, ushr_by, ushr_row, IsOrRow, IsAndRow, IsClipped, below_power};
 ghost use Rattle.cjc_range.specs.Landmarks.{round_row};
 
 mod ends;
@@ -18,8 +19,8 @@ mod laws;
 use ends::{hull, products, quotients};
 use landmarks::{landmark_above, landmark_below};
 pub use laws::{
-    bit_rows_are_functions, intervals_are_monotone, join_is_least, rounding_is_outwards,
-    rows_stay_words,
+    bit_rows_are_functions, intervals_are_a_lattice, intervals_are_monotone, rounding_is_outwards,
+    rows_hold_values, rows_stay_words, wider_holds_more,
 };
 use std::marker::Model;
 
@@ -68,7 +69,7 @@ impl Interval {
     pub fn add(self, other: Interval) -> Interval
         ensures row { result ≡ add_row self other }
         ensures holds { (x y : ℤ) → Holds self x → Holds other y →
-            Holds result (int_wrap w32 (x +ℤ y)) }
+            Holds result (wide (x +ℤ y)) }
     {
         clipped(
             i64::from(self.low) + i64::from(other.low),
@@ -80,7 +81,7 @@ impl Interval {
     pub fn sub(self, other: Interval) -> Interval
         ensures row { result ≡ sub_row self other }
         ensures holds { (x y : ℤ) → Holds self x → Holds other y →
-            Holds result (int_wrap w32 (x -ℤ y)) }
+            Holds result (wide (x -ℤ y)) }
     {
         clipped(
             i64::from(self.low) - i64::from(other.high),
@@ -92,7 +93,7 @@ impl Interval {
     pub fn mul(self, other: Interval) -> Interval
         ensures row { result ≡ mul_row self other }
         ensures holds { (x y : ℤ) → Holds self x → Holds other y →
-            Holds result (int_wrap w32 (x *ℤ y)) }
+            Holds result (wide (x *ℤ y)) }
     {
         hull(products(self, other))
     }
@@ -101,7 +102,7 @@ impl Interval {
     pub fn div(self, other: Interval) -> Interval
         ensures row { result ≡ div_row self other }
         ensures holds { (x y : ℤ) → Holds self x → Holds other y →
-            y ≢ pos 0 → Holds result (int_wrap w32 (int_div x y)) }
+            y ≢ pos 0 → Holds result (wide (int_div x y)) }
     {
         if 1 <= other.low {
             hull(quotients(self, other))
@@ -124,7 +125,7 @@ impl Interval {
     /// The numbers with their signs turned, as ineg gives them.
     pub fn neg(self) -> Interval
         ensures row { result ≡ neg_row self }
-        ensures holds { (x : ℤ) → Holds self x → Holds result (int_wrap w32 (neg_ℤ x)) }
+        ensures holds { (x : ℤ) → Holds self x → Holds result (wide (neg_ℤ x)) }
     {
         clipped(-i64::from(self.high), -i64::from(self.low))
     }
@@ -133,7 +134,7 @@ impl Interval {
     pub fn shl(self, other: Interval) -> Interval
         ensures row { result ≡ shl_row self other }
         ensures holds { (x y : ℤ) → Holds self x → Holds other y →
-            Holds result (int_wrap w32 (x *ℤ pos (2 ^ shift_of y))) }
+            Holds result (wide (x *ℤ pos (2 ^ shift_distance y))) }
     {
         if other.high <= other.low {
             self.shifted_up(low_five(other.low))
@@ -146,7 +147,7 @@ impl Interval {
     pub fn shr(self, other: Interval) -> Interval
         ensures row { result ≡ shr_row self other }
         ensures holds { (x y : ℤ) → Holds self x → Holds other y →
-            Holds result (int_shr x (shift_of y)) }
+            Holds result (int_shr x (shift_distance y)) }
     {
         if other.high <= other.low {
             self.shifted_down(low_five(other.low))
@@ -159,7 +160,7 @@ impl Interval {
     pub fn ushr(self, other: Interval) -> Interval
         ensures row { result ≡ ushr_row self other }
         ensures holds { (x y : ℤ) → Holds self x → Holds other y →
-            Holds result (int_ushr x (shift_of y)) }
+            Holds result (unsigned_shift x (shift_distance y)) }
     {
         let negative = self.low < 0;
         if other.high <= other.low {
@@ -211,7 +212,7 @@ impl Interval {
     /// The low bytes as numbers with a sign, as i2b gives them.
     pub fn to_byte(self) -> Interval
         ensures row { result ≡ to_byte_row self }
-        ensures holds { (x : ℤ) → Holds self x → Holds result (int_wrap w8 x) }
+        ensures holds { (x : ℤ) → Holds self x → Holds result (low_byte x) }
     {
         self.clipped_to(BYTE)
     }
@@ -219,7 +220,7 @@ impl Interval {
     /// The low words as numbers with a sign, as i2s gives them.
     pub fn to_short(self) -> Interval
         ensures row { result ≡ to_short_row self }
-        ensures holds { (x : ℤ) → Holds self x → Holds result (int_wrap w16 x) }
+        ensures holds { (x : ℤ) → Holds self x → Holds result (low_word x) }
     {
         self.clipped_to(SHORT)
     }
@@ -245,6 +246,13 @@ impl Interval {
             low: landmark_below(self.low),
             high: landmark_above(self.high),
         }
+    }
+
+    /// How far its ends lie apart: its rank among intervals, below 2^32.
+    pub fn width(self) -> u32
+        ensures { result ≡ width self }
+    {
+        (i64::from(self.high) - i64::from(self.low)) as u32
     }
 
     /// Whether all its numbers are at least `low` and at most `high`.
@@ -438,11 +446,8 @@ fn up_to_shifted(shift: u32) -> Interval
 
 /// The low five bits.
 fn low_five(distance: i32) -> u32
-    ensures value { result ≡ shift_of distance }
+    ensures value { result ≡ shift_distance distance }
     ensures bound { result < 32 }
 {
     distance.cast_unsigned() % 32
 }
-
-#[cfg(test)]
-mod tests;

@@ -8,7 +8,6 @@ use Rattle.cjc_bytes.specs.declared.fault.Refusal.{Refusal}
 use Rattle.cjc_classfile.specs.Code.{CodeTree}
 use Rattle.cjc_classfile.specs.declared.tree.ClassTree.{ClassTree}
 use Rattle.cjc_classfile.specs.declared.tree.MethodTree.{MethodTree}
-use Rattle.cjc_code.specs.Decoded.{refusal_in}
 use Rattle.cjc_code.specs.declared.insn.JInsn.{JInsn}
 use Rattle.cjc_code.specs.declared.method_code.MethodCode.{MethodCode}
 use Rattle.cjc_fixpoint.specs.Tables.{HasRow}
@@ -23,7 +22,7 @@ use Rattle.cjc_types.specs.declared.table.TypeTable.{TypeTable}
 use Rattle.cjc_types.specs.Flow.{Body, body_of, type_flow}
 use Rattle.cjc_types.specs.Search.{first_from, frames_of}
 use Rattle.cjc_types.specs.Working.StateLaws.{same_state}
-use Rattle.cjc_types.specs.Tables.{state_of, states_of, IsLeastTable, IsMethodOf, Breach, FirstBreach, IsTypeTable, IsRefusedBy, IsRefused, Answers}
+use Rattle.cjc_types.specs.Tables.{state_of, states_of, IsLeastTable, IsMethodOf, Breach, FirstBreach, IsTypeTable, IsRefusedBy, IsRefused, Answers, refusal_in}
 use Rattle.cjc_types.proofs.Answering.{first_breach, unbroken_rows, states-frames}
 
 -- ---- one least table

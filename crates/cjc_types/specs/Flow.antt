@@ -9,7 +9,7 @@ use Rattle.cjc_code.specs.declared.insn.JOp.{JOp}
 use Rattle.cjc_fixpoint.specs.declared.flow.Edge.{Edge}
 use Rattle.cjc_fixpoint.specs.Dataflow.{Dataflow}
 use Rattle.cjc_fixpoint.specs.Lattice.{flow_of}
-use Rattle.cjc_world.specs.Classes.{is_static}
+use Rattle.cjc_bytes.specs.AccessFlags.{is_static}
 use Rattle.cjc_types.specs.declared.cell.Cell.{Cell}
 use Rattle.cjc_types.specs.declared.cell.Cell.TheVariants.{Refs, Unusable}
 use Rattle.cjc_types.specs.declared.state.Stack.TheVariants.{Cells}

@@ -8,7 +8,8 @@ use Rattle.cjc_bytes.specs.declared.names.Kind.{Kind}
 use Rattle.cjc_bytes.specs.declared.names.Kind.TheVariants as kinds
 use Rattle.cjc_code.specs.declared.insn.JOp.{JOp}
 use Rattle.cjc_code.specs.declared.insn.JOp.TheVariants as jop
-use Rattle.cjc_world.specs.Classes.{Class, Member, class_at, is_private}
+use Rattle.cjc_world.specs.Classes.{Class, Member, class_at}
+use Rattle.cjc_bytes.specs.AccessFlags.{is_private}
 use Rattle.cjc_world.specs.Lookup.{find_method}
 use Rattle.cjc_world.specs.Subtype.{is_subtype, starts}
 use Rattle.cjc_world.specs.declared.found.Found.{Found}

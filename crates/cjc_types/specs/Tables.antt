@@ -1,12 +1,13 @@
 -- What inference answers: the least table of a method, or the first rule that it breaks.
-use Rattle.std.specs.Prelude.{◌≡◌, ◌⊎◌, ◌<◌, ◌≤◌, ℕ, List, map, length, slice_get, Option, Some, option_map, Result, Ok, Err}
+use Rattle.std.specs.Prelude.{◌≡◌, ◌⊎◌, ◌<◌, ◌≤◌, ℕ, List, ◌++◌, map, length, slice_get, Option, Some, option_map, Result, Ok, Err}
 use Rattle.cjc_bytes.specs.declared.fault.Fault.{Fault}
 use Rattle.cjc_bytes.specs.declared.fault.Fault.TheVariants as faults
 use Rattle.cjc_bytes.specs.declared.fault.Refusal.{Refusal}
 use Rattle.cjc_classfile.specs.Code.{CodeTree}
 use Rattle.cjc_classfile.specs.declared.tree.ClassTree.{ClassTree}
 use Rattle.cjc_classfile.specs.declared.tree.MethodTree.{MethodTree}
-use Rattle.cjc_code.specs.Decoded.{decoding_at, refusal_in}
+use Rattle.cjc_code.specs.Decoded.{decoding_at}
+use Rattle.cjc_code.specs.declared.decoding.Broken.{Broken}
 use Rattle.cjc_code.specs.declared.insn.JInsn.{JInsn}
 use Rattle.cjc_code.specs.declared.method_code.MethodCode.{MethodCode}
 use Rattle.cjc_fixpoint.specs.Tables.{HasRow, IsLeastClosed}
@@ -62,6 +63,13 @@ pub record FirstBreach (w : List Class) (b : Body) (rows : List (Option State)) 
   pub first : (other_place other_rule : ℕ) → Breach w b rows other_place other_rule → (place < other_place) ⊎ ((place ≡ other_place) × (rule ≤ other_rule))
 
 -- ---- what is answered
+
+-- the refusal of a method's code
+abbrev pub refusal_in : (file : List ℕ) → ClassTree → MethodTree → Broken → Refusal
+refusal_in file class method broken = record {
+  rule = record { 0 = broken.rule };
+  place = record { file = file; class = class.name; member = method.name ++ method.desc; offset = broken.offset };
+}
 
 -- The table is the least one, and no reached instruction breaks a rule.
 pub record IsTypeTable (w : List Class) (b : Body) (table : TypeTable) : Type 0 where

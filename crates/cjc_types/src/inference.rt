@@ -4,10 +4,9 @@ ghost use Rattle.std.specs.Prelude.{◌≡◌, ◌<◌, ◌^◌, List, length, o
 ghost use Rattle.cjc_world.specs.Classes.{all_classes};
 ghost use Rattle.cjc_types.specs.Search.{row_rule as row_rule_of, first_from, cells_of as cells_of_stack, frame_of as frame_of_state, frames_of};
 ghost use Rattle.cjc_types.specs.Flow.{body_of};
-ghost use Rattle.cjc_types.specs.Tables.{Answers, IsLeastTable, IsMethodOf, IsOfPackage, IsRefused, IsRefusedBy, IsTypeTable};
+ghost use Rattle.cjc_types.specs.Tables.{Answers, IsLeastTable, IsMethodOf, IsOfPackage, IsRefused, IsRefusedBy, IsTypeTable, refusal_in};
 ghost use Rattle.cjc_bytes.specs.Refused.{IsUnlessNoMemory};
 ghost use Rattle.cjc_bytes.specs.declared.fault.Fault.TheVariants as faults;
-ghost use Rattle.cjc_code.specs.Decoded.{refusal_in};
 ghost use Rattle.cjc_classfile.specs.Code.{CodeTree};
 ghost use Rattle.cjc_classfile.specs.declared.tree.ClassTree.{ClassTree as Class};
 ghost use Rattle.cjc_classfile.specs.declared.tree.MethodTree.{MethodTree as ClassMethod};
@@ -23,7 +22,7 @@ use crate::table::{Frame, TypeTable};
 use cjc_bytes::{Bytes, Fault, NoMemory, Place, Refusal, Row, Rule};
 use cjc_classfile::{ClassTree, Code, MethodTree};
 use cjc_code::{JInsn, MethodCode};
-use cjc_fixpoint::solve;
+use cjc_fixpoint::{all_marks, solve};
 use cjc_world::World;
 use std::alloc::Global;
 
@@ -189,7 +188,9 @@ fn infer_code(
         insns,
         places: places.items(),
     };
-    let table = solve(alloc, &body, insns.len() as u32)?;
+    let count = insns.len() as u32;
+    let marks = all_marks(alloc, count)?;
+    let table = solve(alloc, &body, count, &marks)?;
     judged(
         alloc,
         file,

@@ -14,8 +14,6 @@ mod rules;
 mod state;
 mod steps;
 mod table;
-#[cfg(test)]
-mod tests;
 mod types;
 
 pub use cell::Cell;

@@ -9,10 +9,10 @@ ghost use Rattle.cjc_types.specs.Types.{parts, value_of};
 use crate::cell::Cell;
 use crate::state::{self, Stack, State};
 use crate::{names, steps, types};
-use cjc_bytes::{Bytes, NoMemory, Row};
+use cjc_bytes::{Bytes, NoMemory, Row, is_static};
 use cjc_classfile::Catch;
 use cjc_code::{JInsn, JOp};
-use cjc_fixpoint::{Edge, Flow};
+use cjc_fixpoint::{Edge, Flow, Repeating, moved_on};
 use std::alloc::Global;
 use std::marker::Model;
 
@@ -118,7 +118,7 @@ impl<'a> Method<'a> {
         ensures { IfOk result (λ cells. cells ≡ arguments_of self.now) }
     {
         let mut cells = Row::new(alloc);
-        if self.flags & 0x0008 == 0 {
+        if !is_static(self.flags) {
             let types = names::one_name(alloc, self.class)?;
             cells.push(Cell::Refs(types))?;
         }
@@ -276,5 +276,23 @@ impl Flow for Method<'_> {
     #[tactic(auto, unfolding(crate::specs::States::most_cells, crate::specs::Cells::most_names))]
     fn height(&self) -> u64 {
         393_216 * (1 << 32) + 1 + u64::from(self.max_locals) * (1 << 32)
+    }
+}
+
+impl Repeating for Method<'_> {
+    ghost use Rattle.std.specs.Prelude.{false};
+    ghost use Rattle.cjc_types.specs.Flow.{type_flow};
+    ghost use Rattle.cjc_fixpoint.specs.Working.ShortenedLaws.{never};
+
+    ghost again = { λ _ _. false };
+
+    ghost repeated = { λ method. never (type_flow method) };
+
+    fn repeats(&self, _at: u32) -> bool {
+        false
+    }
+
+    fn pass(&self, alloc: Global, at: u32, before: State) -> Result<Option<State>, NoMemory> {
+        moved_on(alloc, self, at, Some(before))
     }
 }

@@ -13,7 +13,7 @@ use crate::cell::Cell;
 use crate::method::Method;
 use crate::state::{Stack, State};
 use crate::{steps, types};
-use cjc_bytes::{Bytes, Kind, MemberId, NoMemory};
+use cjc_bytes::{Bytes, Kind, MemberId, NoMemory, is_private};
 use cjc_code::JOp;
 use cjc_world::{Found, Known, World};
 use std::alloc::Global;
@@ -172,7 +172,7 @@ fn is_private_at(class: Known<'_, '_>, found: Found) -> bool
     ensures { result ≡ is_private_in found (Some (class_of class.entry)) }
 {
     let place = (found.member as usize).saturating_sub(class.field_count());
-    place < class.member_count(false) && class.member_flags(false, place) & 0x0002 > 0
+    place < class.member_count(false) && is_private(class.member_flags(false, place))
 }
 
 /// Whether an instruction names a private method.

@@ -12,7 +12,7 @@ use Rattle.cjc_fixpoint.specs.declared.flow.Edge.{Edge}
 use Rattle.cjc_fixpoint.specs.Dataflow.{IsLawful, StaysWithin, AreBelow}
 use Rattle.cjc_fixpoint.specs.Working.Edges.{AreBelowInTurn, below_from_zip, AreBelow-append, AreBelow-map}
 use Rattle.cjc_fixpoint.proofs.Lattices.{flow_laws}
-use Rattle.cjc_world.specs.Classes.{is_static}
+use Rattle.cjc_bytes.specs.AccessFlags.{is_static}
 use Rattle.cjc_types.specs.declared.cell.Cell.{Cell}
 use Rattle.cjc_types.specs.declared.cell.Cell.TheVariants.{Refs, Unusable}
 use Rattle.cjc_types.specs.declared.state.State.{State}
