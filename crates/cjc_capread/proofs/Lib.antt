@@ -1,2 +1,4 @@
 pub mod Opcodes
 pub mod Untils
+pub mod Decoding
+pub mod Headers

@@ -6,7 +6,7 @@ use Rattle.cjc_capread.specs.declared.opcode.TheConstants.{SHAPES}
 use Rattle.cjc_capread.specs.declared.opcode.OpInfo.{OpInfo}
 use Rattle.cjc_capread.specs.declared.opcode.Shape.{Shape}
 use Rattle.cjc_capread.specs.Opcodes.{Form, forms, form, info, op_info}
-use Rattle.cjc_capread.specs.Shapes.{shape_info}
+use Rattle.cjc_capread.specs.Working.Shapes.{shape_info}
 
 same_tables : map shape_info SHAPES ≡ map (option_map info) forms
 unfolding forms

@@ -15,6 +15,7 @@ interface_entry flags count = do
   superinterfaces ← repeated count class_ref
   gives (record { flags = flags; superinterfaces = superinterfaces })
 
+-- an interface that a class implements, and the token of the virtual method for each of its tokens
 unfoldable pub implemented_interface : Format ImplementedInterface
 implemented_interface = do
   interface ← class_ref
@@ -37,6 +38,7 @@ class_entry flags count = do
   interfaces ← repeated count implemented_interface
   gives (record { flags = flags; superclass = superclass; declared_instance_size = declared_instance_size; first_reference_token = first_reference_token; reference_count = reference_count; public_base = public_base; package_base = package_base; public_methods = public_methods; package_methods = package_methods; interfaces = interfaces })
 
+-- whether a list is empty
 abbrev pub is_none : {A : Type 0} → List A → Bool
 is_none [] = true
 is_none (x ∷ xs) = false
@@ -45,9 +47,11 @@ is_none (x ∷ xs) = false
 abbrev pub first_byte : ClassInfo → ℕ → Option ℕ
 first_byte so_far n = if nat_lt n 0x80 then Some n else if is_none so_far.classes then Some n else None
 
+-- one interface more
 abbrev pub with_interface : ClassInfo → InterfaceEntry → ClassInfo
 with_interface so_far x = record { interfaces = so_far.interfaces ++ x ∷ []; classes = so_far.classes }
 
+-- one class more
 abbrev pub with_class : ClassInfo → ClassEntry → ClassInfo
 with_class so_far x = record { interfaces = so_far.interfaces; classes = so_far.classes ++ x ∷ [] }
 
@@ -60,9 +64,11 @@ entry_content so_far false n = do
   x ← interface_entry (n / 16) (n % 16)
   gives (with_interface so_far x)
 
+-- the next interface or class, after these
 unfoldable pub next_entry : ClassInfo → Format ClassInfo
 next_entry so_far = number w8 (first_byte so_far) >>= λ n. entry_content so_far (nat_lt n 0x80) n
 
+-- neither interfaces nor classes
 abbrev pub no_entries : ClassInfo
 no_entries = record { interfaces = []; classes = [] }
 

@@ -39,6 +39,7 @@ type_of n =
     else if n == 0x8005 then Some types.Int
     else None
 
+-- a field (section 6.13.2)
 unfoldable pub field_descriptor : Format FieldDescriptor
 field_descriptor = do
   token ← u1
@@ -47,6 +48,7 @@ field_descriptor = do
   type ← number w16 type_of
   gives (record { token = token; flags = flags; place = place; type_ = type })
 
+-- a method (section 6.13.3)
 unfoldable pub method_descriptor : Format MethodDescriptor
 method_descriptor = do
   token ← u1
@@ -58,6 +60,7 @@ method_descriptor = do
   first_handler ← u2
   gives (record { token = token; flags = flags; offset = offset; type_offset = type_offset; bytecode_count = bytecode_count; handler_count = handler_count; first_handler = first_handler })
 
+-- a class or interface with its members (section 6.13.1)
 unfoldable pub class_descriptor : Format ClassDescriptor
 class_descriptor = do
   token ← u1
@@ -86,6 +89,7 @@ ended true nibbles = do
   gives (record { nibbles = nibbles ++ last ∷ [] })
 ended false nibbles = gives (record { nibbles = nibbles })
 
+-- a type descriptor: how many nibbles, and these in pairs (section 6.13.4)
 unfoldable pub type_descriptor : Format TypeDescriptor
 type_descriptor = do
   count ← u1

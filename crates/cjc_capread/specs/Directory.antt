@@ -4,6 +4,7 @@ use Rattle.cjc_bytes.specs.Format.{Format, number, gives, ◌>>=◌, repeated, u
 use Rattle.cjc_capread.specs.declared.tree.Directory.{Directory}
 use Rattle.cjc_capread.specs.Parts.{exactly}
 
+-- twelve sizes, five counts, and no custom component
 unfoldable pub directory : Format Directory
 directory = do
   sizes ← repeated 12 u2

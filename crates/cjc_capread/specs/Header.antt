@@ -4,6 +4,7 @@ use Rattle.cjc_bytes.specs.Format.{Format, number, gives, ◌>>=◌, u1}
 use Rattle.cjc_capread.specs.declared.tree.Header.{Header}
 use Rattle.cjc_capread.specs.Parts.{exactly, bytes1}
 
+-- the magic number and version 2.2 of the format, then what the package is
 unfoldable pub header : Format Header
 header = do
   magic ← number w32 (exactly 0xDECAFFED)

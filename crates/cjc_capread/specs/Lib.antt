@@ -1,5 +1,4 @@
 pub mod Opcodes
-pub mod Shapes
 pub mod Parts
 pub mod ClassRefs
 pub mod Header
@@ -15,3 +14,7 @@ pub mod ReferenceLocation
 pub mod Export
 pub mod Descriptor
 pub mod Component
+pub mod Decode
+pub mod MethodHeader
+pub mod Kinds
+pub mod Working

@@ -23,6 +23,7 @@ pub data Form : Type 0 where
   -- an offset of two bytes for the default, a count of two bytes without sign, and so many matches, each with an offset of two bytes
   Lookup : (matches : Operand) → Form
 
+-- the bytes of an operand
 abbrev pub width : Operand → ℕ
 width Byte = 1
 width Signed1 = 1
@@ -31,6 +32,7 @@ width Signed4 = 4
 width Index1 = 1
 width Index2 = 2
 
+-- the bytes of all
 abbrev pub widths : List Operand → ℕ
 widths [] = 0
 widths (x ∷ xs) = width x + widths xs
@@ -108,5 +110,6 @@ info (Fields xs) = record { length = 1 + widths xs; index_at = index_place 1 xs;
 info (Table matches) = record { length = 0; index_at = 0; index_bytes = 0 }
 info (Lookup matches) = record { length = 0; index_at = 0; index_bytes = 0 }
 
+-- what the byte says of its instruction, if it is an opcode
 unfoldable pub op_info : ℕ → Option OpInfo
 op_info opcode = option_map info (form opcode)

@@ -32,6 +32,7 @@ bytes_before end = do
 abbrev pub class_of : ℕ → ClassRef
 class_of n = if nat_lt n 0x8000 then class_refs.Inside n else class_refs.Outside (n / 256 - 0x80) (n % 256)
 
+-- a reference to a class
 unfoldable pub class_ref : Format ClassRef
 class_ref = number w16 (λ n. Some (class_of n))
 
@@ -39,6 +40,7 @@ class_ref = number w16 (λ n. Some (class_of n))
 abbrev pub package_of : ℕ → Option (Option ℕ)
 package_of n = if n == 0 then Some None else if nat_lt n 0x80 then None else Some (Some (n - 0x80))
 
+-- what stands behind the first byte of a reference to a static member
 unfoldable pub static_rest : Option ℕ → Format StaticRef
 static_rest None = do
   offset ← u2
@@ -48,5 +50,6 @@ static_rest (Some imported) = do
   token ← u1
   gives (static_refs.Outside imported class token)
 
+-- a reference to a static member
 unfoldable pub static_ref : Format StaticRef
 static_ref = number w8 package_of >>= static_rest

@@ -9,6 +9,7 @@ use Rattle.cjc_capread.specs.declared.pool.Tag.{Tag}
 use Rattle.cjc_capread.specs.declared.pool.Tag.TheVariants as tags
 use Rattle.cjc_capread.specs.Parts.{exactly, class_ref, static_ref}
 
+-- what the tag of an entry says
 abbrev pub tag_of : ℕ → Option Tag
 tag_of n =
     if n == 1 then Some tags.Class
@@ -44,9 +45,11 @@ content tags.StaticMethod = do
   member ← static_ref
   gives (entries.StaticMethodref member)
 
+-- an entry: its tag, and what that asks for
 unfoldable pub pool_entry : Format PoolEntry
 pool_entry = number w8 tag_of >>= content
 
+-- the entries, behind their number
 unfoldable pub constant_pool : Format ConstantPool
 constant_pool = do
   count ← u2

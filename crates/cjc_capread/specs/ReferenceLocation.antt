@@ -3,6 +3,7 @@ use Rattle.cjc_bytes.specs.Format.{Format, gives, ◌>>=◌}
 use Rattle.cjc_capread.specs.declared.tree.ReferenceLocation.{ReferenceLocation}
 use Rattle.cjc_capread.specs.Parts.{bytes2}
 
+-- the distances of one-byte indices, then of two-byte ones
 unfoldable pub reference_location : Format ReferenceLocation
 reference_location = do
   one_byte ← bytes2

@@ -10,12 +10,14 @@ use Rattle.cjc_capread.specs.Parts.{bytes2}
 abbrev pub element_type : ℕ → Option ℕ
 element_type n = if nat_le 2 n && nat_le n 5 then Some n else None
 
+-- an array: the type of an element, and the bytes of all
 unfoldable pub array_init : Format ArrayInit
 array_init = do
   type ← number w8 element_type
   values ← bytes2
   gives (record { type_ = type; values = values })
 
+-- sizes and counts, the arrays, and the primitives that are not 0
 unfoldable pub static_field : Format StaticField
 static_field = do
   image_size ← u2

@@ -1,4 +1,5 @@
-//! The interfaces and classes of the package.
+//! The component Class: interfaces, then classes (Java Card Virtual Machine Specification 2.2.2, 6.8). Called by
+//! `component`, which says where the file ends. It knows no name and no other component.
 
 ghost use Rattle.std.specs.Prelude.{◌≡◌, Ok};
 ghost use Rattle.cjc_bytes.specs.Format.{repeated};

@@ -1,9 +1,10 @@
-//! Whole component files.
+//! Whole component files: tag, size and info (6.2). What the crates above call to read one; it knows how each info is
+//! read, and nothing of what one component says of another.
 
 ghost use Rattle.std.specs.Prelude.{◌≡◌, ◌<◌, ◌≤◌, ◌^◌, ℕ, List, length, IfOk, IfErr, ◌⊎◌};
 ghost use Rattle.cjc_bytes.specs.Format.{FileSpells, FileBreaks};
 ghost use Rattle.cjc_bytes.specs.Found.{Finds};
-ghost use Rattle.cjc_bytes.specs.Reading.{Reads, read_file};
+ghost use Rattle.cjc_bytes.specs.Reading.{Reads, IsReading, read_file};
 ghost use Rattle.cjc_bytes.specs.Refused.{refusal, IsUnlessNoMemory, IsBreak};
 ghost use Rattle.cjc_bytes.specs.declared.fault.Fault.TheVariants as faults;
 ghost use Rattle.cjc_capread.specs.declared.tree.Component.{Component as Tree};
@@ -99,10 +100,12 @@ pub fn read(alloc: Global, file: &[u8], tag: u8, bytes: &[u8]) -> Result<Compone
     }
 }
 
-/// The bytes of a file spell one component of a tag at most, or break at one place, and not both.
+/// The bytes of a file spell one component of a tag at most, or break at one place, and not both; which of them is a
+/// function of the bytes.
 pub fn readings()
     ensures one_tree { (tag : ℕ) (s t : Tree) (bytes : List ℕ) → FileSpells (component tag (length bytes)) s bytes → FileSpells (component tag (length bytes)) t bytes → s ≡ t }
     ensures one_place { (tag : ℕ) (j k : ℕ) (bytes : List ℕ) → FileBreaks (component tag (length bytes)) bytes j → FileBreaks (component tag (length bytes)) bytes k → j ≡ k }
     ensures not_both { (tag : ℕ) (t : Tree) (k : ℕ) (bytes : List ℕ) → FileSpells (component tag (length bytes)) t bytes → FileBreaks (component tag (length bytes)) bytes k → ⊥ }
     ensures one_of_them { (tag : ℕ) (bytes : List ℕ) → ((t : Tree) × FileSpells (component tag (length bytes)) t bytes) ⊎ ((k : ℕ) × FileBreaks (component tag (length bytes)) bytes k) }
+    ensures reading { (tag : ℕ) (bytes : List ℕ) → IsReading (component tag (length bytes)) bytes }
 {}

@@ -1,4 +1,5 @@
-//! The classes, their members and all types.
+//! The component Descriptor: classes with their members, and all types (6.13). Called by `component`. It takes any
+//! nibbles, and does not ask what offsets lead to.
 
 ghost use Rattle.std.specs.Prelude.{◌≡◌, ◌++◌, IfOk, OnOk};
 ghost use Rattle.std.specs.List.{flat_map};

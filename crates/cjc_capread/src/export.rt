@@ -1,4 +1,5 @@
-//! What other packages can use.
+//! The component Export: offsets of what other packages can use, by token (6.12). Called by `component`. It does not
+//! ask what the offsets lead to.
 
 ghost use Rattle.cjc_bytes.specs.Format.{repeated};
 ghost use Rattle.cjc_bytes.specs.Reading.{Reads};

@@ -5,6 +5,7 @@ mod class;
 mod component;
 mod descriptor;
 mod export;
+mod instruction;
 mod method;
 mod opcode;
 mod package;
@@ -14,6 +15,7 @@ mod statics;
 mod tree;
 
 pub use component::{read, readings};
+pub use instruction::{headers_go_by_two_flags, what_is_written_is_decoded};
 pub use opcode::{OpInfo, op};
 pub use tree::{
     Applet, AppletEntry, ArrayInit, CapTree, ClassDescriptor, ClassEntry, ClassInfo, ClassRef,

@@ -1,4 +1,5 @@
-//! The handlers and methods of the package.
+//! The component Method: handlers, and the bytes of all methods as one run (6.9). Called by `component`. It cuts no
+//! method: where each begins is said by Descriptor alone.
 
 ghost use Rattle.cjc_bytes.specs.Format.{repeated};
 ghost use Rattle.cjc_bytes.specs.Reading.{Reads};

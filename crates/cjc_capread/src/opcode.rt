@@ -2,7 +2,7 @@
 
 ghost use Rattle.std.specs.Prelude.{◌≡◌, Some};
 ghost use Rattle.cjc_capread.specs.Opcodes.{op_info};
-ghost use Rattle.cjc_capread.specs.Shapes.{shape_info};
+ghost use Rattle.cjc_capread.specs.Working.Shapes.{shape_info};
 
 /// What an opcode alone says of its instruction.
 #[derive(Clone, Copy)]

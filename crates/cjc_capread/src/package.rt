@@ -1,4 +1,5 @@
-//! The package and its neighbours: Header, Directory, Applet and Import.
+//! The components Header, Directory, Applet and Import: the package and its neighbours (6.3 to 6.6). Called by
+//! `component`. Sizes and counts of Directory are compared with nothing here.
 
 ghost use Rattle.cjc_bytes.specs.Format.{repeated};
 ghost use Rattle.cjc_bytes.specs.Reading.{Reads};

@@ -1,4 +1,5 @@
-//! What several components share: lists with a count, and references to classes and static members.
+//! What several components share: lists with a count, and references to classes and static members (6.1, 6.7.3). Called
+//! by the module of each component, of which it knows none.
 
 ghost use Rattle.std.specs.Prelude.{◌≡◌};
 ghost use Rattle.cjc_bytes.specs.Format.{repeated, u2, raw};

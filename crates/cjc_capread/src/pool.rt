@@ -1,4 +1,4 @@
-//! The constant pool.
+//! The component ConstantPool (6.7). Called by `component`. It does not ask whether what an entry names is there.
 
 ghost use Rattle.std.specs.Prelude.{◌≡◌};
 ghost use Rattle.cjc_bytes.specs.Format.{repeated};

@@ -1,4 +1,5 @@
-//! The static field image, and where indices into the constant pool stand.
+//! The components StaticField and ReferenceLocation (6.10, 6.11). Called by `component`. Distances are bytes here: what
+//! place each leads to is said where they are used.
 
 ghost use Rattle.cjc_bytes.specs.Format.{repeated};
 ghost use Rattle.cjc_bytes.specs.Reading.{Reads};

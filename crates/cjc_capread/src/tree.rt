@@ -2,6 +2,8 @@
 //! Machine Specification 2.2.2, chapter 6). Tags, sizes, lengths of lists and items whose value is fixed are
 //! left out. A two-byte number is held as a `u64`, so that a tree can be made before its limits are tested.
 
+ghost use Rattle.std.specs.Prelude.{◌≡◌};
+
 use cjc_bytes::{Bytes, Row};
 
 /// A class or interface (class_ref, section 6.1).
@@ -290,7 +292,6 @@ pub struct TypeDescriptor {
 }
 
 /// What one component says.
-#[derive(Drop)]
 pub enum Component {
     Header(Header),
     Directory(Directory),
@@ -305,8 +306,139 @@ pub enum Component {
     Descriptor(Descriptor),
 }
 
+impl Drop for Component {
+    fn drop(self) {
+        match self {
+            Component::Header(_part) => {}
+            Component::Directory(_part) => {}
+            Component::Applet(_part) => {}
+            Component::Import(_part) => {}
+            Component::Pool(_part) => {}
+            Component::Class(_part) => {}
+            Component::Method(_part) => {}
+            Component::Statics(_part) => {}
+            Component::Locations(_part) => {}
+            Component::Export(_part) => {}
+            Component::Descriptor(_part) => {}
+        }
+    }
+}
+
+impl Component {
+    ghost use Rattle.cjc_capread.specs.Kinds.{header_of, directory_of, applet_of, import_of, pool_of, class_of, method_of, statics_of, locations_of, export_of, descriptor_of};
+
+    /// What it says, where it is a Header.
+    pub fn into_header(self) -> Option<Header>
+        ensures { result ≡ header_of self }
+    {
+        match self {
+            Component::Header(part) => Some(part),
+            _ => None,
+        }
+    }
+
+    /// What it says, where it is a Directory.
+    pub fn into_directory(self) -> Option<Directory>
+        ensures { result ≡ directory_of self }
+    {
+        match self {
+            Component::Directory(part) => Some(part),
+            _ => None,
+        }
+    }
+
+    /// What it says, where it is an Applet.
+    pub fn into_applet(self) -> Option<Applet>
+        ensures { result ≡ applet_of self }
+    {
+        match self {
+            Component::Applet(part) => Some(part),
+            _ => None,
+        }
+    }
+
+    /// What it says, where it is an Import.
+    pub fn into_import(self) -> Option<Import>
+        ensures { result ≡ import_of self }
+    {
+        match self {
+            Component::Import(part) => Some(part),
+            _ => None,
+        }
+    }
+
+    /// What it says, where it is a ConstantPool.
+    pub fn into_pool(self) -> Option<ConstantPool>
+        ensures { result ≡ pool_of self }
+    {
+        match self {
+            Component::Pool(part) => Some(part),
+            _ => None,
+        }
+    }
+
+    /// What it says, where it is a Class.
+    pub fn into_class(self) -> Option<ClassInfo>
+        ensures { result ≡ class_of self }
+    {
+        match self {
+            Component::Class(part) => Some(part),
+            _ => None,
+        }
+    }
+
+    /// What it says, where it is a Method.
+    pub fn into_method(self) -> Option<Method>
+        ensures { result ≡ method_of self }
+    {
+        match self {
+            Component::Method(part) => Some(part),
+            _ => None,
+        }
+    }
+
+    /// What it says, where it is a StaticField.
+    pub fn into_statics(self) -> Option<StaticField>
+        ensures { result ≡ statics_of self }
+    {
+        match self {
+            Component::Statics(part) => Some(part),
+            _ => None,
+        }
+    }
+
+    /// What it says, where it is a ReferenceLocation.
+    pub fn into_locations(self) -> Option<ReferenceLocation>
+        ensures { result ≡ locations_of self }
+    {
+        match self {
+            Component::Locations(part) => Some(part),
+            _ => None,
+        }
+    }
+
+    /// What it says, where it is an Export.
+    pub fn into_export(self) -> Option<Export>
+        ensures { result ≡ export_of self }
+    {
+        match self {
+            Component::Export(part) => Some(part),
+            _ => None,
+        }
+    }
+
+    /// What it says, where it is a Descriptor.
+    pub fn into_descriptor(self) -> Option<Descriptor>
+        ensures { result ≡ descriptor_of self }
+    {
+        match self {
+            Component::Descriptor(part) => Some(part),
+            _ => None,
+        }
+    }
+}
+
 /// What the components of a package say, absent ones `None`.
-#[derive(Drop)]
 pub struct CapTree {
     pub header: Header,
     pub directory: Directory,
@@ -319,4 +451,22 @@ pub struct CapTree {
     pub locations: Option<ReferenceLocation>,
     pub export: Option<Export>,
     pub descriptor: Option<Descriptor>,
+}
+
+impl Drop for CapTree {
+    fn drop(self) {
+        let CapTree {
+            header: _header,
+            directory: _directory,
+            applet: _applet,
+            import: _import,
+            pool: _pool,
+            class: _class,
+            method: _method,
+            statics: _statics,
+            locations: _locations,
+            export: _export,
+            descriptor: _descriptor,
+        } = self;
+    }
 }

@@ -1,7 +1,8 @@
 -- How many bytes each part has when it is written.
-use Rattle.std.proofs.Common.{◌≡◌, ℕ, ◌+◌, ◌*◌, ◌/◌, ◌<◌, List, [], ◌∷◌, ◌++◌, length, take, get_or, None, refl, ap, ◌∙◌, arith, length-append}
+use Rattle.std.proofs.Common.{◌≡◌, ℕ, ◌+◌, ◌*◌, ◌/◌, ◌^◌, ◌<◌, Bool, true, false, ltb, List, [], ◌∷◌, ◌++◌, length, take, get_or, None, refl, ap, ◌∙◌, arith, length-append}
 use Rattle.std.specs.List.{flat_map}
 use Rattle.std.proofs.lemmas.List.{take_more}
+use Rattle.std.proofs.lemmas.Bool.{ltb-true, ltb-false, lt-ltb, le-ltb}
 use Rattle.std.proofs.lemmas.Grind.{flat_map-append}
 use Rattle.std.proofs.lemmas.List.Concat.{flat_map-cons}
 use Rattle.cjc_capread.specs.declared.tree.ClassRef.{ClassRef}
@@ -35,6 +36,7 @@ use Rattle.cjc_capread.specs.declared.tree.FieldPlace.{FieldPlace}
 use Rattle.cjc_capread.specs.declared.tree.FieldPlace.TheVariants as places
 use Rattle.cjc_capread.specs.declared.tree.MethodDescriptor.{MethodDescriptor}
 use Rattle.cjc_capread.specs.declared.tree.TypeDescriptor.{TypeDescriptor}
+use Rattle.cjc_capwrite.specs.Size.{capped}
 use Rattle.cjc_capwrite.specs.Parts.{one, two, class_bytes, static_bytes}
 use Rattle.cjc_capwrite.specs.Package.{header_bytes, directory_bytes, applet_entry_bytes, applet_bytes, imported_package_bytes, import_bytes}
 use Rattle.cjc_capwrite.specs.Pool.{entry_bytes, pool_bytes}
@@ -179,15 +181,21 @@ pub type_length : (x : TypeDescriptor) → length (type_bytes x) ≡ 1 + (length
 unfolding type_bytes
 type_length x = omega (arith, packed_length x.nibbles)
 
-pub descriptor_length : (x : Descriptor) → length (descriptor_bytes x) ≡ 3 + length (flat_map class_descriptor_bytes x.classes) + 2 * length x.pool_types + length (flat_map type_bytes x.types)
-unfolding descriptor_bytes types_bytes
-descriptor_length x =
-    let classes = flat_map class_descriptor_bytes x.classes in
-    let pool = flat_map two x.pool_types in
-    let types = flat_map type_bytes x.types in
-    let outer : length (classes ++ (two (length x.pool_types) ++ (pool ++ types))) ≡ length classes + length (two (length x.pool_types) ++ (pool ++ types)) = length-append classes _ in
-    let inner : length (pool ++ types) ≡ length pool + length types = length-append pool types in
-    omega (arith, outer, inner, two_each x.pool_types)
+pub types_length : (x : Descriptor) → length (types_bytes x) ≡ 2 + 2 * length x.pool_types + length (flat_map type_bytes x.types)
+unfolding types_bytes
+types_length x = omega (arith, length-append (flat_map two x.pool_types) (flat_map type_bytes x.types), two_each x.pool_types)
+
+pub descriptor_length : (x : Descriptor) → length (descriptor_bytes x) ≡ 1 + length (flat_map class_descriptor_bytes x.classes) + length (types_bytes x)
+unfolding descriptor_bytes
+descriptor_length x = omega (arith, length-append (flat_map class_descriptor_bytes x.classes) (types_bytes x))
+
+-- a limit of 16 bits is passed by a size exactly where the size that is told passes it
+pub above_capped : (limit n : ℕ) → limit < 2 ^ 16 → ltb limit (capped n) ≡ ltb limit n
+above_capped limit n small = go (ltb limit n) refl
+  where
+    go : (b : Bool) → ltb limit n ≡ b → ltb limit (capped n) ≡ b
+    go true e = let lt = ltb-true limit n e in lt-ltb limit (capped n) (omega arith)
+    go false e = let le = ltb-false limit n e in le-ltb limit (capped n) (omega arith)
 
 pub applet_length : (x : Applet) → length (applet_bytes x) ≡ 1 + length (flat_map applet_entry_bytes x.applets)
 unfolding applet_bytes

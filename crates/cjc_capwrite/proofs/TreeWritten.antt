@@ -5,7 +5,6 @@ use Rattle.std.proofs.lemmas.Bool.{ltb-false}
 use Rattle.cjc_capread.specs.declared.tree.CapTree.{CapTree}
 use Rattle.cjc_capread.specs.declared.tree.Component.{Component}
 use Rattle.cjc_capread.specs.declared.tree.Component.TheVariants as components
-use Rattle.cjc_capwrite.specs.declared.files.Infos.{Infos}
 use Rattle.cjc_capwrite.specs.Package.{applet_bytes, import_bytes}
 use Rattle.cjc_capwrite.specs.Pool.{pool_bytes}
 use Rattle.cjc_capwrite.specs.Class.{class_info_bytes}
@@ -14,7 +13,7 @@ use Rattle.cjc_capwrite.specs.Statics.{static_field_bytes, reference_location_by
 use Rattle.cjc_capwrite.specs.Export.{export_bytes}
 use Rattle.cjc_capwrite.specs.Descriptor.{descriptor_bytes}
 use Rattle.cjc_capwrite.specs.Fits.{Fits2, AppletFits, ImportFits, PoolFits, ClassInfoFits, MethodFits, StaticFieldFits, LocationsFit, ExportFits, DescriptorFits}
-use Rattle.cjc_capwrite.specs.Files.{part, infos_of, file, file_where, files_of, is_long, is_too_large, broken_limit, limit_of}
+use Rattle.cjc_capwrite.specs.Files.{Infos, part, infos_of, file, file_where, files_of, ends_too_far, is_long, is_too_large, limit_of}
 use Rattle.cjc_capwrite.specs.Writable.{IsWritable, Spelt, SpeltWhere, IsSpelt}
 use Rattle.cjc_capwrite.proofs.FilesWritten.{header_spells, directory_spells, applet_spells, import_spells, pool_spells, class_spells, method_spells, statics_spell, locations_spell, export_spells, descriptor_spells}
 
@@ -45,9 +44,8 @@ pub record AreShort (i : Infos) : Type 0 where
   pub export : Fits2 (length i.export)
   pub descriptor : Fits2 (length i.descriptor)
 
-are_short : (i : Infos) → broken_limit i ≡ None → AreShort i
-are_short i e =
-    let large = unbroken (ltb 32767 (length i.types)) (is_too_large i) e in
+are_short : (i : Infos) → is_too_large i ≡ false → AreShort i
+are_short i large =
     let class = neither _ _ large in
     let header = neither _ _ class.1 in
     let directory = neither _ _ header.1 in
@@ -85,7 +83,7 @@ where_spells tag wrap f P one (Some x) fits size = one x fits size
 
 pub tree_spelt : (t : CapTree) → IsWritable t → limit_of t ≡ None → length (part method_bytes t.method) ≤ 65535 → IsSpelt t (files_of t)
 tree_spelt t fits limits methods =
-    let sizes = are_short (infos_of t) limits in
+    let sizes = are_short (infos_of t) (unbroken (ends_too_far t.descriptor) (is_too_large (infos_of t)) limits) in
     record {
       header = header_spells t.header fits.header sizes.header;
       directory = directory_spells t.directory fits.directory sizes.directory;

@@ -1,7 +1,9 @@
 -- The files of a tree, and the limits that they keep.
-use Rattle.std.specs.Prelude.{ℕ, Bool, List, [], ◌∷◌, ◌++◌, length, Option, Some, None, is_some, nat_lt, ◌||◌, if◌then◌else◌}
+use Rattle.std.specs.Prelude.{ℕ, Bool, false, List, [], ◌∷◌, ◌++◌, length, Option, Some, None, is_some, nat_lt, ◌||◌, if◌then◌else◌}
+use Rattle.std.specs.List.{list_any}
 use Rattle.cjc_capread.specs.declared.tree.CapTree.{CapTree}
-use Rattle.cjc_capwrite.specs.declared.files.Infos.{Infos}
+use Rattle.cjc_capread.specs.declared.tree.Descriptor.{Descriptor}
+use Rattle.cjc_capread.specs.declared.tree.TypeDescriptor.{TypeDescriptor}
 use Rattle.cjc_capwrite.specs.declared.files.CapFiles.{CapFiles}
 use Rattle.cjc_capwrite.specs.Parts.{two}
 use Rattle.cjc_capwrite.specs.Package.{header_bytes, directory_bytes, applet_bytes, import_bytes}
@@ -17,7 +19,20 @@ abbrev pub part : {A : Type 0} → (A → List ℕ) → Option A → List ℕ
 part f None = []
 part f (Some x) = f x
 
--- what stands behind the tags and sizes
+-- what stands behind the tag and the size of each component
+pub record Infos : Type 0 where
+  pub header : List ℕ
+  pub directory : List ℕ
+  pub applet : List ℕ
+  pub import : List ℕ
+  pub pool : List ℕ
+  pub class : List ℕ
+  pub method : List ℕ
+  pub statics : List ℕ
+  pub locations : List ℕ
+  pub export : List ℕ
+  pub descriptor : List ℕ
+
 abbrev pub infos_of : CapTree → Infos
 infos_of t = record {
   header = header_bytes t.header;
@@ -31,7 +46,6 @@ infos_of t = record {
   locations = part reference_location_bytes t.locations;
   export = part export_bytes t.export;
   descriptor = part descriptor_bytes t.descriptor;
-  types = part types_bytes t.descriptor;
 }
 
 -- a file: a tag, the number of bytes behind it, and these
@@ -42,24 +56,32 @@ file tag info = tag ∷ [] ++ (two (length info) ++ info)
 abbrev pub file_where : Bool → ℕ → List ℕ → Option (List ℕ)
 file_where there tag info = if there then Some (file tag info) else None
 
-abbrev pub files_with : CapTree → Infos → CapFiles
-files_with t i = record {
-  header = file 1 i.header;
-  directory = file 2 i.directory;
-  applet = file_where (is_some t.applet) 3 i.applet;
-  import = file 4 i.import;
-  pool = file 5 i.pool;
-  class = file 6 i.class;
-  method = file 7 i.method;
-  statics = file 8 i.statics;
-  locations = file 9 i.locations;
-  export = file_where (is_some t.export) 10 i.export;
-  descriptor = file 11 i.descriptor;
+-- the files of all components
+abbrev pub files_of : CapTree → CapFiles
+files_of t = record {
+  header = file 1 (header_bytes t.header);
+  directory = file 2 (directory_bytes t.directory);
+  applet = file_where (is_some t.applet) 3 (part applet_bytes t.applet);
+  import = file 4 (part import_bytes t.import);
+  pool = file 5 (part pool_bytes t.pool);
+  class = file 6 (part class_info_bytes t.class);
+  method = file 7 (part method_bytes t.method);
+  statics = file 8 (part static_field_bytes t.statics);
+  locations = file 9 (part reference_location_bytes t.locations);
+  export = file_where (is_some t.export) 10 (part export_bytes t.export);
+  descriptor = file 11 (part descriptor_bytes t.descriptor);
 }
 
-abbrev pub files_of : CapTree → CapFiles
-files_of t = files_with t (infos_of t)
+-- more nibbles than the byte of their count can tell
+abbrev pub is_wide : TypeDescriptor → Bool
+is_wide x = nat_lt 255 (length x.nibbles)
 
+-- the types end beyond 32,767; a type that is too wide to be written counts as one that does
+abbrev pub ends_too_far : Option Descriptor → Bool
+ends_too_far None = false
+ends_too_far (Some x) = list_any is_wide x.types || nat_lt 32767 (length (types_bytes x))
+
+-- beyond 65,535 bytes
 abbrev pub is_long : List ℕ → Bool
 is_long info = nat_lt 65535 (length info)
 
@@ -69,10 +91,6 @@ is_too_large i =
     nat_lt 32767 (length i.class) || (is_long i.header || (is_long i.directory || (is_long i.applet || (is_long i.import || (is_long i.pool
     || (is_long i.statics || (is_long i.locations || (is_long i.export || is_long i.descriptor))))))))
 
--- the rule that is broken: 411 where a type ends too far behind the first offset, else 416 where a component is too large
-abbrev pub broken_limit : Infos → Option ℕ
-broken_limit i = if nat_lt 32767 (length i.types) then Some 411 else if is_too_large i then Some 416 else None
-
--- the rule that a tree breaks, if it breaks a limit
+-- the rule that a tree breaks, if it breaks a limit: 411 where the types end too far, else 416 where a component is too large
 abbrev pub limit_of : CapTree → Option ℕ
-limit_of t = broken_limit (infos_of t)
+limit_of t = if ends_too_far t.descriptor then Some 411 else if is_too_large (infos_of t) then Some 416 else None

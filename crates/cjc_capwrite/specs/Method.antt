@@ -9,8 +9,10 @@ use Rattle.cjc_capwrite.specs.Parts.{one, two}
 abbrev pub range_bits : Handler → ℕ
 range_bits x = (if x.stop then 0x8000 else 0) + x.length % 0x8000
 
+-- a handler (section 6.9.1)
 unfoldable pub handler_bytes : Handler → List ℕ
 handler_bytes x = two x.start ++ (two (range_bits x) ++ (two x.handler ++ two x.catch_index))
 
+-- the info of Method: the handlers and the bytes of the methods (section 6.9)
 unfoldable pub method_bytes : Method → List ℕ
 method_bytes x = one (length x.handlers) ++ (flat_map handler_bytes x.handlers ++ x.methods)

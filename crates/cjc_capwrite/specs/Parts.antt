@@ -20,10 +20,12 @@ bytes1 bytes = one (length bytes) ++ bytes
 abbrev pub bytes2 : List ℕ → List ℕ
 bytes2 bytes = two (length bytes) ++ bytes
 
+-- a reference to a class: an offset, or 0x80 with a package token and a class token (section 6.1)
 abbrev pub class_bytes : ClassRef → List ℕ
 class_bytes (class_refs.Inside offset) = two offset
 class_bytes (class_refs.Outside imported class) = one (0x80 + imported) ++ class ∷ []
 
+-- a reference to a static member: 0 and an offset, or 0x80 with a package token, a class token and its own (section 6.7.3)
 abbrev pub static_bytes : StaticRef → List ℕ
 static_bytes (static_refs.Inside offset) = 0 ∷ [] ++ two offset
 static_bytes (static_refs.Outside imported class token) = one (0x80 + imported) ++ (class ∷ [] ++ token ∷ [])

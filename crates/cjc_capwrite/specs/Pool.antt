@@ -6,6 +6,7 @@ use Rattle.cjc_capread.specs.declared.tree.PoolEntry.{PoolEntry}
 use Rattle.cjc_capread.specs.declared.tree.PoolEntry.TheVariants as entries
 use Rattle.cjc_capwrite.specs.Parts.{two, class_bytes, static_bytes}
 
+-- an entry: its tag and three bytes (section 6.7)
 unfoldable pub entry_bytes : PoolEntry → List ℕ
 entry_bytes (entries.Classref class) = 1 ∷ [] ++ (class_bytes class ++ 0 ∷ [])
 entry_bytes (entries.InstanceFieldref class token) = 2 ∷ [] ++ (class_bytes class ++ token ∷ [])
@@ -14,5 +15,6 @@ entry_bytes (entries.SuperMethodref class token) = 4 ∷ [] ++ (class_bytes clas
 entry_bytes (entries.StaticFieldref member) = 5 ∷ [] ++ static_bytes member
 entry_bytes (entries.StaticMethodref member) = 6 ∷ [] ++ static_bytes member
 
+-- the info of ConstantPool (section 6.7)
 unfoldable pub pool_bytes : ConstantPool → List ℕ
 pool_bytes x = two (length x.entries) ++ flat_map entry_bytes x.entries

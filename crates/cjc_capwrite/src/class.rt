@@ -1,4 +1,5 @@
-//! Writing the interfaces and classes of the package.
+//! The bytes of Class: interfaces, then classes (Java Card Virtual Machine Specification 2.2.2, 6.8). Called by `files`.
+//! It tests no limit.
 
 ghost use Rattle.std.specs.Prelude.{◌≡◌, ◌++◌, length, OnOk};
 ghost use Rattle.std.specs.List.{flat_map};

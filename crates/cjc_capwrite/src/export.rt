@@ -1,4 +1,4 @@
-//! Writing what other packages can use.
+//! The bytes of Export (6.12). Called by `files`. It tests no limit.
 
 ghost use Rattle.std.specs.Prelude.{◌≡◌, ◌++◌, OnOk};
 ghost use Rattle.std.specs.List.{flat_map};

@@ -1,6 +1,6 @@
-//! Whole component files, and the limits that they keep.
+//! Whole component files. Called by whoever converts a package; it knows the tree alone, and no class file.
 
-ghost use Rattle.std.specs.Prelude.{◌≡◌, ◌≤◌, ◌++◌, length, Some, None, IfOk, IfErr, ◌⊎◌, ℕ};
+ghost use Rattle.std.specs.Prelude.{◌≡◌, ◌≤◌, ◌++◌, length, Some, None, is_some, IfOk, IfErr, OnOk, ◌⊎◌, ℕ};
 ghost use Rattle.cjc_bytes.specs.Refused.{refusal};
 ghost use Rattle.cjc_bytes.specs.declared.fault.Fault.TheVariants as faults;
 ghost use Rattle.cjc_capwrite.specs.Package.{header_bytes, directory_bytes, applet_bytes, import_bytes};
@@ -9,19 +9,20 @@ ghost use Rattle.cjc_capwrite.specs.Class.{class_info_bytes};
 ghost use Rattle.cjc_capwrite.specs.Method.{method_bytes};
 ghost use Rattle.cjc_capwrite.specs.Statics.{static_field_bytes, reference_location_bytes};
 ghost use Rattle.cjc_capwrite.specs.Export.{export_bytes};
-ghost use Rattle.cjc_capwrite.specs.Descriptor.{types_bytes, descriptor_bytes};
+ghost use Rattle.cjc_capwrite.specs.Descriptor.{descriptor_bytes};
 ghost use Rattle.cjc_capwrite.specs.Writable.{IsWritable, IsSpelt};
-ghost use Rattle.cjc_capwrite.specs.Files.{part, infos_of, file, file_where, files_with, files_of, is_long, is_too_large, broken_limit, limit_of};
+ghost use Rattle.cjc_capwrite.specs.Files.{part, file, file_where, files_of, limit_of};
 
 use crate::class::put_class_info;
-use crate::descriptor::{put_descriptor, put_types_part};
+use crate::descriptor::put_descriptor;
 use crate::export::put_export;
+use crate::limits::broken_limit;
 use crate::method::put_method;
 use crate::package::{put_applet, put_directory, put_header, put_import};
 use crate::parts::put_count2;
 use crate::pool::put_pool;
 use crate::statics::{put_reference_location, put_static_field};
-use cjc_bytes::{Bytes, Fault, NoMemory, Out, refused};
+use cjc_bytes::{Bytes, Fault, NoMemory, Out, Row, refused};
 use cjc_capread::{
     Applet, CapTree, ClassInfo, ConstantPool, Descriptor, Directory, Export, Header, Import,
     Method, ReferenceLocation, StaticField,
@@ -29,7 +30,6 @@ use cjc_capread::{
 use std::alloc::Global;
 
 /// The component files of a package. Applet and Export may be absent.
-#[derive(Drop)]
 pub struct CapFiles {
     pub header: Bytes,
     pub directory: Bytes,
@@ -44,22 +44,41 @@ pub struct CapFiles {
     pub descriptor: Bytes,
 }
 
-/// What stands behind the tags and sizes of the files, and the part of Descriptor in which types have
-/// offsets.
-#[derive(Drop)]
-pub(crate) struct Infos {
-    header: Bytes,
-    directory: Bytes,
-    applet: Bytes,
-    import: Bytes,
-    pool: Bytes,
-    class: Bytes,
-    method: Bytes,
-    statics: Bytes,
-    locations: Bytes,
-    export: Bytes,
-    descriptor: Bytes,
-    types: Bytes,
+impl Drop for CapFiles {
+    fn drop(self) {
+        let CapFiles {
+            header: _header,
+            directory: _directory,
+            applet: _applet,
+            import: _import,
+            pool: _pool,
+            class: _class,
+            method: _method,
+            statics: _statics,
+            locations: _locations,
+            export: _export,
+            descriptor: _descriptor,
+        } = self;
+    }
+}
+
+impl CapFiles {
+    /// No bytes in any file.
+    fn empty(alloc: Global) -> CapFiles {
+        CapFiles {
+            header: Row::new(alloc),
+            directory: Row::new(alloc),
+            applet: None,
+            import: Row::new(alloc),
+            pool: Row::new(alloc),
+            class: Row::new(alloc),
+            method: Row::new(alloc),
+            statics: Row::new(alloc),
+            locations: Row::new(alloc),
+            export: None,
+            descriptor: Row::new(alloc),
+        }
+    }
 }
 
 fn header_info(alloc: Global, header: &Header) -> Result<Bytes, NoMemory>
@@ -168,80 +187,6 @@ fn descriptor_info(alloc: Global, descriptor: &Option<Descriptor>) -> Result<Byt
     Ok(out.finish())
 }
 
-fn types_info(alloc: Global, descriptor: &Option<Descriptor>) -> Result<Bytes, NoMemory>
-    ensures { IfOk result (λ info. info ≡ part types_bytes descriptor.now) }
-{
-    let mut out = Out::new(alloc);
-    if let Some(descriptor) = descriptor {
-        put_types_part(&mut out, descriptor)?;
-    }
-    Ok(out.finish())
-}
-
-pub(crate) fn infos_of(alloc: Global, tree: &CapTree) -> Result<Infos, NoMemory>
-    ensures { IfOk result (λ infos. infos ≡ infos_of tree.now) }
-{
-    let header = header_info(alloc, &tree.header)?;
-    let directory = directory_info(alloc, &tree.directory)?;
-    let applet = applet_info(alloc, &tree.applet)?;
-    let import = import_info(alloc, &tree.import)?;
-    let pool = pool_info(alloc, &tree.pool)?;
-    let class = class_info(alloc, &tree.class)?;
-    let method = method_info(alloc, &tree.method)?;
-    let statics = statics_info(alloc, &tree.statics)?;
-    let locations = locations_info(alloc, &tree.locations)?;
-    let export = export_info(alloc, &tree.export)?;
-    let descriptor = descriptor_info(alloc, &tree.descriptor)?;
-    let types = types_info(alloc, &tree.descriptor)?;
-    Ok(Infos {
-        header,
-        directory,
-        applet,
-        import,
-        pool,
-        class,
-        method,
-        statics,
-        locations,
-        export,
-        descriptor,
-        types,
-    })
-}
-
-fn is_long(info: &Bytes) -> bool
-    ensures { result ≡ is_long info.now }
-{
-    info.items().len() > 65535
-}
-
-fn is_too_large(infos: &Infos) -> bool
-    ensures { result ≡ is_too_large infos.now }
-{
-    infos.class.items().len() > 32767
-        || is_long(&infos.header)
-        || is_long(&infos.directory)
-        || is_long(&infos.applet)
-        || is_long(&infos.import)
-        || is_long(&infos.pool)
-        || is_long(&infos.statics)
-        || is_long(&infos.locations)
-        || is_long(&infos.export)
-        || is_long(&infos.descriptor)
-}
-
-pub(crate) fn broken_limit(infos: &Infos) -> Option<u16>
-    ensures { result ≡ broken_limit infos.now }
-{
-    if infos.types.items().len() > 32767 {
-        Some(411)
-    } else if is_too_large(infos) {
-        Some(416)
-    } else {
-        None
-    }
-}
-
 #[tactic(auto, unfolding(crate::specs::Files::file))]
 fn file(alloc: Global, tag: u8, info: &Bytes) -> Result<Bytes, NoMemory>
     ensures { IfOk result (λ bytes. bytes ≡ file tag info.now) }
@@ -269,38 +214,62 @@ fn file_where(
     }
 }
 
-pub(crate) fn files_with(alloc: Global, tree: &CapTree, infos: &Infos) -> Result<CapFiles, NoMemory>
-    ensures { IfOk result (λ files. files ≡ files_with tree.now infos.now) }
+/// Tags 1 to 4.
+fn fill_package(alloc: Global, tree: &CapTree, files: &mut CapFiles) -> Result<(), NoMemory>
+    ensures { OnOk result (files.new ≡ record files.old { header = file 1 (header_bytes tree.now.header); directory = file 2 (directory_bytes tree.now.directory); applet = file_where (is_some tree.now.applet) 3 (part applet_bytes tree.now.applet); import = file 4 (part import_bytes tree.now.import) }) }
 {
-    let header = file(alloc, 1, &infos.header)?;
-    let directory = file(alloc, 2, &infos.directory)?;
-    let applet = file_where(alloc, tree.applet.is_some(), 3, &infos.applet)?;
-    let import = file(alloc, 4, &infos.import)?;
-    let pool = file(alloc, 5, &infos.pool)?;
-    let class = file(alloc, 6, &infos.class)?;
-    let method = file(alloc, 7, &infos.method)?;
-    let statics = file(alloc, 8, &infos.statics)?;
-    let locations = file(alloc, 9, &infos.locations)?;
-    let export = file_where(alloc, tree.export.is_some(), 10, &infos.export)?;
-    let descriptor = file(alloc, 11, &infos.descriptor)?;
-    Ok(CapFiles {
-        header,
-        directory,
-        applet,
-        import,
-        pool,
-        class,
-        method,
-        statics,
-        locations,
-        export,
-        descriptor,
-    })
+    files.header = file(alloc, 1, &header_info(alloc, &tree.header)?)?;
+    files.directory = file(alloc, 2, &directory_info(alloc, &tree.directory)?)?;
+    files.applet = file_where(
+        alloc,
+        tree.applet.is_some(),
+        3,
+        &applet_info(alloc, &tree.applet)?,
+    )?;
+    files.import = file(alloc, 4, &import_info(alloc, &tree.import)?)?;
+    Ok(())
+}
+
+/// Tags 5 to 8.
+fn fill_code(alloc: Global, tree: &CapTree, files: &mut CapFiles) -> Result<(), NoMemory>
+    ensures { OnOk result (files.new ≡ record files.old { pool = file 5 (part pool_bytes tree.now.pool); class = file 6 (part class_info_bytes tree.now.class); method = file 7 (part method_bytes tree.now.method); statics = file 8 (part static_field_bytes tree.now.statics) }) }
+{
+    files.pool = file(alloc, 5, &pool_info(alloc, &tree.pool)?)?;
+    files.class = file(alloc, 6, &class_info(alloc, &tree.class)?)?;
+    files.method = file(alloc, 7, &method_info(alloc, &tree.method)?)?;
+    files.statics = file(alloc, 8, &statics_info(alloc, &tree.statics)?)?;
+    Ok(())
+}
+
+/// Tags 9 to 11.
+fn fill_tables(alloc: Global, tree: &CapTree, files: &mut CapFiles) -> Result<(), NoMemory>
+    ensures { OnOk result (files.new ≡ record files.old { locations = file 9 (part reference_location_bytes tree.now.locations); export = file_where (is_some tree.now.export) 10 (part export_bytes tree.now.export); descriptor = file 11 (part descriptor_bytes tree.now.descriptor) }) }
+{
+    files.locations = file(alloc, 9, &locations_info(alloc, &tree.locations)?)?;
+    files.export = file_where(
+        alloc,
+        tree.export.is_some(),
+        10,
+        &export_info(alloc, &tree.export)?,
+    )?;
+    files.descriptor = file(alloc, 11, &descriptor_info(alloc, &tree.descriptor)?)?;
+    Ok(())
+}
+
+/// The component files of a tree, whatever limits it keeps: a number that has no room is cut to its low bytes.
+pub fn files_of(alloc: Global, tree: &CapTree) -> Result<CapFiles, NoMemory>
+    ensures { IfOk result (λ files. files ≡ files_of tree.now) }
+{
+    let mut files = CapFiles::empty(alloc);
+    fill_package(alloc, tree, &mut files)?;
+    fill_code(alloc, tree, &mut files)?;
+    fill_tables(alloc, tree, &mut files)?;
+    Ok(files)
 }
 
 /// The component files of a tree, each of which spells its part. Refused are, at the list, as 411 the tree
-/// whose types end beyond 32,767, and as 416 the tree with a component that is too large: Class beyond 32,767
-/// bytes of info, another beyond 65,535.
+/// whose types end beyond 32,767 or have one of more than 255 nibbles, and as 416 the tree with a component that
+/// is too large: Class beyond 32,767 bytes of info, another beyond 65,535.
 pub fn write(alloc: Global, list: &[u8], tree: &CapTree) -> Result<CapFiles, Fault>
     requires writable { limit_of tree.now ≡ None → IsWritable tree.now }
     requires methods { length (part method_bytes tree.now.method) ≤ 65535 }
@@ -313,9 +282,8 @@ pub fn write(alloc: Global, list: &[u8], tree: &CapTree) -> Result<CapFiles, Fau
     // A refusal is by the limit that is broken.
     ensures refused { IfErr result (λ e. (e ≡ faults.NoMemory) ⊎ ((rule : ℕ) × (limit_of tree.now ≡ Some rule) × (e ≡ faults.Refused (refusal list.now rule 0)))) }
 {
-    let infos = infos_of(alloc, tree)?;
-    match broken_limit(&infos) {
+    match broken_limit(tree) {
         Some(rule) => Err(refused(alloc, list, rule, 0)),
-        None => Ok(files_with(alloc, tree, &infos)?),
+        None => Ok(files_of(alloc, tree)?),
     }
 }

@@ -1,10 +1,12 @@
-//! Writing the components of a CAP file.
+//! Component trees as the files of a CAP file, their sizes, and the limits that a tree breaks. It knows nothing of how a
+//! tree was made.
 #![tactic(auto)]
 
 mod class;
 mod descriptor;
 mod export;
 mod files;
+mod limits;
 mod method;
 mod package;
 mod parts;
@@ -12,8 +14,6 @@ mod pool;
 mod sizes;
 mod statics;
 
-pub use files::{CapFiles, write};
+pub use files::{CapFiles, files_of, write};
+pub use limits::broken_limit;
 pub use sizes::size;
-
-#[cfg(test)]
-mod tests;

@@ -1,4 +1,4 @@
-//! Writing the handlers and methods of the package.
+//! The bytes of Method: handlers, and the methods as one run (6.9). Called by `files`. It knows no instruction.
 
 ghost use Rattle.std.specs.Prelude.{◌≡◌, ◌++◌, OnOk};
 ghost use Rattle.std.specs.List.{flat_map};

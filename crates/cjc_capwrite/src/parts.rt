@@ -1,4 +1,5 @@
-//! Writing what several components share.
+//! What several components share: numbers in their low bytes, lists behind their count, references to classes and static
+//! members (6.1, 6.7.3). Called by the module of each component, of which it knows none.
 
 ghost use Rattle.std.specs.Prelude.{◌≡◌, ◌++◌, length, OnOk};
 ghost use Rattle.std.specs.List.{flat_map};

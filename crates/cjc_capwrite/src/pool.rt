@@ -1,4 +1,4 @@
-//! Writing the constant pool.
+//! The bytes of ConstantPool (6.7). Called by `files`. It tests no limit.
 
 ghost use Rattle.std.specs.Prelude.{◌≡◌, ◌++◌, OnOk};
 ghost use Rattle.std.specs.List.{flat_map};

@@ -1,4 +1,5 @@
-//! The size items of components, before any limit. A size past the greatest number counts as that.
+//! The size items of components, before any limit: what `limits` asks, and what a Directory is filled with before its
+//! package is written. A size past the greatest number counts as that. It takes no memory and writes nothing.
 
 ghost use Rattle.std.specs.Prelude.{◌≡◌, ◌+◌, ◌*◌, ◌<◌, length};
 ghost use Rattle.std.specs.List.{flat_map};
@@ -9,7 +10,7 @@ ghost use Rattle.cjc_capwrite.specs.Class.{interface_bytes, implemented_bytes, c
 ghost use Rattle.cjc_capwrite.specs.Method.{method_bytes};
 ghost use Rattle.cjc_capwrite.specs.Statics.{array_init_bytes, static_field_bytes, reference_location_bytes};
 ghost use Rattle.cjc_capwrite.specs.Export.{exported_class_bytes, export_bytes};
-ghost use Rattle.cjc_capwrite.specs.Descriptor.{class_descriptor_bytes, type_bytes, descriptor_bytes};
+ghost use Rattle.cjc_capwrite.specs.Descriptor.{class_descriptor_bytes, type_bytes, types_bytes, descriptor_bytes};
 ghost use Rattle.cjc_capwrite.specs.Files.{part};
 
 use cjc_capread::{
@@ -282,14 +283,20 @@ fn types_size(types: &[TypeDescriptor]) -> u64
     size
 }
 
+/// The part in which types have offsets.
+#[tactic(auto, using(crate::proofs::Lengths::types_length))]
+pub(crate) fn types_part_size(descriptor: &Descriptor) -> u64
+    ensures { result ≡ capped (length (types_bytes descriptor.now)) }
+{
+    behind(2, 2, descriptor.pool_types.items()).saturating_add(types_size(descriptor.types.items()))
+}
+
 #[tactic(auto, using(crate::proofs::Lengths::descriptor_length))]
 fn descriptor_size(descriptor: &Descriptor) -> u64
     ensures { result ≡ capped (length (descriptor_bytes descriptor.now)) }
 {
-    let classes = class_descriptors_size(descriptor.classes.items()).saturating_add(3);
-    behind(classes, 2, descriptor.pool_types.items()).saturating_add(types_size(
-        descriptor.types.items(),
-    ))
+    let classes = class_descriptors_size(descriptor.classes.items()).saturating_add(1);
+    classes.saturating_add(types_part_size(descriptor))
 }
 
 fn applet_part(applet: &Option<Applet>) -> u64

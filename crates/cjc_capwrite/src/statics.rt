@@ -1,4 +1,4 @@
-//! Writing the static field image, and where indices into the constant pool stand.
+//! The bytes of StaticField and ReferenceLocation (6.10, 6.11). Called by `files`. It tests no limit.
 
 ghost use Rattle.std.specs.Prelude.{◌≡◌, ◌++◌, OnOk};
 ghost use Rattle.std.specs.List.{flat_map};

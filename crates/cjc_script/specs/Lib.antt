@@ -1,4 +1,2 @@
 pub mod Agree
-pub mod Names
-pub mod Types
-pub mod Fits
+pub mod Sorts

@@ -1,5 +1,5 @@
 use Rattle.std.proofs.Common.{length}
-use Rattle.cjc_bytes.proofs.Laws.{one_value, one_place, spelt_or_broken, decided}
+use Rattle.cjc_bytes.proofs.Laws.{one_value, one_place, spelt_or_broken, decided, reading_is}
 use Rattle.cjc_capread.specs.Component.{component}
 use Rattle.cjc_capread.proofs.component.readings.Goals as goal
 
@@ -14,3 +14,6 @@ returns-clause-not_both c = λ tag t k bytes. spelt_or_broken (component tag (le
 
 pub returns-clause-one_of_them : goal.returns-clause-one_of_them
 returns-clause-one_of_them c = λ tag bytes. decided (component tag (length bytes)) bytes
+
+pub returns-clause-reading : goal.returns-clause-reading
+returns-clause-reading c = λ tag bytes. reading_is (component tag (length bytes)) bytes

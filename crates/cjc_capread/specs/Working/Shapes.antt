@@ -4,9 +4,11 @@ use Rattle.cjc_capread.specs.declared.opcode.OpInfo.{OpInfo}
 use Rattle.cjc_capread.specs.declared.opcode.Shape.{Shape}
 use Rattle.cjc_capread.specs.declared.opcode.Shape.TheVariants.{NoOp, Switch, Bare, Bytes1, Bytes2, Bytes3, Bytes4, Index1, Index2, Typed, Call}
 
+-- an opcode of this length, with its index there
 abbrev pub of_three : ℕ → ℕ → ℕ → Option OpInfo
 of_three length at bytes = Some (record { length = length; index_at = at; index_bytes = bytes })
 
+-- what a shape says of an instruction
 abbrev pub shape_info : Shape → Option OpInfo
 shape_info NoOp = None
 shape_info Switch = of_three 0 0 0

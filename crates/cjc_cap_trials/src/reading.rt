@@ -1,0 +1,140 @@
+//! Components that are cut or have one byte changed, and where they are refused.
+
+use crate::bytes::{
+    CLASS, DESCRIPTOR, DIRECTORY, EXPORT, FAR, HEADER, IMPORT, LOCATIONS, METHOD, OTHER_CLASS,
+    OTHER_METHOD, OTHER_POOL, OTHER_STATICS, POOL, STATICS,
+};
+use cjc_bytes::{Fault, Rule};
+use cjc_capread::read;
+
+// The same components cut at each length, their sizes made to fit: the offset of the refusal, 255 where the
+// bytes before the cut are a whole component.
+const HEADER_CUTS: [u8; 20] = [
+    0, 1, 1, 3, 3, 3, 3, 7, 8, 9, 10, 11, 12, 13, 13, 13, 13, 13, 18, 19,
+];
+
+const DIRECTORY_CUTS: [u8; 36] = [
+    0, 1, 1, 3, 3, 5, 5, 7, 7, 9, 9, 11, 11, 13, 13, 15, 15, 17, 17, 19, 19, 21, 21, 23, 23, 25,
+    25, 27, 27, 29, 29, 31, 31, 33, 34, 35,
+];
+
+const IMPORT_CUTS: [u8; 14] = [0, 1, 1, 3, 4, 5, 6, 7, 7, 7, 7, 7, 7, 7];
+
+const POOL_CUTS: [u8; 5] = [0, 1, 1, 3, 3];
+
+const CLASS_CUTS: [u8; 15] = [0, 1, 1, 3, 3, 255, 6, 6, 8, 9, 10, 11, 12, 13, 14];
+
+const METHOD_CUTS: [u8; 10] = [0, 1, 1, 3, 255, 255, 255, 255, 255, 255];
+
+const STATICS_CUTS: [u8; 13] = [0, 1, 1, 3, 3, 5, 5, 7, 7, 9, 9, 11, 11];
+
+const LOCATIONS_CUTS: [u8; 7] = [0, 1, 1, 3, 3, 5, 5];
+
+const EXPORT_CUTS: [u8; 10] = [0, 1, 1, 3, 4, 4, 6, 7, 8, 8];
+
+const DESCRIPTOR_CUTS: [u8; 29] = [
+    0, 1, 1, 3, 4, 5, 6, 6, 8, 9, 9, 11, 11, 13, 14, 15, 15, 17, 17, 19, 19, 21, 21, 23, 23, 25,
+    25, 255, 28,
+];
+
+/// The offset of the refusal by rule 106, 255 where there is none.
+fn place_of(rt: &HostRuntime, tag: u8, bytes: &[u8]) -> Option<u32> {
+    if tag < 1 || tag > 11 || bytes.len() > 1000 {
+        return None;
+    }
+    match read(rt.alloc(), b"some.cap", tag, bytes) {
+        Ok(_) => Some(255),
+        Err(Fault::Refused(refusal)) => {
+            let Rule(rule) = refusal.rule;
+            if rule == 106 {
+                Some(refusal.place.offset)
+            } else {
+                None
+            }
+        }
+        Err(_) => None,
+    }
+}
+
+/// The first length at which the cut component, its size item made to fit, is answered otherwise.
+fn first_other_cut(rt: &HostRuntime, tag: u8, bytes: &[u8], places: &[u8]) -> Option<usize> {
+    let mut cut = [0u8; 36];
+    for (to, from) in cut.iter_mut().zip(bytes) {
+        *to = *from;
+    }
+    for (n, place) in places.iter().enumerate() {
+        if n > 35 {
+            return Some(n);
+        }
+        if n > 2 {
+            cut[2] = (n - 3) as u8;
+        }
+        if place_of(rt, tag, &cut[..n]) != Some(u32::from(*place)) {
+            return Some(n);
+        }
+    }
+    None
+}
+
+/// A component and the offset of its refusal at each cut.
+const CUTS: [(u8, &[u8], &[u8]); 10] = [
+    (1, HEADER, &HEADER_CUTS),
+    (2, DIRECTORY, &DIRECTORY_CUTS),
+    (4, IMPORT, &IMPORT_CUTS),
+    (5, POOL, &POOL_CUTS),
+    (6, CLASS, &CLASS_CUTS),
+    (7, METHOD, &METHOD_CUTS),
+    (8, STATICS, &STATICS_CUTS),
+    (9, LOCATIONS, &LOCATIONS_CUTS),
+    (10, EXPORT, &EXPORT_CUTS),
+    (11, DESCRIPTOR, &DESCRIPTOR_CUTS),
+];
+
+#[test]
+fn cut_short(rt: HostRuntime) {
+    for (tag, bytes, places) in CUTS {
+        assert_eq!(rt; first_other_cut(&rt, tag, bytes, places), None);
+    }
+}
+
+/// The offset of the refusal of a component with one byte changed.
+fn changed(rt: &HostRuntime, tag: u8, bytes: &[u8], at: usize, byte: u8) -> Option<u32> {
+    let mut changed = [0u8; 36];
+    for (to, from) in changed.iter_mut().zip(bytes) {
+        *to = *from;
+    }
+    if at > 35 || bytes.len() > 36 {
+        return None;
+    }
+    changed[at] = byte;
+    place_of(rt, tag, &changed[..bytes.len()])
+}
+
+/// A component, one byte of it changed, and the offset of the refusal.
+const CHANGES: [(u8, &[u8], usize, u8, u32); 18] = [
+    (1, HEADER, 6, 0xEE, 3), // the magic
+    (1, HEADER, 7, 1, 7), // minor version of the format
+    (1, HEADER, 2, 0x12, 1), // a size that does not fit
+    (2, DIRECTORY, 35, 1, 35), // the number of custom components
+    (2, DIRECTORY, 0, 1, 0), // the tag of another component
+    (4, IMPORT, 3, 2, 14), // one package more
+    (4, IMPORT, 6, 8, 7), // an AID of eight bytes
+    (5, OTHER_POOL, 5, 7, 5), // no tag of a constant
+    (5, OTHER_POOL, 12, 1, 12), // the byte behind a class
+    (6, CLASS, 4, 1, 3), // a signature pool
+    (6, OTHER_CLASS, 12, 3, 19), // three methods, and two are there
+    (7, OTHER_METHOD, 3, 3, 24), // three handlers, and half of the third is there
+    (8, OTHER_STATICS, 9, 6, 9), // no type of an element
+    (8, STATICS, 12, 1, 13), // a byte that is not there
+    (9, FAR, 6, 4, 7), // four bytes, and three are there
+    (10, EXPORT, 6, 2, 10), // two methods, and one is there
+    (11, DESCRIPTOR, 27, 1, 28), // one nibble, and behind it one that is not 0
+    (11, DESCRIPTOR, 27, 6, 28), // three bytes of nibbles, and one is there
+];
+
+#[test]
+fn first_bad_field(rt: HostRuntime) {
+    for (tag, bytes, at, byte, place) in CHANGES {
+        assert_eq!(rt; changed(&rt, tag, bytes, at, byte), Some(place));
+    }
+}
