@@ -1,1 +1,1 @@
-pub mod Longer
+pub mod Fetching

@@ -1,4 +1,9 @@
-pub mod Cells
-pub mod Rows
-pub mod Naming
+pub mod Loaded
+pub mod Classes
+pub mod Statics
+pub mod Dispatch
+pub mod Operations
+pub mod Methods
+pub mod Calls
 pub mod ByToken
+pub mod Worked

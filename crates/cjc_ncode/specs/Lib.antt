@@ -1,2 +1,4 @@
-pub mod Linked
-pub mod ByName
+pub mod PoolOrder
+pub mod ByLabel
+pub mod Written
+pub mod WorkedCode

@@ -1,0 +1,9 @@
+pub mod Linked
+pub mod Arithmetic
+pub mod Effects
+pub mod Machine
+pub mod OnePackage
+pub mod ByName
+pub mod Worked
+pub mod Wallet
+pub mod Group

@@ -1,0 +1,10 @@
+pub mod Numbers
+pub mod Calculations
+pub mod Effects
+pub mod Meanings
+pub mod Arguments
+pub mod Machine
+pub mod Renaming
+pub mod Alike
+pub mod Runs
+pub mod Worked

@@ -1,0 +1,282 @@
+-- The narrow code of a method that is not in int mode: what is written for each reached instruction, in the class file's order.
+use Rattle.std.specs.Prelude.{ℕ, ◌+◌, ◌-◌, ◌*◌, List, [], ◌∷◌, ◌++◌, length, map, flat_map, replicate, filter, Option, Some, None, Bool, true, false, nat_le, nat_lt, ◌==◌, ◌&&◌, if◌then◌else◌, ℤ, pos, negsuc, ◌+ℤ◌}
+use Rattle.std.specs.Int.RustNames.{int_le}
+use Rattle.cjc_bytes.specs.declared.fault.MemberId.{MemberId}
+use Rattle.cjc_classfile.specs.Code.{CodeTree}
+use Rattle.cjc_classfile.specs.declared.tree.Catch.{Catch}
+use Rattle.cjc_code.specs.declared.insn.JInsn.{JInsn}
+use Rattle.cjc_code.specs.declared.insn.JCase.{JCase}
+use Rattle.cjc_code.specs.declared.insn.JOp.{JOp}
+use Rattle.cjc_code.specs.declared.insn.JOp.TheVariants as jop
+use Rattle.cjc_script.specs.Sorts.{Sort, Boolean, Byte, Short, Int, Signature, Shape, OfClass, OfNumbers, OfReferences, Booleans, Bytes, Shorts, Ints, field_sort, signature_of, shape_named}
+use Rattle.cjc_bytecode.specs.Arguments.{widths}
+use Rattle.cjc_bytecode.specs.Numbers.{is_word}
+use Rattle.cjc_words.specs.Words.{low_word}
+use Rattle.cjc_ncode.specs.declared.narrow.NCase.{NCase}
+use Rattle.cjc_ncode.specs.declared.narrow.NInsn.{NInsn}
+use Rattle.cjc_ncode.specs.declared.narrow.NInsn.TheVariants.{Op, Push, Local, Inc, Words, Jump, Switch, Named, Interface, NewArray, TypeTest}
+use Rattle.cjc_ncode.specs.declared.narrow.NCatch.{NCatch}
+use Rattle.cjc_ncode.specs.declared.narrow.NMethod.{NMethod}
+use Rattle.cjc_ncode.specs.declared.narrow.PoolKey.{PoolKey}
+use Rattle.cjc_ncode.specs.declared.narrow.PoolKey.TheVariants as keys
+
+-- What the world says of names, seen from the class that holds the code.
+pub record Resolution : Type 0 where
+  -- a field with the class in which it is found, and the value of a constant
+  pub field : MemberId → MemberId
+  pub constant : MemberId → Option ℤ
+  -- whether an instance field stands at an index of at most 255
+  pub is_near : MemberId → Bool
+  -- the keys of a method that invokevirtual, invokespecial and invokestatic name: a virtual method that is named through a class of the package has that class, every other the class in which it is found, a super call the class that holds the code
+  pub virtual : MemberId → PoolKey
+  pub special : MemberId → PoolKey
+  pub static : MemberId → PoolKey
+  -- a method with the interface in which it is found
+  pub interface : MemberId → MemberId
+
+-- ---- numbers and locals
+
+-- sconst_m1 to sconst_5, else bspush, else sspush
+abbrev pub pushed_word : ℤ → NInsn
+pushed_word (pos n) = if nat_le n 5 then Op (0x03 + n) else (if nat_le n 127 then Push 0x10 (pos n) else Push 0x11 (pos n))
+pushed_word (negsuc n) = if n == 0 then Op 0x02 else (if nat_le n 127 then Push 0x10 (negsuc n) else Push 0x11 (negsuc n))
+
+-- the low word of a number
+abbrev pub pushed : ℤ → List NInsn
+pushed z = pushed_word (low_word z) ∷ []
+
+-- the forms for locals 0 to 3 begin at an opcode
+abbrev pub local : (short long index : ℕ) → List NInsn
+local short long l = (if nat_le l 3 then Op (short + l) else Local long l) ∷ []
+
+-- a number of one byte
+abbrev pub is_byte : ℤ → Bool
+is_byte z = int_le (negsuc 127) z && int_le z (pos 127)
+
+-- ---- opcodes for opcodes
+
+-- aaload, baload, saload; aastore, bastore, sastore
+abbrev pub array_load : ℕ → ℕ
+array_load op = if op == 0x32 then 0x24 else (if op == 0x33 then 0x25 else 0x26)
+
+-- the same for stores
+abbrev pub array_store : ℕ → ℕ
+array_store op = if op == 0x53 then 0x37 else (if op == 0x54 then 0x38 else 0x39)
+
+-- pop, pop2, dup, dup2; dup_x1, dup_x2, dup2_x1, dup2_x2, swap
+abbrev pub on_stack : ℕ → NInsn
+on_stack op =
+    if op == 0x57 then Op 0x3B else (if op == 0x58 then Op 0x3C else (if op == 0x59 then Op 0x3D else (if op == 0x5C then Op 0x3E
+    else (if op == 0x5A then Words 0x3F 1 2 else (if op == 0x5B then Words 0x3F 1 3 else (if op == 0x5D then Words 0x3F 2 3
+    else (if op == 0x5E then Words 0x3F 2 4 else Words 0x40 1 1)))))))
+
+-- iadd, isub, imul, idiv, irem, ineg, ishl, ishr, iushr, iand, ior, ixor
+abbrev pub arithmetic : ℕ → ℕ
+arithmetic op =
+    if op == 0x60 then 0x41 else (if op == 0x64 then 0x43 else (if op == 0x68 then 0x45 else (if op == 0x6C then 0x47
+    else (if op == 0x70 then 0x49 else (if op == 0x74 then 0x4B else (if op == 0x78 then 0x4D else (if op == 0x7A then 0x4F
+    else (if op == 0x7C then 0x51 else (if op == 0x7E then 0x53 else (if op == 0x80 then 0x55 else 0x57))))))))))
+
+-- ifeq to ifle, if_icmpeq to if_icmple, if_acmpeq, if_acmpne, ifnull, ifnonnull
+abbrev pub condition : ℕ → ℕ
+condition op =
+    if nat_le op 0x9E then op - 0x99 + 0x60 else (if nat_le op 0xA4 then op - 0x9F + 0x6A
+    else (if op == 0xA5 then 0x68 else (if op == 0xA6 then 0x69 else (if op == 0xC6 then 0x66 else 0x67))))
+
+-- ireturn, areturn, return
+abbrev pub leaving : ℕ → ℕ
+leaving op = if op == 0xAC then 0x78 else (if op == 0xB0 then 0x77 else 0x7A)
+
+-- how far the opcode of a type stands behind that of references
+abbrev pub behind_reference : Sort → ℕ
+behind_reference Boolean = 1
+behind_reference Byte = 1
+behind_reference Short = 2
+behind_reference Int = 3
+behind_reference other = 0
+
+-- ---- switches
+
+-- the cases within 16 bits, of a table from a low value on
+abbrev pub table_cases : (place : ℕ → ℕ) → ℤ → List ℕ → List NCase
+table_cases place low [] = []
+table_cases place low (t ∷ targets) =
+    let more = table_cases place (low +ℤ pos 1) targets in
+    if is_word low then record { value = low; target = place t } ∷ more else more
+
+-- a pair with the place of its target
+abbrev pub pair_case : (place : ℕ → ℕ) → JCase → NCase
+pair_case place c = record { value = c.value; target = place c.target }
+
+-- the pairs within 16 bits
+abbrev pub pair_cases : (place : ℕ → ℕ) → List JCase → List NCase
+pair_cases place cases = map (pair_case place) (filter (λ c. is_word c.value) cases)
+
+-- the first value that is left
+abbrev pub low_of : List NCase → ℤ
+low_of [] = pos 0
+low_of (c ∷ cases) = c.value
+
+-- pop and a goto to the default where no case is left
+abbrev pub switched : (op other : ℕ) → (low : ℤ) → List NCase → List NInsn
+switched op other low [] = Op 0x3B ∷ Jump 0x70 other ∷ []
+switched op other low (c ∷ cases) = Switch op other low (c ∷ cases) ∷ []
+
+-- ---- names
+
+-- getstatic or putstatic of a type
+abbrev pub static_access : (put : Bool) → Sort → ℕ
+static_access put sort = (if put then 0x7F else 0x7B) + behind_reference sort
+
+-- getfield or putfield of a type, in the form of one byte or two
+abbrev pub field_access : (put near : Bool) → Sort → ℕ
+field_access put near sort =
+    (if near then (if put then 0x87 else 0x83) else (if put then 0xB1 else 0xA9)) + behind_reference sort
+
+-- a constant is pushed
+abbrev pub static_by : Resolution → (put : Bool) → MemberId → Option ℤ → List NInsn
+static_by r put f (Some z) = pushed z
+static_by r put f None = Named (static_access put (field_sort f.desc)) (keys.StaticField (r.field f)) ∷ []
+
+-- a call by its key
+abbrev pub called : Resolution → (op : ℕ) → MemberId → NInsn
+called r op m = if op == 0xB6 then Named 0x8B (r.virtual m) else (if op == 0xB7 then Named 0x8C (r.special m) else Named 0x8D (r.static m))
+
+-- the words of the parameters, and the receiver
+abbrev pub words_by : Option Signature → ℕ
+words_by None = 1
+words_by (Some types) = 1 + widths types.params
+
+-- of an interface's method
+abbrev pub nargs_of : MemberId → ℕ
+nargs_of m = words_by (signature_of m.desc)
+
+-- a call of any kind
+abbrev pub call_by : Resolution → (op : ℕ) → MemberId → List NInsn
+call_by r op m = (if op == 0xB9 then Interface (nargs_of m) (r.interface m) else called r op m) ∷ []
+
+-- boolean 4, byte 8, short 9, int 10 of a class file
+abbrev pub element_number : ℕ → ℕ
+element_number n = if n == 4 then 10 else (if n == 8 then 11 else (if n == 9 then 12 else 13))
+
+-- checkcast or instanceof of a type
+abbrev pub type_test : (op : ℕ) → Option (Shape (List ℕ)) → List NInsn
+type_test op None = []
+type_test op (Some (OfClass class)) = TypeTest op 0 (Some class) ∷ []
+type_test op (Some (OfReferences class)) = TypeTest op 14 (Some class) ∷ []
+type_test op (Some (OfNumbers Booleans)) = TypeTest op 10 None ∷ []
+type_test op (Some (OfNumbers Bytes)) = TypeTest op 11 None ∷ []
+type_test op (Some (OfNumbers Shorts)) = TypeTest op 12 None ∷ []
+type_test op (Some (OfNumbers Ints)) = TypeTest op 13 None ∷ []
+
+-- ---- an instruction
+
+-- What is written for an instruction, where `place` gives the place of what is written for an offset.
+abbrev pub written : Resolution → (place : ℕ → ℕ) → JOp → List NInsn
+written r place jop.Nop = []
+written r place jop.Null = Op 0x01 ∷ []
+written r place (jop.Number z) = pushed z
+written r place (jop.Load false l) = local 0x1C 0x16 l
+written r place (jop.Load true l) = local 0x18 0x15 l
+written r place (jop.Store false l) = local 0x2F 0x29 l
+written r place (jop.Store true l) = local 0x2B 0x28 l
+written r place (jop.ArrayLoad op) = Op (array_load op) ∷ []
+written r place (jop.ArrayStore op) = Op (array_store op) ∷ []
+written r place (jop.Stack op) = on_stack op ∷ []
+written r place (jop.Arith op) = Op (arithmetic op) ∷ []
+written r place (jop.Inc l by) = Inc (if is_byte by then 0x59 else 0x96) l by ∷ []
+written r place (jop.Narrow op) = if op == 0x91 then Op 0x5B ∷ [] else []
+written r place (jop.If op target) = Jump (condition op) (place target) ∷ []
+written r place (jop.Goto target) = Jump 0x70 (place target) ∷ []
+written r place (jop.TableSwitch other low targets) = let cases = table_cases place low targets in switched 0x73 (place other) (low_of cases) cases
+written r place (jop.LookupSwitch other cases) = switched 0x75 (place other) (pos 0) (pair_cases place cases)
+written r place (jop.Return op) = Op (leaving op) ∷ []
+written r place (jop.Static put f) = static_by r put f (r.constant f)
+written r place (jop.Field put f) = Named (field_access put (r.is_near f) (field_sort f.desc)) (keys.Field (r.field f)) ∷ []
+written r place (jop.Call op m) = call_by r op m
+written r place (jop.New class) = Named 0x8F (keys.Class class) ∷ []
+written r place (jop.NewArray kind) = NewArray (element_number kind) ∷ []
+written r place (jop.ANewArray class) = Named 0x91 (keys.Class class) ∷ []
+written r place jop.ArrayLength = Op 0x92 ∷ []
+written r place jop.Throw = Op 0x93 ∷ []
+written r place (jop.CheckCast class) = type_test 0x94 (shape_named class)
+written r place (jop.InstanceOf class) = type_test 0x95 (shape_named class)
+
+-- ---- a method
+
+-- how many instructions are written before an offset, of reached ones
+abbrev pub place_in : Resolution → List JInsn → (offset : ℕ) → ℕ
+place_in r [] offset = 0
+place_in r (i ∷ insns) offset = (if nat_lt i.at offset then length (written r (λ o. 0) i.op) else 0) + place_in r insns offset
+
+-- what a table says of reached instructions: the rows that are there
+abbrev pub reached : {A : Type 0} → List JInsn → List (Option A) → List JInsn
+reached (i ∷ insns) (Some row ∷ rows) = i ∷ reached insns rows
+reached (i ∷ insns) (None ∷ rows) = reached insns rows
+reached insns rows = []
+
+-- a handler over what is written; none where nothing in its range is
+abbrev pub catch_at : (place : ℕ → ℕ) → Catch → NCatch
+catch_at place c = record { start = place c.start; end = place c.end; target = place c.target; class = c.class; at = c.target }
+
+-- handlers over something that is written
+abbrev pub catches_at : (place : ℕ → ℕ) → List Catch → List NCatch
+catches_at place catches = filter (λ c. nat_lt c.start c.end) (map (catch_at place) catches)
+
+-- The instructions of a method: those of each reached instruction in order.
+abbrev pub narrow_code : Resolution → List JInsn → List NInsn
+narrow_code r insns = flat_map (λ i. written r (place_in r insns) i.op) insns
+
+-- of each written instruction the place of its own in the method's list, where the first has this place
+abbrev pub sources : {A : Type 0} → Resolution → (first : ℕ) → List JInsn → List (Option A) → List ℕ
+sources r k (i ∷ insns) (Some row ∷ rows) = replicate (length (written r (λ o. 0) i.op)) k ++ sources r (k + 1) insns rows
+sources r k (i ∷ insns) (None ∷ rows) = sources r (k + 1) insns rows
+sources r k insns rows = []
+
+-- the widest size of what is written for an instruction, in bytes
+abbrev pub widest : JOp → ℕ
+widest jop.Nop = 0
+widest jop.Null = 1
+widest (jop.Number z) = 3
+widest (jop.Load refs l) = 2
+widest (jop.Store refs l) = 2
+widest (jop.ArrayLoad op) = 1
+widest (jop.ArrayStore op) = 1
+widest (jop.Stack op) = if nat_le op 0x59 then 1 else (if op == 0x5C then 1 else 2)
+widest (jop.Arith op) = 1
+widest (jop.Inc l by) = 4
+widest (jop.Narrow op) = if op == 0x91 then 1 else 0
+widest (jop.If op target) = 3
+widest (jop.Goto target) = 3
+widest (jop.TableSwitch other low targets) = 7 + 2 * length targets
+widest (jop.LookupSwitch other cases) = 5 + 4 * length cases
+widest (jop.Return op) = 1
+widest (jop.Static put f) = 3
+widest (jop.Field put f) = 3
+widest (jop.Call op m) = if op == 0xB9 then 5 else 3
+widest (jop.New class) = 3
+widest (jop.NewArray kind) = 3
+widest (jop.ANewArray class) = 3
+widest jop.ArrayLength = 1
+widest jop.Throw = 1
+widest (jop.CheckCast class) = 4
+widest (jop.InstanceOf class) = 4
+
+-- of all reached instructions
+abbrev pub widest_sum : List JInsn → ℕ
+widest_sum [] = 0
+widest_sum (i ∷ insns) = widest i.op + widest_sum insns
+
+-- The narrow method of a method with these words of arguments: an instruction is reached where its least table has a row.
+abbrev pub narrow_method : {A : Type 0} → Resolution → CodeTree → (nargs : ℕ) → List JInsn → List (Option A) → NMethod
+narrow_method r code nargs insns rows =
+    let kept = reached insns rows in
+    record {
+      insns = narrow_code r kept;
+      from = sources r 0 insns rows;
+      catches = catches_at (place_in r kept) code.catches;
+      max_stack = code.max_stack;
+      nargs = nargs;
+      max_locals = code.max_locals - nargs;
+      widest = widest_sum kept;
+    }
