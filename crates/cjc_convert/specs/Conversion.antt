@@ -1,5 +1,5 @@
 -- What a conversion makes of a list and the files that it names, or which rule they break first.
-use Rattle.std.specs.Prelude.{◌≡◌, ◌⊎◌, ℕ, ◌<◌, ◌≤◌, List, [], ◌∷◌, length, All, true, false, Some, None}
+use Rattle.std.specs.Prelude.{◌≡◌, ◌⊎◌, ℕ, ◌≤◌, List, [], ◌∷◌, length, true, false, None}
 use Rattle.cjc_bytes.specs.Format.{FileSpells}
 use Rattle.cjc_bytes.specs.Refused.{refusal}
 use Rattle.cjc_bytes.specs.declared.fault.Refusal.{Refusal}
@@ -7,12 +7,11 @@ use Rattle.cjc_bytes.specs.declared.settings.FileLine.{FileLine}
 use Rattle.cjc_classfile.specs.ClassFile.{class_file}
 use Rattle.cjc_classfile.specs.declared.tree.ClassTree.{ClassTree}
 use Rattle.cjc_list.specs.Listed.{ListTree}
-use Rattle.cjc_list.specs.Spelling.{IsSpelt as IsListSpelt}
 use Rattle.cjc_classfile.specs.declared.tree.MethodTree.{MethodTree}
 use Rattle.cjc_export.specs.declared.tree.ExportClass.{ExportClass}
 use Rattle.cjc_export.specs.declared.tree.ExportTree.{ExportTree}
-use Rattle.cjc_export.specs.Words.{is_interface}
-use Rattle.cjc_convert.specs.Above.{root_of, inherited}
+use Rattle.cjc_first.specs.Above.{IsRoot}
+use Rattle.cjc_first.specs.Exported.{exported}
 use Rattle.cjc_export.specs.ExportFile.{export_file}
 use Rattle.cjc_export.specs.Written.{written}
 use Rattle.cjc_capread.specs.declared.tree.CapTree.{CapTree}
@@ -20,34 +19,21 @@ use Rattle.cjc_capwrite.specs.Method.{method_bytes}
 use Rattle.cjc_capwrite.specs.Files.{files_of, limit_of, part}
 use Rattle.cjc_capwrite.specs.Writable.{IsSpelt, IsWritable}
 use Rattle.cjc_code.specs.declared.insn.JInsn.{JInsn}
-use Rattle.cjc_convert.specs.Converted.{converted}
-use Rattle.cjc_convert.specs.FirstForm.{PackageLine, IsFirstForm, object}
-use Rattle.cjc_world.specs.Rules.{Break}
-use Rattle.cjc_convert.specs.Rules.{Breach, IsFirstBroken}
-use Rattle.cjc_convert.specs.Tests.{IsSmallImport}
-use Rattle.cjc_convert.specs.declared.form.Form.{Form}
+use Rattle.cjc_first.specs.Converted.{converted}
+use Rattle.cjc_first.specs.FirstForm.{PackageLine, IsFirstForm, line_of}
+use Rattle.cjc_bytes.specs.Breaks.{Break}
+use Rattle.cjc_judge.specs.declared.groups.Group.{Group}
+use Rattle.cjc_judge.specs.declared.groups.Group.TheVariants as groups
+use Rattle.cjc_judge.specs.Rules.{Breach, IsFirstBroken}
+use Rattle.cjc_first.specs.Tests.{IsSmallImport}
+use Rattle.cjc_first.specs.declared.form.Form.{Form}
 use Rattle.cjc_convert.specs.declared.conversion.Converted.{Converted}
-
--- Some text of fewer than 2 ^ 32 bytes spells this list.
-abbrev pub IsRead : ListTree → Type 0
-IsRead list = (text : List ℕ) × (length text < 4294967296) × IsListSpelt list.name list text
-
--- what the list says of the package
-abbrev pub line_of : ListTree → PackageLine
-line_of list = record { name = list.package; aid = list.aid; major = list.major; minor = list.minor }
 
 -- One line is a class file's and one an export file's, in either order.
 abbrev pub IsPair : List FileLine → List (List ℕ) → List ℕ → List ℕ → Type 0
 IsPair lines files class export = (a b : FileLine) × (lines ≡ a ∷ b ∷ []) × (
     ((a.class_file ≡ true) × (b.class_file ≡ false) × (files ≡ class ∷ export ∷ []))
     ⊎ ((a.class_file ≡ false) × (b.class_file ≡ true) × (files ≡ export ∷ class ∷ [])))
-
--- The class is java/lang/Object of the export file, no interface, and nothing stands above it.
-pub record IsRoot (lang : ExportTree) (root : ExportClass) : Type 0 where
-  pub named : root_of lang ≡ Some root
-  pub is_class : is_interface root.flags ≡ false
-  pub supers : root.supers ≡ []
-  pub interfaces : root.interfaces ≡ []
 
 -- The package is of the form that is converted: no applet, one export file, which has such a java/lang/Object, and
 -- one class file, which spells a class of the form.
@@ -61,9 +47,13 @@ pub record IsForm (list : ListTree) (files : List (List ℕ)) (lang : ExportTree
   pub spelt : FileSpells class_file tree class
   pub form : IsFirstForm (line_of list) tree
 
+-- what a package is tested for, beyond single files, the classes together and what instructions name
+abbrev pub tested : List Group
+tested = groups.Unsupported ∷ groups.Limits ∷ groups.Tokens ∷ groups.Types ∷ []
+
 -- No rule is broken, and the package is not of the form: that is not built yet.
 pub record IsNotBuilt (list : ListTree) (files : List (List ℕ)) : Type 0 where
-  pub unbroken : (b : Break) → Breach list files b → ⊥
+  pub unbroken : (b : Break) → Breach list files tested b → ⊥
   pub not_form : (lang : ExportTree) (root : ExportClass) (tree : ClassTree) → IsForm list files lang root tree → ⊥
 
 -- the refusal of what is not built yet
@@ -72,32 +62,9 @@ not_built list = refusal list.name 801 0
 
 -- The refusal is the first broken rule.
 abbrev pub IsRefused : ListTree → List (List ℕ) → Refusal → Type 0
-IsRefused list files r = IsFirstBroken list files r ⊎ (IsNotBuilt list files × (r ≡ not_built list))
-
--- Each file has a length of four bytes.
-abbrev pub AreFiles : List (List ℕ) → Type 0
-AreFiles files = All (λ bytes. length bytes < 4294967296) files
+IsRefused list files r = IsFirstBroken list files tested r ⊎ (IsNotBuilt list files × (r ≡ not_built list))
 
 -- ---- what is written
-
--- what the export file says: the class, its method, and the methods that it inherits from java/lang/Object
-abbrev pub exported : PackageLine → (root : ExportClass) → ClassTree → MethodTree → ExportTree
-exported line root tree method = record {
-  name = line.name;
-  aid = line.aid;
-  major = line.major;
-  minor = line.minor;
-  library = true;
-  classes = record {
-    token = 0;
-    flags = 0x0001;
-    name = tree.name;
-    supers = object ∷ [];
-    interfaces = [];
-    fields = [];
-    methods = record { token = 0; flags = 0x0009; name = method.name; desc = method.desc } ∷ inherited root;
-  } ∷ [];
-}
 
 -- This is written for a package of the form.
 pub record IsMade (line : PackageLine) (lang : ExportTree) (root : ExportClass) (tree : ClassTree) (form : IsFirstForm line tree) (made : Converted) : Type 0 where
@@ -108,7 +75,7 @@ pub record IsMade (line : PackageLine) (lang : ExportTree) (root : ExportClass) 
 
 -- The package breaks no rule and is of the form, and this is written for it.
 pub record IsConverted (list : ListTree) (files : List (List ℕ)) (made : Converted) : Type 0 where
-  pub unbroken : (b : Break) → Breach list files b → ⊥
+  pub unbroken : (b : Break) → Breach list files tested b → ⊥
   pub lang : ExportTree
   pub root : ExportClass
   pub tree : ClassTree

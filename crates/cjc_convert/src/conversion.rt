@@ -1,34 +1,29 @@
 //! The conversion: what is written for a package, or the first broken rule.
 
-ghost use Rattle.std.specs.Prelude.{◌≡◌, ◌⊎◌, ◌≤◌, ℕ, List as Items, [], length, IfOk, IfErr, IfSome, IfNone, OnOk};
+ghost use Rattle.std.specs.Prelude.{◌≡◌, ◌⊎◌, ◌≤◌, ℕ, List as Items, length, IfOk, IfErr, IfSome, IfNone};
 ghost use Rattle.std.specs.List.{AllByRecursion};
 ghost use Rattle.cjc_bytes.specs.declared.fault.Fault.TheVariants as faults;
 ghost use Rattle.cjc_bytes.specs.declared.fault.Refusal.{Refusal as Broken};
 ghost use Rattle.cjc_capwrite.specs.Files.{files_of};
 ghost use Rattle.cjc_capwrite.specs.Writable.{IsSpelt};
-ghost use Rattle.cjc_convert.specs.FirstForm.{IsFirstForm};
-ghost use Rattle.cjc_convert.specs.Codes.{all_codes};
-ghost use Rattle.cjc_convert.specs.Tests.{IsFormWith, IsSmallImport};
+ghost use Rattle.cjc_first.specs.FirstForm.{IsFirstForm, line_of};
+ghost use Rattle.cjc_code.specs.PackageCodes.{all_codes};
+ghost use Rattle.cjc_first.specs.Tests.{IsFormWith, IsSmallImport};
 ghost use Rattle.cjc_export.specs.Writable.{MethodFits};
-ghost use Rattle.cjc_world.specs.Rules.{Break, breaks, IsFirstRefusal};
-ghost use Rattle.cjc_convert.specs.Rules.{Breach, world_files};
-ghost use Rattle.cjc_convert.specs.Trees.{AreRead, read_of};
-ghost use Rattle.cjc_convert.specs.Conversion.{IsRead, AreFiles, IsForm, Parts, parts_of, FormOf, IsCapOf, IsWithinLimits, IsExportOf, IsMadeFor, IsConverted, IsRefused, line_of};
+ghost use Rattle.cjc_judge.specs.Judged.{IsJudged};
+ghost use Rattle.cjc_judge.specs.Trees.{AreRead};
+ghost use Rattle.cjc_convert.specs.Conversion.{IsForm, Parts, parts_of, FormOf, IsCapOf, IsWithinLimits, IsExportOf, IsMadeFor, IsConverted, IsRefused, tested};
+ghost use Rattle.cjc_judge.specs.Spelt.{IsRead, AreFiles};
 
-use crate::above::root_of;
-use crate::components::tree_for;
-use crate::exported::exported;
-use crate::form::{Form, first_form};
-use crate::judging::{language, types};
-use crate::reading::{Trees, read_files};
-use cjc_bytes::{Bytes, Fault, FileLine, NoMemory, Row, refused};
+use cjc_bytes::{Bytes, Fault, NoMemory, Row, refused};
 use cjc_capread::CapTree;
 use cjc_capwrite::CapFiles;
 use cjc_classfile::ClassTree;
 use cjc_code::MethodCode;
-use cjc_export::{ExportClass, ExportTree};
+use cjc_export::ExportClass;
+use cjc_first::{Form, exported, first_form, root_of, tree_for};
+use cjc_judge::{Group, Judged, judge};
 use cjc_list::List;
-use cjc_subset::names;
 use cjc_world::World;
 use std::alloc::Global;
 
@@ -48,8 +43,8 @@ fn form_of<'w, 'a>(
     codes: &'w [MethodCode],
 ) -> Option<Form<'w, 'a>>
     requires { codes.now ≡ all_codes world.now.classes }
-    ensures found { (files : Items (Items ℕ)) → AreRead list.now.lines files (read_of world.now codes.now) → IfSome result (λ form. FormOf list.now files (parts_of form)) }
-    ensures none { (files : Items (Items ℕ)) → AreRead list.now.lines files (read_of world.now codes.now) → IfNone result ((parts : Parts) → IsForm list.now files parts.lang parts.root parts.tree → ⊥) }
+    ensures found { (files : Items (Items ℕ)) → AreRead list.now.lines files world.now codes.now → IfSome result (λ form. FormOf list.now files (parts_of form)) }
+    ensures none { (files : Items (Items ℕ)) → AreRead list.now.lines files world.now codes.now → IfNone result ((parts : Parts) → IsForm list.now files parts.lang parts.root parts.tree → ⊥) }
 {
     if !list.applets.items().is_empty() {
         return None;
@@ -123,57 +118,19 @@ fn made_for(alloc: Global, list: &List, form: &Form<'_, '_>) -> Result<Converted
     Ok(Converted { caps, export })
 }
 
-// The lines of a list that name files, in memory of their own.
-fn lines_of(alloc: Global, list: &List) -> Result<Row<FileLine>, NoMemory>
-    ensures { IfOk result (λ lines. lines ≡ list.now.lines) }
-{
-    let mut lines = Row::new(alloc);
-    for line in list.lines.items() {
-        lines.push(FileLine {
-            class_file: line.class_file,
-            name: Bytes::copy_of(alloc, line.name.items())?,
-        })?;
-    }
-    Ok(lines)
-}
-
-// The world of the package of a list, of which these are the class files and the export files.
-fn world_of<'a>(
-    alloc: Global,
-    list: &List,
-    classes: Row<ClassTree<'a>>,
-    exports: Row<ExportTree>,
-) -> Result<World<'a>, Fault>
-    ensures made { IfOk result (λ w. w ≡ world_files list.now classes.entry exports) }
-    ensures unbroken { OnOk result (breaks list.now.name (world_files list.now classes.entry exports) ≡ []) }
-    ensures refused { IfErr result (IsFirstRefusal (breaks list.now.name (world_files list.now classes.entry exports))) }
-{
-    let lines = lines_of(alloc, list)?;
-    World::new(
-        alloc,
-        list.name.items(),
-        list.package.items(),
-        lines,
-        classes,
-        exports,
-    )
-}
-
-// What is written for a package that breaks no rule, of which this is the world and these are the codes.
+// What is written for a package that breaks no rule.
 fn convert_unbroken(
     alloc: Global,
     list: &List,
-    files: &[Bytes],
-    world: &World<'_>,
-    codes: &[MethodCode],
+    files: &Row<Bytes>,
+    judged: &Judged<'_>,
 ) -> Result<Converted, Fault>
     requires read { IsRead list.now }
-    requires trees { AreRead list.now.lines files.now (read_of world.now codes.now) }
-    requires unbroken { (b : Break) → Breach list.now files.now b → ⊥ }
+    requires judged { IsJudged list.now files.now tested judged.now }
     ensures converted { IfOk result (IsConverted list.now files.now) }
     ensures refused { IfErr result (λ e. (e ≡ faults.NoMemory) ⊎ ((r : Broken) × IsRefused list.now files.now r × (e ≡ faults.Refused r))) }
 {
-    match form_of(list, world, codes) {
+    match form_of(list, &judged.world, judged.codes.items()) {
         Some(form) => made_for(alloc, list, &form),
         None => Err(refused(alloc, list.name.items(), 801, 0)),
     }
@@ -194,15 +151,12 @@ pub fn convert(alloc: Global, list: &List, files: &Row<Bytes>) -> Result<Convert
     ensures converted { IfOk result (IsConverted list.now files.now) }
     ensures refused { IfErr result (λ e. (e ≡ faults.NoMemory) ⊎ ((r : Broken) × IsRefused list.now files.now r × (e ≡ faults.Refused r))) }
 {
-    let Trees {
-        classes,
-        exports,
-        codes,
-        foreigns,
-    } = read_files(alloc, list.lines.items(), files.items())?;
-    let world = world_of(alloc, list, classes, exports)?;
-    names(alloc, list.name.items(), &world, &codes)?;
-    language(alloc, list, &world, &codes, foreigns.items())?;
-    types(alloc, &world, codes.items())?;
-    convert_unbroken(alloc, list, files.items(), &world, codes.items())
+    let groups = [
+        Group::Unsupported,
+        Group::Limits,
+        Group::Tokens,
+        Group::Types,
+    ];
+    let judged = judge(alloc, list, files, &groups)?;
+    convert_unbroken(alloc, list, files, &judged)
 }

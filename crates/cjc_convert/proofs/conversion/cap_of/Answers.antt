@@ -1,9 +1,9 @@
 use Rattle.std.proofs.Common.{◌≡◌, Some, get_or, sym, ap, ◌∙◌}
 use Rattle.std.specs.Option.{option_copied}
 use Rattle.cjc_classfile.specs.declared.tree.MethodTree.{MethodTree}
-use Rattle.cjc_convert.specs.FirstForm.{ops_of}
+use Rattle.cjc_first.specs.FirstForm.{ops_of}
 use Rattle.cjc_convert.specs.Conversion.{parts_of}
-use Rattle.cjc_convert.proofs.Small.{sum_local}
+use Rattle.cjc_first.proofs.Small.{sum_local}
 use Rattle.cjc_convert.proofs.Converting.{cap_found}
 use Rattle.cjc_convert.proofs.conversion.cap_of.Goals as goal
 

@@ -1,6 +1,6 @@
 use Rattle.std.proofs.Common.{◌≡◌, get_or, ap, ◌∙◌, rules}
-use Rattle.cjc_convert.specs.Conversion.{line_of}
-use Rattle.cjc_convert.proofs.ExportFiles.{CanBeExported, exported_writable}
+use Rattle.cjc_first.specs.FirstForm.{line_of}
+use Rattle.cjc_first.proofs.ExportFiles.{CanBeExported, exported_writable}
 use Rattle.cjc_convert.proofs.conversion.export_of.Goals as goal
 
 pub write-requires : goal.write-requires

@@ -1,7 +1,7 @@
 use Rattle.std.proofs.Common.{◌≡◌, [], ◌∷◌, ◌∙◌, arith, sym, length, ap}
-use Rattle.cjc_convert.specs.Codes.{all_codes}
-use Rattle.cjc_convert.specs.Conversion.{line_of}
-use Rattle.cjc_convert.proofs.Forms.{one_item, form_codes}
+use Rattle.cjc_code.specs.PackageCodes.{all_codes}
+use Rattle.cjc_first.specs.FirstForm.{line_of}
+use Rattle.cjc_first.proofs.Forms.{one_item, form_codes}
 use Rattle.cjc_convert.proofs.Converting.{if_none, none_are, one_code_insns, form_found, root_none, class_none}
 use Rattle.cjc_convert.proofs.conversion.form_of.Goals as goal
 

@@ -1,7 +1,7 @@
 use Rattle.std.proofs.Common.{◌≤◌, length, arith}
-use Rattle.cjc_convert.specs.FirstForm.{ops_of}
-use Rattle.cjc_convert.specs.Conversion.{line_of, parts_of}
-use Rattle.cjc_convert.proofs.Limits.{small_form, keeps_limits, is_writable, methods_short}
+use Rattle.cjc_first.specs.FirstForm.{line_of, ops_of}
+use Rattle.cjc_convert.specs.Conversion.{parts_of}
+use Rattle.cjc_first.proofs.Limits.{small_form, keeps_limits, is_writable, methods_short}
 use Rattle.cjc_convert.proofs.Converting.{made_from}
 use Rattle.cjc_convert.proofs.conversion.made_for.Goals as goal
 

@@ -1,5 +1,0 @@
-use Rattle.cjc_convert.proofs.Decoding.{MethodsRead}
-use Rattle.cjc_convert.proofs.reading.decode_class.Given as goal
-
-abbrev pub invariant-loop-method : goal.invariant-loop-method
-invariant-loop-method l = MethodsRead l.number l.class l.fn.codes l.codes l.fn.foreigns l.foreigns l.method

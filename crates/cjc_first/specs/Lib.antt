@@ -1,0 +1,12 @@
+pub mod Scripts
+pub mod NameMachine
+pub mod TokenMachine
+pub mod Sentences
+pub mod FirstForm
+pub mod Above
+pub mod Selected
+pub mod Converted
+pub mod Exported
+pub mod Example
+pub mod BehaveAlike
+pub mod Tests

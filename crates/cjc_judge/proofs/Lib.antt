@@ -1,0 +1,11 @@
+pub mod Items
+pub mod Decoding
+pub mod Files
+pub mod Families
+pub mod Firsts
+pub mod Folds
+pub mod Thirds
+pub mod Packages
+pub mod Typed
+pub mod Tables
+pub mod Whole

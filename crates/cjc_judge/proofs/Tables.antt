@@ -1,0 +1,104 @@
+-- Type tables, one method after the other.
+use Rattle.std.proofs.Common.{◌≡◌, ℕ, ◌+◌, ◌<◌, ◌≤◌, List, [], ◌∷◌, ◌++◌, Option, Some, None, IfNone, length, get_or, take, refl, sym, ap, subst, ◌∙◌, ⊎_elim, arith}
+use Rattle.std.specs.Prelude.{slice_get, option_map}
+use Rattle.std.proofs.lemmas.Bool.{cases_lt}
+use Rattle.std.proofs.lemmas.List.{take_all}
+use Rattle.std.proofs.lemmas.Option.{slice_get_within}
+use Rattle.cjc_code.specs.declared.method_code.MethodCode.{MethodCode}
+use Rattle.cjc_bytes.specs.Breaks.{IsFirstOf}
+use Rattle.cjc_types.specs.declared.table.TypeTable.{TypeTable}
+use Rattle.cjc_world.specs.Files.{Files}
+use Rattle.cjc_bytes.specs.Breaks.{Break, Among}
+use Rattle.cjc_judge.specs.declared.groups.Group.{Group}
+use Rattle.cjc_judge.specs.declared.groups.Group.TheVariants as groups
+use Rattle.cjc_judge.specs.Rules.{IsFirstIn}
+use Rattle.cjc_judge.specs.Types.{IsTableOf, AreTables, AreTablesWhereNamed}
+use Rattle.cjc_judge.specs.Working.Groups.{PutsTable, LeavesTables, AreTablesBelow}
+use Rattle.cjc_bytes.proofs.Firsts.{among_left, among_right}
+use Rattle.cjc_judge.proofs.Firsts.{none_among}
+use Rattle.cjc_judge.proofs.Items.{item_at, front_more}
+
+-- ---- where nothing is broken
+
+none_was : {A B : Type 0} (f : A → B) (o : Option A) → option_map f o ≡ None → o ≡ None
+none_was f None e = refl
+none_was f (Some x) e = absurd (let g = e in cc)
+
+-- where the first of two is none, both are
+both_none : (xs ys : List Break) (o p q : Option Break) → IsFirstOf xs o → IsFirstOf ys p → IsFirstOf (xs ++ ys) q → q ≡ None → (o ≡ None) × (p ≡ None)
+both_none xs ys o p q f g joined is = by o p f g (subst (IsFirstOf (xs ++ ys)) is joined)
+  where
+    by : (o p : Option Break) → IsFirstOf xs o → IsFirstOf ys p → xs ++ ys ≡ [] → (o ≡ None) × (p ≡ None)
+    by None None f g e = (refl, refl)
+    by (Some b) p f g e = absurd (none_among b (subst (Among b) e (among_left b xs ys f.among)))
+    by None (Some b) f g e = absurd (none_among b (subst (Among b) e (among_right b xs ys g.among)))
+
+when_none : {A : Type 0} (o : Option A) (P : Type 0) → (o ≡ None → P) → IfNone o P
+when_none None P p = p refl
+when_none (Some x) P p = tt
+
+had : {A : Type 0} (o : Option A) (P : Type 0) → o ≡ None → IfNone o P → P
+had None P e p = p
+had (Some x) P e p = absurd (let f = e in cc)
+
+-- What holds of what is left where both were none holds where the first of both is.
+pub joined : {X : Type 0} (f : X → Break) (G H : Break → Type 0) (o p q : Option X) (P Q R : Type 0) → ((xs ys : List Break) → IsFirstOf xs (option_map f o) → IsFirstOf ys (option_map f p) → IsFirstOf (xs ++ ys) (option_map f q))
+    → IsFirstIn G (option_map f o) → IsFirstIn H (option_map f p) → (P → Q → R) → IfNone o P → IfNone p Q → IfNone q R
+joined f G H o p q P Q R joins (xs, _, first) (ys, _, next) go had_o had_p = when_none q R (λ e.
+    let both = both_none xs ys (option_map f o) (option_map f p) (option_map f q) first next (joins xs ys first next) (ap (option_map f) e) in
+    go (had o P (none_was f o both.0) had_o) (had p Q (none_was f p both.1) had_p))
+
+pub mapped : {A : Type 0} (o : Option A) (P Q : Type 0) → (P → Q) → IfNone o P → IfNone o Q
+mapped None P Q f p = f p
+mapped (Some x) P Q f p = tt
+
+-- ---- one method after the other
+
+put_table : (world : Files) (codes : List MethodCode) (tables : List TypeTable) (code : MethodCode) (table : TypeTable) → AreTables world codes tables → IsTableOf world code table → AreTables world (codes ++ code ∷ []) (tables ++ table ∷ [])
+put_table world [] tables code table e is = subst (λ (ts : List TypeTable). AreTables world (code ∷ []) (ts ++ table ∷ [])) (sym e) (is, refl)
+put_table world (c ∷ cs) [] code table h is = absurd h
+put_table world (c ∷ cs) (t ∷ ts) code table h is = (h.0, put_table world cs ts code table h.1 is)
+
+-- one method more
+pub more_tables : (world : Files) (codes : List MethodCode) (i : ℕ) (code : MethodCode) (old new : List TypeTable) → i < length codes → code ≡ get_or codes i code → AreTables world (take i codes) old → PutsTable world code old new → AreTables world (take (i + 1) codes) new
+more_tables world codes i code old new lt is h (table, e, here) =
+    subst (λ (ts : List TypeTable). AreTables world (take (i + 1) codes) ts) (sym e)
+    (subst (λ (cs : List MethodCode). AreTables world cs (old ++ table ∷ [])) (sym (front_more codes i code lt is)) (put_table world (take i codes) old code table h here))
+
+-- all of them
+pub all_tables : (world : Files) (codes : List MethodCode) (i : ℕ) (tables : List TypeTable) → length codes ≤ i → AreTables world (take i codes) tables → AreTables world codes tables
+all_tables world codes i tables low h = subst (λ (cs : List MethodCode). AreTables world cs tables) (take_all i codes low) h
+
+-- ---- one group after the other
+
+left : (world : Files) (codes : List MethodCode) (g : Group) (old new : List TypeTable) → LeavesTables g world codes old new → AreTables world codes old → AreTables world codes new
+left world codes groups.Unsupported old new e h = subst (AreTables world codes) (sym e) h
+left world codes groups.Language old new e h = subst (AreTables world codes) (sym e) h
+left world codes groups.Limits old new e h = subst (AreTables world codes) (sym e) h
+left world codes groups.Tokens old new e h = subst (AreTables world codes) (sym e) h
+left world codes groups.Types old new e h = e
+
+made : (world : Files) (codes : List MethodCode) (g : Group) (old new : List TypeTable) → LeavesTables g world codes old new → g ≡ groups.Types → AreTables world codes new
+made world codes g old new e is = subst (λ (g : Group). LeavesTables g world codes old new) is e
+
+same : {A : Type 0} {o : Option A} (x y : A) → o ≡ Some x → o ≡ Some y → x ≡ y
+same x y e f = let g = sym e ∙ f in cc
+
+pub no_tables : (tested : List Group) (world : Files) (codes : List MethodCode) (tables : List TypeTable) → AreTablesBelow 0 tested world codes tables
+no_tables tested world codes tables i lt at = absurd (omega (arith, lt))
+
+pub more_groups : (tested : List Group) (world : Files) (codes : List MethodCode) (k : ℕ) (g : Group) (old new : List TypeTable) → k < length tested → g ≡ get_or tested k g → AreTablesBelow k tested world codes old → LeavesTables g world codes old new → AreTablesBelow (k + 1) tested world codes new
+more_groups tested world codes k g old new lt is h e i below at = ⊎_elim
+    (λ before. left world codes g old new e (h i before at))
+    (λ not. made world codes g old new e (let here : i ≡ k = omega (arith, below, not) in same g groups.Types (item_at tested k g lt is) (ap (slice_get tested) (sym here) ∙ at)))
+    (cases_lt i k)
+
+pub all_groups : (tested : List Group) (world : Files) (codes : List MethodCode) (k : ℕ) (tables : List TypeTable) → length tested ≤ k → AreTablesBelow k tested world codes tables → AreTablesWhereNamed tested world codes tables
+all_groups tested world codes k tables low h i at = h i (let lt = slice_get_within tested i groups.Types at in omega (arith, lt, low)) at
+
+-- ---- what is answered
+
+-- where nothing is broken the answer is Ok
+pub kept : {X : Type 0} (f : X → Break) (o : Option X) (bs : List Break) (P : Type 0) → bs ≡ [] → IsFirstOf bs (option_map f o) → IfNone o P → P
+kept f None bs P e first p = p
+kept f (Some x) bs P e first p = absurd (none_among (f x) (subst (Among (f x)) e first.among))

@@ -1,0 +1,16 @@
+-- Where the methods of a package break rule 303.
+use Rattle.std.specs.Prelude.{ℕ, ◌==◌, List, [], ◌∷◌, if◌then◌else◌, Result, Ok, Err}
+use Rattle.cjc_classfile.specs.declared.tree.ClassTree.{ClassTree}
+use Rattle.cjc_code.specs.declared.decoding.Broken.{Broken}
+use Rattle.cjc_code.specs.declared.insn.JInsn.{JInsn}
+use Rattle.cjc_code.specs.PackageCodes.{of_classes}
+use Rattle.cjc_judge.specs.declared.reading.Foreign.{Foreign}
+
+-- the place of the first instruction of a method that is not converted, where 103 is not broken (rule 303)
+abbrev pub foreign_with : (class method : ℕ) → Result (List JInsn) Broken → List Foreign
+foreign_with class method (Ok insns) = []
+foreign_with class method (Err broken) = if broken.rule == 303 then record { class = class; method = method; offset = broken.offset } ∷ [] else []
+
+-- of all classes, in list order, their methods in class file order
+abbrev pub all_foreigns : List ClassTree → List Foreign
+all_foreigns trees = of_classes foreign_with 0 trees

@@ -1,0 +1,29 @@
+-- The types of the methods of a package, where they were asked for.
+use Rattle.std.specs.Prelude.{◌≡◌, ℕ, List, [], ◌∷◌, Some, slice_get}
+use Rattle.cjc_classfile.specs.Code.{CodeTree}
+use Rattle.cjc_classfile.specs.declared.tree.ClassTree.{ClassTree}
+use Rattle.cjc_classfile.specs.declared.tree.MethodTree.{MethodTree}
+use Rattle.cjc_code.specs.declared.method_code.MethodCode.{MethodCode}
+use Rattle.cjc_types.specs.Flow.{body_of}
+use Rattle.cjc_types.specs.Tables.{IsMethodOf, IsTypeTable}
+use Rattle.cjc_types.specs.declared.table.TypeTable.{TypeTable}
+use Rattle.cjc_world.specs.Classes.{all_classes}
+use Rattle.cjc_world.specs.Files.{Files}
+use Rattle.cjc_judge.specs.declared.groups.Group.{Group}
+use Rattle.cjc_judge.specs.declared.groups.Group.TheVariants as groups
+
+-- The table is the least one of the method, and no instruction that is reached breaks a rule of types.
+abbrev pub IsTableOf : Files → MethodCode → TypeTable → Type 0
+IsTableOf world code table =
+    (class : ClassTree) (method : MethodTree) (tree : CodeTree) → IsMethodOf world code class method tree
+    → IsTypeTable (all_classes world) (body_of class method tree code.insns) table
+
+-- One table a method, in the order of the codes.
+abbrev pub AreTables : Files → List MethodCode → List TypeTable → Type 0
+AreTables world [] tables = tables ≡ []
+AreTables world (code ∷ codes) [] = ⊥
+AreTables world (code ∷ codes) (table ∷ tables) = IsTableOf world code table × AreTables world codes tables
+
+-- Where types are among the groups, there are tables.
+abbrev pub AreTablesWhereNamed : List Group → Files → List MethodCode → List TypeTable → Type 0
+AreTablesWhereNamed tested world codes tables = (i : ℕ) → slice_get tested i ≡ Some groups.Types → AreTables world codes tables

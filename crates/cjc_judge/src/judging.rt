@@ -1,0 +1,240 @@
+//! The groups of rules that are tested over the world of a package, behind those of names: what the language of the card
+//! leaves out, limits, tokens, and types. Called by judged.rt.
+
+ghost use Rattle.std.specs.Prelude.{◌≡◌, ◌≤◌, All, IfOk, IfErr, IfNone, OnOk, [], List as Items, length, nat_lt, option_map};
+ghost use Rattle.cjc_bytes.specs.Told.{break_of};
+ghost use Rattle.cjc_bytes.specs.Breaks.{Among, IsFirstOf, Break as Broken};
+ghost use Rattle.cjc_types.specs.Tables.{IsOfPackage};
+ghost use Rattle.cjc_tokens.specs.Rules.{tested_breaks};
+ghost use Rattle.cjc_judge.specs.Rules.{foreign_break, foreign_breaks, settings_of, BreaksType, BreaksAnyType, IsFirstIn, IsFirstFault, IsOfThirdHundred};
+ghost use Rattle.cjc_judge.specs.Types.{AreTables, AreTablesWhereNamed};
+ghost use Rattle.cjc_judge.specs.Working.Groups.{WorldBreaks, WorldBreaksAny, PutsTable, LeavesTables};
+
+use crate::groups::Group;
+use crate::reading::Foreign;
+use cjc_bytes::{AppletLine, Break, Bytes, Fault, NoMemory, Row, Settings, answer, file_of, first};
+use cjc_code::{Codes, MethodCode};
+use cjc_list::List;
+use cjc_subset::{class_spot, first_broken, method_spot};
+use cjc_tokens::first_high;
+use cjc_types::{TypeTable, infer};
+use cjc_world::World;
+use std::alloc::Global;
+
+// The applet lines of a list, in memory of their own.
+fn applets_of(alloc: Global, list: &List) -> Result<Row<AppletLine>, NoMemory>
+    ensures { IfOk result (λ applets. applets ≡ list.now.applets) }
+{
+    let mut applets = Row::new(alloc);
+    for applet in list.applets.items() {
+        applets.push(AppletLine {
+            class: Bytes::copy_of(alloc, applet.class.items())?,
+            aid: Bytes::copy_of(alloc, applet.aid.items())?,
+        })?;
+    }
+    Ok(applets)
+}
+
+// What a list settles for all classes, in memory of its own.
+fn settings(alloc: Global, list: &List) -> Result<Settings, NoMemory>
+    ensures { IfOk result (λ s. s ≡ settings_of list.now) }
+{
+    let applets = applets_of(alloc, list)?;
+    Ok(Settings {
+        ints: list.ints,
+        applets,
+    })
+}
+
+// Rule 303 in a method that breaks it.
+#[tactic(auto, unfolding(crate::specs::Rules::foreign_break))]
+fn foreign_break<'w>(world: &'w World<'_>, foreign: &Foreign) -> Option<Break<'w>>
+    ensures { IsFirstOf (foreign_break world.now foreign.now) (option_map break_of result) }
+{
+    let class = world.classes().items().get(foreign.class as usize)?;
+    let place = foreign.method as usize;
+    let method = class.methods.items().get(place)?;
+    let file = file_of(world.lines().items(), foreign.class as usize);
+    let spot = class_spot(file, class);
+    Some(Break {
+        rule: 303,
+        spot: method_spot(spot, class, place, method, foreign.offset),
+    })
+}
+
+// The first of the methods that break rule 303.
+#[tactic(auto, unfolding(crate::specs::Rules::foreign_breaks))]
+fn foreigns_break<'w>(world: &'w World<'_>, foreigns: &[Foreign]) -> Option<Break<'w>>
+    ensures { IsFirstOf (foreign_breaks world.now foreigns.now) (option_map break_of result) }
+{
+    let mut least = None;
+    for foreign in foreigns {
+        least = first(least, foreign_break(world, foreign));
+    }
+    least
+}
+
+// Rule 413 in the first class that breaks it.
+fn tokens_break<'w>(
+    alloc: Global,
+    world: &'w World<'_>,
+    settings: &Settings,
+) -> Result<Option<Break<'w>>, NoMemory>
+    ensures { IfOk result (λ b. IsFirstOf (tested_breaks (nat_lt 0 (length settings.now.applets)) world.now) (option_map break_of b)) }
+{
+    match first_high(alloc, world, settings)? {
+        None => Ok(None),
+        Some(number) => {
+            let class = &world.classes().items()[number as usize];
+            let file = file_of(world.lines().items(), number as usize);
+            Ok(Some(Break {
+                rule: 413,
+                spot: class_spot(file, class),
+            }))
+        }
+    }
+}
+
+// What of 501 to 503 a method breaks. Where it breaks none its types are put behind those that there are.
+fn type_break<'w>(
+    alloc: Global,
+    world: &'w World<'_>,
+    code: &MethodCode,
+    types: &mut Row<TypeTable>,
+) -> Result<Option<Break<'w>>, NoMemory>
+    requires { IsOfPackage world.now code.now }
+    ensures first { IfOk result (λ b. IsFirstIn (BreaksType world.now code.now) (option_map break_of b)) }
+    ensures types { IfOk result (λ b. IfNone b (PutsTable world.now code.now types.old types.new)) }
+{
+    let class = &world.classes().items()[code.class as usize];
+    let place = code.method as usize;
+    let method = &class.methods.items()[place];
+    let file = file_of(world.lines().items(), code.class as usize);
+    match infer(alloc, file.name, world, code) {
+        Ok(table) => {
+            types.push(table)?;
+            Ok(None)
+        }
+        Err(Fault::Refused(refusal)) => {
+            let spot = class_spot(file, class);
+            Ok(Some(Break {
+                rule: refusal.rule.0,
+                spot: method_spot(spot, class, place, method, refusal.place.offset),
+            }))
+        }
+        Err(Fault::NoMemory) => Err(NoMemory),
+    }
+}
+
+// The first of the methods that break one of 501 to 503. Where none does these are the types of all.
+fn types_break<'w>(
+    alloc: Global,
+    world: &'w World<'_>,
+    codes: &[MethodCode],
+    types: &mut Row<TypeTable>,
+) -> Result<Option<Break<'w>>, NoMemory>
+    requires codes { All (IsOfPackage world.now) codes.now }
+    requires types { types.old ≡ [] }
+    ensures first { IfOk result (λ b. IsFirstIn (BreaksAnyType world.now codes.now) (option_map break_of b)) }
+    ensures types { IfOk result (λ b. IfNone b (AreTables world.now codes.now types.new)) }
+{
+    let mut least = None;
+    for code in codes {
+        let broken = type_break(alloc, world, code, types)?;
+        least = first(least, broken);
+    }
+    Ok(least)
+}
+
+// Of the first that is broken of 301 to 310 and 401 to 409, what is of the third hundred.
+fn of_third_hundred<'w>(broken: Option<Break<'w>>) -> Option<Break<'w>>
+    ensures { (bs : Items Broken) → IsFirstOf bs (option_map break_of broken.entry) → ((b : Broken) → Among b bs → 3 ≤ b.rank.family) → IsFirstIn (λ b. Among b bs × IsOfThirdHundred b) (option_map break_of result) }
+{
+    match broken {
+        Some(found) => {
+            if found.rule / 100 == 3 {
+                Some(found)
+            } else {
+                None
+            }
+        }
+        None => None,
+    }
+}
+
+// What of a group is broken first.
+fn group_break<'w>(
+    alloc: Global,
+    list: &'w List,
+    world: &'w World<'_>,
+    codes: &Codes,
+    foreigns: &[Foreign],
+    settings: &Settings,
+    group: Group,
+    types: &mut Row<TypeTable>,
+) -> Result<Option<Break<'w>>, NoMemory>
+    requires codes { All (IsOfPackage world.now) codes.now }
+    requires settings { settings.now ≡ settings_of list.now }
+    ensures first { IfOk result (λ b. IsFirstIn (WorldBreaks list.now world.now codes.now foreigns.now group) (option_map break_of b)) }
+    ensures types { IfOk result (λ b. IfNone b (LeavesTables group world.now codes.now types.old types.new)) }
+{
+    match group {
+        Group::Unsupported => Ok(foreigns_break(world, foreigns)),
+        Group::Language => {
+            let broken = first_broken(alloc, list.name.items(), world, codes, settings)?;
+            Ok(of_third_hundred(broken))
+        }
+        Group::Limits => first_broken(alloc, list.name.items(), world, codes, settings),
+        Group::Tokens => tokens_break(alloc, world, settings),
+        Group::Types => {
+            *types = Row::new(alloc);
+            types_break(alloc, world, codes.items(), types)
+        }
+    }
+}
+
+// What of some groups is broken first. Where nothing is, and types are among the groups, these are the types of all methods.
+fn groups_break<'w>(
+    alloc: Global,
+    list: &'w List,
+    world: &'w World<'_>,
+    codes: &Codes,
+    foreigns: &[Foreign],
+    groups: &[Group],
+    types: &mut Row<TypeTable>,
+) -> Result<Option<Break<'w>>, NoMemory>
+    requires { All (IsOfPackage world.now) codes.now }
+    ensures types { IfOk result (λ b. IfNone b (AreTablesWhereNamed groups.now world.now codes.now types.new)) }
+    ensures first { IfOk result (λ b. IsFirstIn (WorldBreaksAny list.now world.now codes.now foreigns.now groups.now) (option_map break_of b)) }
+{
+    let settings = settings(alloc, list)?;
+    let mut least = None;
+    for group in groups {
+        let broken = group_break(
+            alloc, list, world, codes, foreigns, &settings, *group, types,
+        )?;
+        least = first(least, broken);
+    }
+    Ok(least)
+}
+
+/// Tests a world, whose methods have these codes and break 303 at these places, for groups of rules. A refusal is the first of
+/// what is broken; else these are the types of all methods, where types are among the groups.
+pub(crate) fn test(
+    alloc: Global,
+    list: &List,
+    world: &World<'_>,
+    codes: &Codes,
+    foreigns: &[Foreign],
+    groups: &[Group],
+) -> Result<Row<TypeTable>, Fault>
+    requires { All (IsOfPackage world.now) codes.now }
+    ensures types { IfOk result (AreTablesWhereNamed groups.now world.now codes.now) }
+    ensures unbroken { OnOk result ((b : Broken) → WorldBreaksAny list.now world.now codes.now foreigns.now groups.now b → ⊥) }
+    ensures refused { IfErr result (IsFirstFault (WorldBreaksAny list.now world.now codes.now foreigns.now groups.now)) }
+{
+    let mut types = Row::new(alloc);
+    let broken = groups_break(alloc, list, world, codes, foreigns, groups, &mut types)?;
+    answer(alloc, broken)?;
+    Ok(types)
+}

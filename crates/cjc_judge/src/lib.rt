@@ -1,0 +1,11 @@
+//! What the files of a list spell, and the first rule that they break, in the order of refusals. Called by every command that
+//! starts from class files; it knows nothing of what is written or run.
+#![tactic(auto)]
+
+mod groups;
+mod judged;
+mod judging;
+mod reading;
+
+pub use groups::Group;
+pub use judged::{Judged, judge};
