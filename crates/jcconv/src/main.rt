@@ -1,21 +1,15 @@
-//! The converter: reads a list and the files that it names, and writes the components of one package.
+//! The program: it hands the words, the system's files and its output to `run`, puts the line that says how the
+//! run ended to standard error, and ends with its status. It knows no command.
 #![tactic(auto)]
-
-mod command;
-mod converting;
-#[cfg(test)]
-mod tests;
-mod text;
-mod top;
 
 use cjc_bytes::{Bytes, Row};
 use cjc_command::Status;
+use cjc_run::{run, status_line};
 use cjc_shelf::{DiskShelf, StdSink};
 use std::alloc::Global;
 use std::process::ExitCode;
 use std::rt::Env;
 use std::{env, io};
-pub use top::run;
 
 // The words after the program's name. Where they are no text, the answer is that for wrong words.
 fn words<R: Env + AllocGlobal>(rt: &R) -> Result<Row<Bytes>, Status> {
@@ -43,6 +37,6 @@ fn main(rt: HostRuntime) -> ExitCode {
         Err(end) => end,
     };
     let mut errors = StdSink::new(rt.stderr());
-    let _ = text::status_line(&status, &mut errors);
+    let _ = status_line(&status, &mut errors);
     ExitCode::from(status.code())
 }

@@ -1,0 +1,4 @@
+pub mod Listing
+pub mod Standing
+pub mod OwnTokens
+pub mod Promising

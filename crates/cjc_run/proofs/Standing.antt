@@ -1,0 +1,78 @@
+-- Files of a conversion stand in its folder.
+use Rattle.std.proofs.Common.{◌≡◌, ℕ, Bool, true, false, List, [], ◌∷◌, ◌++◌, map, Option, Some, None, codes, nat_eq, reverse, rules, refl, sym, ap, ◌∙◌, arith}
+use Rattle.std.specs.Prelude.{bytes_eq}
+use Rattle.std.proofs.lemmas.List.{reverse-append}
+use Rattle.cjc_shelf.specs.Shelf.{Files}
+use Rattle.cjc_command.specs.declared.status.File.{File}
+use Rattle.cjc_command.specs.Publish.{written_files, IsNew, AreDistinct, Stand}
+use Rattle.cjc_command.proofs.Published.{written_stand}
+use Rattle.cjc_convert.specs.declared.conversion.Converted.{Converted}
+use Rattle.cjc_run.specs.Convert.{named, below, last_part, files_made}
+
+-- ---- names
+
+same_number : (c : ℕ) → nat_eq c c ≡ true
+same_number c = search rules
+
+-- a common beginning makes no difference
+behind_same : (front a b : List ℕ) → bytes_eq (front ++ a) (front ++ b) ≡ bytes_eq a b
+behind_same [] a b = refl
+behind_same (c ∷ front) a b = rw (same_number c) (behind_same front a b)
+
+equal_names : (a b : List ℕ) → bytes_eq a b ≡ true → a ≡ b
+equal_names a b e = search rules
+
+new_below : (dir name : List ℕ) (files : List File) → IsNew name files → IsNew (dir ++ codes "/" ++ name) (map (below dir) files)
+new_below dir name [] n = tt
+new_below dir name (file ∷ files) n = (behind_same (dir ++ codes "/") name file.name ∙ n.0, new_below dir name files n.1)
+
+distinct_below : (dir : List ℕ) (files : List File) → AreDistinct files → AreDistinct (map (below dir) files)
+distinct_below dir [] d = tt
+distinct_below dir (file ∷ files) d = (new_below dir file.name files d.0, distinct_below dir files d.1)
+
+-- ---- the files of a conversion
+
+second : List ℕ → ℕ
+second (a ∷ b ∷ rest) = b
+second (a ∷ []) = 0
+second [] = 0
+
+-- a component's name and an export file's differ in the letter before the last
+not_export : (front last : List ℕ) → front ++ codes ".cap" ≡ last ++ codes ".exp" → ⊥
+unfolding second
+not_export front last e =
+    let back = sym (reverse-append front (codes ".cap")) ∙ ap reverse e ∙ reverse-append last (codes ".exp") in
+    let letters : ◌≡◌ {A = ℕ} 97 120 = ap second back in
+    absurd (omega arith)
+
+is_false : (b : Bool) → (b ≡ true → ⊥) → b ≡ false
+is_false true f = absurd (f refl)
+is_false false f = refl
+
+apart : (front last : List ℕ) → bytes_eq (front ++ codes ".cap") (last ++ codes ".exp") ≡ false
+apart front last = is_false _ (λ e. not_export front last (equal_names _ _ e))
+
+abbrev made_of : (h d i p c m s l x export : List ℕ) (applet exported : Option (List ℕ)) → Converted
+made_of h d i p c m s l x export applet exported = record {
+  caps = record { header = h; directory = d; applet = applet; import = i; pool = p; class = c; method = m; statics = s; locations = l; export = exported; descriptor = x };
+  export = export;
+}
+
+-- no two files of a conversion have one name
+distinct_made : (name h d i p c m s l x export : List ℕ) (applet exported : Option (List ℕ)) → AreDistinct (files_made name (made_of h d i p c m s l x export applet exported))
+distinct_made name h d i p c m s l x export None None =
+    ((refl, (refl, (refl, (refl, (refl, (refl, (refl, (refl, (apart (codes "Header") (last_part name), tt))))))))), ((refl, (refl, (refl, (refl, (refl, (refl, (refl, (apart (codes "Directory") (last_part name), tt)))))))), ((refl, (refl, (refl, (refl, (refl, (refl, (apart (codes "Import") (last_part name), tt))))))), ((refl, (refl, (refl, (refl, (refl, (apart (codes "ConstantPool") (last_part name), tt)))))), ((refl, (refl, (refl, (refl, (apart (codes "Class") (last_part name), tt))))), ((refl, (refl, (refl, (apart (codes "Method") (last_part name), tt)))), ((refl, (refl, (apart (codes "StaticField") (last_part name), tt))), ((refl, (apart (codes "RefLocation") (last_part name), tt)), ((apart (codes "Descriptor") (last_part name), tt), (tt, tt))))))))))
+distinct_made name h d i p c m s l x export None (Some e) =
+    ((refl, (refl, (refl, (refl, (refl, (refl, (refl, (refl, (refl, (apart (codes "Header") (last_part name), tt)))))))))), ((refl, (refl, (refl, (refl, (refl, (refl, (refl, (refl, (apart (codes "Directory") (last_part name), tt))))))))), ((refl, (refl, (refl, (refl, (refl, (refl, (refl, (apart (codes "Import") (last_part name), tt)))))))), ((refl, (refl, (refl, (refl, (refl, (refl, (apart (codes "ConstantPool") (last_part name), tt))))))), ((refl, (refl, (refl, (refl, (refl, (apart (codes "Class") (last_part name), tt)))))), ((refl, (refl, (refl, (refl, (apart (codes "Method") (last_part name), tt))))), ((refl, (refl, (refl, (apart (codes "StaticField") (last_part name), tt)))), ((refl, (refl, (apart (codes "RefLocation") (last_part name), tt))), ((refl, (apart (codes "Export") (last_part name), tt)), ((apart (codes "Descriptor") (last_part name), tt), (tt, tt)))))))))))
+distinct_made name h d i p c m s l x export (Some a) None =
+    ((refl, (refl, (refl, (refl, (refl, (refl, (refl, (refl, (refl, (apart (codes "Header") (last_part name), tt)))))))))), ((refl, (refl, (refl, (refl, (refl, (refl, (refl, (refl, (apart (codes "Directory") (last_part name), tt))))))))), ((refl, (refl, (refl, (refl, (refl, (refl, (refl, (apart (codes "Applet") (last_part name), tt)))))))), ((refl, (refl, (refl, (refl, (refl, (refl, (apart (codes "Import") (last_part name), tt))))))), ((refl, (refl, (refl, (refl, (refl, (apart (codes "ConstantPool") (last_part name), tt)))))), ((refl, (refl, (refl, (refl, (apart (codes "Class") (last_part name), tt))))), ((refl, (refl, (refl, (apart (codes "Method") (last_part name), tt)))), ((refl, (refl, (apart (codes "StaticField") (last_part name), tt))), ((refl, (apart (codes "RefLocation") (last_part name), tt)), ((apart (codes "Descriptor") (last_part name), tt), (tt, tt)))))))))))
+distinct_made name h d i p c m s l x export (Some a) (Some e) =
+    ((refl, (refl, (refl, (refl, (refl, (refl, (refl, (refl, (refl, (refl, (apart (codes "Header") (last_part name), tt))))))))))), ((refl, (refl, (refl, (refl, (refl, (refl, (refl, (refl, (refl, (apart (codes "Directory") (last_part name), tt)))))))))), ((refl, (refl, (refl, (refl, (refl, (refl, (refl, (refl, (apart (codes "Applet") (last_part name), tt))))))))), ((refl, (refl, (refl, (refl, (refl, (refl, (refl, (apart (codes "Import") (last_part name), tt)))))))), ((refl, (refl, (refl, (refl, (refl, (refl, (apart (codes "ConstantPool") (last_part name), tt))))))), ((refl, (refl, (refl, (refl, (refl, (apart (codes "Class") (last_part name), tt)))))), ((refl, (refl, (refl, (refl, (apart (codes "Method") (last_part name), tt))))), ((refl, (refl, (refl, (apart (codes "StaticField") (last_part name), tt)))), ((refl, (refl, (apart (codes "RefLocation") (last_part name), tt))), ((refl, (apart (codes "Export") (last_part name), tt)), ((apart (codes "Descriptor") (last_part name), tt), (tt, tt))))))))))))
+
+-- all files stand in the folder
+pub stand_made : (dir name : List ℕ) (files : Files) (made : Converted)
+    → Stand (written_files (map (below dir) (files_made name made)) files) (map (below dir) (files_made name made))
+stand_made dir name files made =
+    written_stand (map (below dir) (files_made name made)) files (distinct_below dir (files_made name made)
+    (distinct_made name made.caps.header made.caps.directory made.caps.import made.caps.pool made.caps.class made.caps.method made.caps.statics made.caps.locations
+    made.caps.descriptor made.export made.caps.applet made.caps.export))

@@ -1,0 +1,67 @@
+-- What a command that is done promises of the files before and after it.
+use Rattle.std.specs.Prelude.{◌≡◌, Bool, true, false, ℕ, List, [], ◌∷◌, map, Option, Some, IfSome, IsSomeAnd}
+use Rattle.std.specs.FinMap.{get}
+use Rattle.cjc_bytes.specs.Format.{FileSpells}
+use Rattle.cjc_bytes.specs.declared.settings.FileLine.{FileLine}
+use Rattle.cjc_shelf.specs.Shelf.{Files, Shelved}
+use Rattle.cjc_shelf.specs.Sink.{Sunk}
+use Rattle.cjc_command.specs.Publish.{Stand}
+use Rattle.cjc_list.specs.Listed.{ListTree}
+use Rattle.cjc_list.specs.Spelling.{IsSpelt as IsListSpelt}
+use Rattle.cjc_classfile.specs.ClassFile.{class_file}
+use Rattle.cjc_classfile.specs.declared.tree.ClassTree.{ClassTree}
+use Rattle.cjc_export.specs.declared.tree.ExportTree.{ExportTree}
+use Rattle.cjc_export.specs.ExportFile.{export_file}
+use Rattle.cjc_export.specs.Tokens.{HaveOwnTokens}
+use Rattle.cjc_capread.specs.declared.tree.CapTree.{CapTree}
+use Rattle.cjc_capwrite.specs.Writable.{IsSpelt}
+use Rattle.cjc_first.specs.Sentences.Consistent.{Consistent}
+use Rattle.cjc_convert.specs.declared.conversion.Converted.{Converted}
+use Rattle.cjc_first.specs.BehaveAlike.{BehaveAlike}
+use Rattle.cjc_run.specs.Convert.{files_made, below}
+use Rattle.cjc_run.specs.Request.{Request, convert}
+
+abbrev pub SpellStep : Bool → Option (List ℕ) → (List ClassTree → Type 0) → List ClassTree → Type 0
+SpellStep true file rest [] = ⊥
+SpellStep true file rest (tree ∷ trees) = IsSomeAnd file (λ bytes. FileSpells class_file tree bytes) × rest trees
+SpellStep false file rest trees = rest trees
+
+-- The class files that the lines name spell these classes, in order. Export files are passed by.
+abbrev pub SpellClasses : Files → List FileLine → List ClassTree → Type 0
+SpellClasses files [] trees = trees ≡ []
+SpellClasses files (line ∷ lines) trees = SpellStep line.class_file (get files line.name) (SpellClasses files lines) trees
+
+abbrev pub ExportStep : Bool → Option (List ℕ) → (List ExportTree → Type 0) → List ExportTree → Type 0
+ExportStep true file rest trees = rest trees
+ExportStep false file rest [] = ⊥
+ExportStep false file rest (tree ∷ trees) = IsSomeAnd file (λ bytes. FileSpells export_file tree bytes) × rest trees
+
+-- The export files that the lines name spell these export trees, in order. Class files are passed by.
+abbrev pub SpellExports : Files → List FileLine → List ExportTree → Type 0
+SpellExports files [] trees = trees ≡ []
+SpellExports files (line ∷ lines) trees = ExportStep line.class_file (get files line.name) (SpellExports files lines) trees
+
+-- The class files that the list of this name names before, and the components that stand in the folder after, behave
+-- alike for every script, where both machines go by the export files that the list names. The components are
+-- consistent with these export files.
+pub record Converts (name dir : List ℕ) (before after : Files) : Type 0 where
+  pub text : List ℕ
+  pub list : ListTree
+  pub classes : List ClassTree
+  pub made : Converted
+  pub cap : CapTree
+  pub text_is : get before name ≡ Some text
+  pub list_is : IsListSpelt name list text
+  pub class_files : SpellClasses before list.lines classes
+  pub exports : List ExportTree
+  pub export_files : SpellExports before list.lines exports
+  pub stand : Stand after (map (below dir) (files_made list.package made))
+  pub spelt : IsSpelt cap made.caps
+  pub alike : (exports : List ExportTree) → SpellExports before list.lines exports → BehaveAlike classes exports cap
+  pub consistent : (exports : List ExportTree) → SpellExports before list.lines exports → Consistent cap exports
+  -- They do so by other export files too, as long as in each of them the classes have tokens of their own.
+  pub alike_beyond : (exports : List ExportTree) → HaveOwnTokens exports → BehaveAlike classes exports cap
+
+-- what the request that is done promises of the shelf and the sink before and after
+abbrev pub Promised : Request → Shelved → Shelved → Sunk → Sunk → Type 0
+Promised (convert name dir) old new from to = IfSome old.files (λ before. IsSomeAnd new.files (Converts name dir before))

@@ -1,0 +1,27 @@
+//! The forms of the words, and the command that each asks for. `run` calls it. It knows no file.
+
+ghost use Rattle.std.specs.Prelude.{◌≡◌, option_map};
+ghost use Rattle.cjc_run.specs.Request.{request};
+ghost use Rattle.cjc_run.specs.Asked.{asked};
+
+use cjc_bytes::Bytes;
+
+/// What is asked for: `convert LIST DIR`, the only form so far.
+#[derive(Clone, Copy)]
+pub(crate) struct Asked<'a> {
+    pub(crate) list: &'a [u8],
+    pub(crate) dir: &'a [u8],
+}
+
+/// What the words ask for, where they are of a form.
+pub(crate) fn asked_by(words: &[Bytes]) -> Option<Asked<'_>>
+    ensures { option_map asked result ≡ request words.now }
+{
+    match words {
+        [verb, list, dir] if verb.items() == b"convert".as_slice() => Some(Asked {
+            list: list.items(),
+            dir: dir.items(),
+        }),
+        _ => None,
+    }
+}

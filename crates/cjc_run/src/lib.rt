@@ -1,0 +1,12 @@
+//! All that the program does, over any shelf and any sink: the words into a command, its reads, what it writes
+//! and prints, and the line that says how it ended. The program and the tests of whole runs call it. It knows
+//! no system: where files are kept and text goes, its caller says.
+#![tactic(auto)]
+
+mod command;
+mod converting;
+mod text;
+mod top;
+
+pub use text::{line, status_line};
+pub use top::run;

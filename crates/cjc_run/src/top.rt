@@ -1,0 +1,68 @@
+//! What the program does, whole: the words into a command, its reads, and then what is written and printed. Only
+//! `gather` knows one command from another.
+
+ghost use Rattle.std.specs.Prelude.{◌≡◌, ◌↔◌, None, IfSome};
+ghost use Rattle.cjc_command.specs.Gather.{Gathers};
+ghost use Rattle.cjc_command.specs.Publish.{Quiet};
+ghost use Rattle.cjc_command.specs.Answer.{Acts, Answers, Cause, IsDecided, IsComplete};
+ghost use Rattle.cjc_run.specs.Request.{request};
+ghost use Rattle.cjc_run.specs.Asked.{asked};
+ghost use Rattle.cjc_run.specs.Command.{command_of};
+ghost use Rattle.cjc_run.specs.Promise.{Promised};
+
+use crate::command::{Asked, asked_by};
+use crate::converting::gather_convert;
+use cjc_bytes::Bytes;
+use cjc_command::{Status, Todo, publish};
+use cjc_shelf::{Shelf, Sink};
+use std::alloc::Global;
+
+// Reads and computes what a command writes and prints. Nothing is written here.
+fn gather<S: Shelf>(alloc: Global, command: Asked<'_>, shelf: &mut S) -> Result<Todo, Status>
+    ensures { Gathers (command_of (asked command.entry)).plan (command_of (asked command.entry)).Makes (S.shelved shelf.old) (S.shelved shelf.new) result }
+{
+    gather_convert(alloc, command.list, command.dir, shelf)
+}
+
+fn act<S: Shelf, O: Sink>(alloc: Global, command: Asked<'_>, shelf: &mut S, out: &mut O) -> Status
+    ensures { Acts (command_of (asked command.entry)) (S.shelved shelf.old) (S.shelved shelf.new) (O.sunk out.old) (O.sunk out.new) result }
+{
+    match gather(alloc, command, shelf) {
+        Ok(todo) => publish(shelf, out, todo),
+        Err(end) => end,
+    }
+}
+
+/// Does what the words after the program's name ask for.
+///
+/// # Errors
+///
+/// The status says how the run ended: all done, wrong words, a broken rule with its place, a file that is
+/// absent or too long, a fault of the shelf or of the output, or want of memory.
+pub fn run<S: Shelf, O: Sink>(alloc: Global, words: &[Bytes], shelf: &mut S, out: &mut O) -> Status
+    // Usage exactly where the words are of no form, and then nothing is read or printed.
+    ensures usage { (result ≡ Status.Usage) ↔ (request words.now ≡ None) }
+    ensures untouched { result ≡ Status.Usage → (S.shelved shelf.new ≡ S.shelved shelf.old) × (O.sunk out.new ≡ O.sunk out.old) }
+
+    // Over each shelf and each sink.
+    ensures cause { Cause (S.shelved shelf.old) (S.shelved shelf.new) (O.sunk out.old) (O.sunk out.new) result }
+    ensures quiet { Quiet (O.sunk out.old) (O.sunk out.new) result }
+
+    // What each answer says of what was read, made, written and printed: by the told files, or else by some answers to the reads.
+    ensures answers { IfSome (request words.now) (λ asked. Answers (command_of asked) (S.shelved shelf.old) (S.shelved shelf.new) (O.sunk out.old) (O.sunk out.new) result) }
+
+    // Where no fault count rises, and files are told or none is read, words and files decide the answer, want of memory aside.
+    ensures decided { IfSome (request words.now) (λ asked. IsDecided (command_of asked) (S.shelved shelf.old) (S.shelved shelf.new) (O.sunk out.old) (O.sunk out.new) result) }
+
+    // Where moreover all files are read and no rule is broken, all is done.
+    ensures complete { IfSome (request words.now) (λ asked. IsComplete (command_of asked) (S.shelved shelf.old) (S.shelved shelf.new) (O.sunk out.old) (O.sunk out.new) result) }
+
+    // What was asked for is done as promised: the class files before and the components after behave alike, and
+    // the components are consistent.
+    ensures alike { result ≡ Status.Done → IfSome (request words.now) (λ asked. Promised asked (S.shelved shelf.old) (S.shelved shelf.new) (O.sunk out.old) (O.sunk out.new)) }
+{
+    match asked_by(words) {
+        None => Status::Usage,
+        Some(command) => act(alloc, command, shelf, out),
+    }
+}
