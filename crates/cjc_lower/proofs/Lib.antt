@@ -1,0 +1,12 @@
+pub mod Distances
+pub mod Operations
+pub mod Search
+pub mod Places
+pub mod Bytes
+pub mod Fetching
+pub mod Catching
+pub mod Beginning
+pub mod Packed
+pub mod Agreeing
+pub mod ByCode
+pub mod Running

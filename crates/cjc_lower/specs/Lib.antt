@@ -1,0 +1,9 @@
+pub mod Naming
+pub mod Laid
+pub mod Handlers
+pub mod Placed
+pub mod Package
+pub mod ByPlace
+pub mod Agreement
+pub mod Worked
+pub mod Opcodes

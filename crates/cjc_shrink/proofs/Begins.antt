@@ -1,0 +1,161 @@
+-- A call begins alike on both sides.
+use Rattle.std.proofs.Common.{◌≡◌, ℕ, suc, ◌+◌, ◌-◌, refl, sym, ap, subst, ◌∙◌, arith, Bool, true, false, List, [], ◌∷◌, ◌++◌, length, take, drop, reverse, replicate}
+use Rattle.std.specs.Prelude.{Option, Some, None, map, nat_le, slice_get, if◌then◌else◌}
+use Rattle.std.proofs.lemmas.Bool.Decides.{nat_tests}
+use Rattle.cjc_bytes.specs.declared.fault.MemberId.{MemberId}
+use Rattle.cjc_script.specs.declared.value.Value.{Value}
+use Rattle.cjc_script.specs.declared.value.Value.TheVariants.{Null, Obj}
+use Rattle.cjc_script.specs.declared.report.Thing.{Thing}
+use Rattle.cjc_script.specs.Sorts.{Shape, Sort, shape_name}
+use Rattle.cjc_bytecode.specs.Runs.{Move, On}
+use Rattle.cjc_bytecode.specs.Effects.{Invoke, HeapObject, Numbers, References, Object, shape}
+use Rattle.cjc_bytecode.specs.Renaming.{option_as}
+use Rattle.cjc_bytecode.specs.Machine.{Start, Reached, Within, Next, StuckAt}
+use Rattle.cjc_bytecode.specs.Machine as narrow
+use Rattle.cjc_bytecode.proofs.Natural.{get_map}
+use Rattle.cjc_ncode.specs.declared.narrow.NMethod.{NMethod}
+use Rattle.cjc_ncode.specs.ByLabel.{Callee, Named, on_object, by_label}
+use Rattle.cjc_by_name.specs.Linked.{Method, Inside, OnClass, OnObject, Linked}
+use Rattle.cjc_by_name.specs.Linked
+use Rattle.cjc_by_name.specs.Effects.{NullPointer, type_of}
+use Rattle.cjc_by_name.specs.Effects as effects
+use Rattle.cjc_by_name.specs.Machine.{Frame, State, with_frames, frame_for_call, heap_of, holder_of, offset, stuck_at, at_callee, at_selected, on_receiver, with_types, after_lookup, after_effect}
+use Rattle.cjc_shrink.specs.Relation.{OnBoth, a_reference as both_reference, Kind, Refers, Heap, Agrees, null, object, Stacks, bottom, cell, Locals, shown, Stores}
+use Rattle.cjc_shrink.specs.Calls.{NFrame, NState, NTurn, Frames, first_locals, CallAgrees, begins, fails, IsNarrowed, IsStaticCall, Selects, IsObjectCall}
+use Rattle.cjc_shrink.proofs.Passed.{passed_plain, passed_length, args_agree, below_agree, enough_words, of_sorts, first, both_long, filled, receiver_first, receiver_off, receiver_below}
+
+-- an array or object has one type on both sides
+pub type_shown : (l : Named) (thing : HeapObject (List ℕ) MemberId) → type_of (shown l thing) ≡ shape_name (shape thing)
+unfolding by_label
+type_shown l (Numbers element items) = refl
+type_shown l (References class items) = refl
+type_shown l (Object class slots) = refl
+
+-- what is there on one heap is there on the other
+pub thing_shown : (l : Named) (heap : Heap) {things : List Thing} (k : ℕ) (thing : HeapObject (List ℕ) MemberId) → things ≡ map (shown l) heap → slice_get heap k ≡ Some thing → slice_get things k ≡ Some (shown l thing)
+thing_shown l heap k thing same is = ap (λ h. slice_get h k) same ∙ get_map (shown l) heap k ∙ ap (option_as (shown l)) is
+
+module _ (by : Linked) (l : Named) (narrowed : Method → Start NMethod) (params ks : List Kind) (next : ℕ) (f : Frame) (outer : List Frame) (s : State) (g : NFrame) (others : List NFrame) (t : NState) (plain : OnBoth params) where
+  abbrev heap : Heap
+  heap = let m = t.memory in m.heap
+
+  abbrev Meets : Move State → NTurn → Type 0
+  Meets = CallAgrees by l narrowed params ks next f outer s g others t
+
+  -- the frames that begin
+  entered_agree : {callee : Method} {args words : List Value} → IsNarrowed narrowed (length params) callee → Stacks (let m = t.memory in m.heap) params args words → Frames (let m = t.memory in m.heap) [] (first_locals callee params) (frame_for_call callee args) (narrow.entered (narrowed callee) words)
+  entered_agree {callee = callee} {args = args} {words = words} is passed =
+      let long = both_long plain passed in
+      let further = callee.max_locals - length params in
+      let whole = (let n = narrowed callee in n.nargs + n.max_locals) in
+      let e = is.nargs in let h = is.max_locals in let k = long.1 in
+      let size : whole ≡ length words + further = omega arith in
+      let narrow_ones : narrow.locals_of (let n = narrowed callee in n.nargs) (let n = narrowed callee in n.max_locals) words ≡ map (λ v. Some v) words ++ replicate further None =
+      ap (λ n. take n (map (λ v. Some v) words ++ replicate whole None)) size ∙ filled words further whole (omega arith) in
+      let named_ones : map (λ v. Some v) args ++ replicate (callee.max_locals - length args) None ≡ map (λ v. Some v) args ++ replicate further None =
+      ap (λ n. map (λ v. Some v) args ++ replicate (callee.max_locals - n) None) long.0 in
+      record {
+        stack = bottom;
+        locals = subst (λ x. Locals heap (first_locals callee params) x (narrow.locals_of (let n = narrowed callee in n.nargs) (let n = narrowed callee in n.max_locals) words)) (sym named_ones)
+            (subst (Locals heap (first_locals callee params) (map (λ v. Some v) args ++ replicate further None)) (sym narrow_ones) (first further plain passed));
+      }
+
+  -- what is reached begins
+  pub reach_both : {callee : Method} {args words vs ws : List Value} (result : Option Sort) (on : Bool) → IsNarrowed narrowed (length params) callee → Stacks (let m = t.memory in m.heap) params args words → Stacks (let m = t.memory in m.heap) ks vs ws
+      → Meets (at_callee by (Some (Inside callee)) result args (record f { stack = vs }) outer s) (narrow.reaches (by_label l) (Within (narrowed callee)) on words (record g { next = next; stack = ws }) others t)
+  reach_both {callee = callee} {args = args} {words = words} {vs = vs} {ws = ws} result on is passed low =
+      subst (λ b. Meets (if b then stuck_at (offset (record f { stack = vs })) s else On (with_frames (frame_for_call callee args ∷ record f { stack = vs } ∷ outer) s)) (narrow.reaches (by_label l) (Within (narrowed callee)) on words (record g { next = next; stack = ws }) others t)) (sym is.has_code)
+      (subst (λ b. Meets (On (with_frames (frame_for_call callee args ∷ record f { stack = vs } ∷ outer) s)) (if b then StuckAt g.at t else Next (record t { frames = narrow.entered (narrowed callee) words ∷ record g { next = next; stack = ws } ∷ others }))) (sym is.is_written)
+      (begins callee args words vs ws (entered_agree is passed) low))
+
+-- a static call
+pub static_call : (by : Linked) (l : Named) (narrowed : Method → Start NMethod) (op : ℕ) (id : MemberId) (named : Callee) (params ks ls : List Kind) (next : ℕ) (f : Frame) (outer : List Frame) (s : State) (g : NFrame) (others : List NFrame) (t : NState) → IsStaticCall by l narrowed (holder_of f) op id named params → Frames (let m = t.memory in m.heap) (reverse params ++ ks) ls f g
+    → CallAgrees by l narrowed params ks next f outer s g others t (after_effect by (effects.Invoke op id) f outer s) (narrow.made (by_label l) (Invoke named) next g others t)
+unfolding by_label
+static_call by l narrowed op id named params ks ls next f outer s g others t call agree =
+    let heap = (let m = t.memory in m.heap) in
+    let Meets = CallAgrees by l narrowed params ks next f outer s g others t in
+    let types = call.types in
+    let n = length types.params in
+    let count = passed_length call.passes in
+    let plain = passed_plain call.passes in
+    let args = reverse (take n f.stack) in
+    let words = reverse (take n g.stack) in
+    let passed = args_agree ks n plain count agree.stack in
+    let low = below_agree ks n plain count agree.stack in
+    let many = enough_words ks n plain count agree.stack in
+    let enough : nat_le n (length g.stack) ≡ true = grind (arith, nat_tests) in
+    let narrow_side = narrow.made (by_label l) (Invoke named) next g others t in
+    let waiting = record g { next = next; stack = drop n g.stack } in
+    let named_side = at_callee by (Some (Inside call.callee)) types.result args (record f { stack = drop n f.stack }) outer s in
+    subst (λ o. Meets (after_lookup by o id f outer s) narrow_side) (sym call.by_name)
+    (subst (λ o. Meets (with_types by (OnClass (Inside call.callee)) o f outer s) narrow_side) (sym call.has_types)
+    (subst (λ b. Meets (if b then named_side else stuck_at (offset f) s) narrow_side) (sym (of_sorts call.passes passed))
+    (subst (λ o. Meets named_side (narrow.counted (by_label l) o named (record g { next = next }) others t)) (sym (call.narrow_words ∙ ap Some (sym count)))
+    (subst (λ b. Meets named_side (if b then narrow.with_args (by_label l) (on_object named) named words waiting others t else StuckAt g.at t)) (sym enough)
+    (subst (λ b. Meets named_side (narrow.with_args (by_label l) b named words waiting others t)) (sym call.narrow_class)
+    (subst (λ x. Meets named_side (narrow.reaches (by_label l) x false words waiting others t)) (sym call.narrow_reached)
+    (reach_both by l narrowed params ks next f outer s g others t plain types.result false call.is_narrowed passed low)))))))
+
+-- ---- a call on a receiver
+
+module _ (by : Linked) (l : Named) (narrowed : Method → Start NMethod) (named : Callee) (within : Shape (List ℕ) → Bool) (params ks : List Kind) (next : ℕ) (f : Frame) (outer : List Frame) (s : State) (g : NFrame) (others : List NFrame) (t : NState)
+    (plain : OnBoth params) (selected : List ℕ → Option Linked.Callee) (selects : (kind : Shape (List ℕ)) → within kind ≡ true → Selects l narrowed selected named (length (Refers within ∷ params)) kind) (stores : Stores l s.store t.memory) where
+  abbrev Answers : Move State → NTurn → Type 0
+  Answers = CallAgrees by l narrowed (Refers within ∷ params) ks next f outer s g others t
+
+  -- by the type of the receiver
+  select_both : {args words vs ws : List Value} (result : Option Sort) (k : ℕ) (thing : HeapObject (List ℕ) MemberId) → slice_get (let m = t.memory in m.heap) k ≡ Some thing → within (shape thing) ≡ true → Stacks (let m = t.memory in m.heap) params args words → Stacks (let m = t.memory in m.heap) ks vs ws
+      → Answers (at_selected by selected (slice_get (heap_of s) k) result (Obj k ∷ args) (record f { stack = vs }) outer s) (narrow.reaches_on (by_label l) named (slice_get (let m = t.memory in m.heap) k) (Obj k ∷ words) (record g { next = next; stack = ws }) others t)
+  unfolding by_label
+  select_both {args = args} {words = words} {vs = vs} {ws = ws} result k thing is passes passed low =
+      let h = selects (shape thing) passes in
+      let waits = record f { stack = vs } in
+      let waiting = record g { next = next; stack = ws } in
+      let narrow_side = narrow.reaches_on (by_label l) named (slice_get (let m = t.memory in m.heap) k) (Obj k ∷ words) waiting others t in
+      subst (λ o. Answers (at_selected by selected o result (Obj k ∷ args) waits outer s) narrow_side) (sym (thing_shown l (let m = t.memory in m.heap) k thing stores.heap is))
+      (subst (λ o. Answers (at_callee by o result (Obj k ∷ args) waits outer s) narrow_side) (sym (ap selected (type_shown l thing) ∙ h.by_name))
+      (subst (λ o. Answers (at_callee by (Some (Inside h.callee)) result (Obj k ∷ args) waits outer s) (narrow.reaches_on (by_label l) named o (Obj k ∷ words) waiting others t)) (sym is)
+      (subst (λ x. Answers (at_callee by (Some (Inside h.callee)) result (Obj k ∷ args) waits outer s) (narrow.reaches (by_label l) x true (Obj k ∷ words) waiting others t)) (sym h.narrow)
+      (reach_both by l narrowed (Refers within ∷ params) ks next f outer s g others t (both_reference plain) result true h.is_narrowed (cell (object thing is passes) passed) low))))
+
+  -- with the receiver below the arguments; null raises
+  pub receive_both : (result : Option Sort) (n : ℕ) (vs ws vs' ws' : List Value) → drop n vs ≡ vs' → drop n ws ≡ ws' → Stacks (let m = t.memory in m.heap) params (reverse (take n vs)) (reverse (take n ws)) → Stacks (let m = t.memory in m.heap) (Refers within ∷ ks) vs' ws'
+      → Answers (on_receiver by selected vs' result (reverse (take n vs)) (record f { stack = vs' }) outer s) (narrow.on_receiver (by_label l) named (reverse (take (suc n) ws)) (record g { next = next; stack = drop (suc n) ws }) others t)
+  receive_both result n vs ws _ _ off off' passed (cell {v = v} {w = w} {vs = below} {ws = below'} agree low) =
+      subst (λ words. Answers (on_receiver by selected (v ∷ below) result (reverse (take n vs)) (record f { stack = v ∷ below }) outer s) (narrow.on_receiver (by_label l) named words (record g { next = next; stack = drop (suc n) ws }) others t)) (sym (receiver_first n ws off'))
+      (subst (λ rest. Answers (on_receiver by selected (v ∷ below) result (reverse (take n vs)) (record f { stack = v ∷ below }) outer s) (narrow.on_receiver (by_label l) named (w ∷ reverse (take n ws)) (record g { next = next; stack = rest }) others t)) (sym (receiver_off n ws off'))
+      (by_value v w agree))
+    where
+      by_value : (v w : Value) → Agrees (let m = t.memory in m.heap) (Refers within) v w → Answers (on_receiver by selected (v ∷ below) result (reverse (take n vs)) (record f { stack = v ∷ below }) outer s) (narrow.on_receiver (by_label l) named (w ∷ reverse (take n ws)) (record g { next = next; stack = below' }) others t)
+      by_value _ _ null = fails NullPointer (Null ∷ below) below'
+      by_value _ _ (object {k = k} thing is passes) = select_both result k thing is passes passed low
+
+-- a call on a receiver
+pub object_call : (by : Linked) (l : Named) (narrowed : Method → Start NMethod) (op : ℕ) (id : MemberId) (named : Callee) (within : Shape (List ℕ) → Bool) (params ks ls : List Kind) (next : ℕ) (f : Frame) (outer : List Frame) (s : State) (g : NFrame) (others : List NFrame) (t : NState) → IsObjectCall by l narrowed (holder_of f) op id named within params → Stores l s.store t.memory → Frames (let m = t.memory in m.heap) (reverse (Refers within ∷ params) ++ ks) ls f g
+    → CallAgrees by l narrowed (Refers within ∷ params) ks next f outer s g others t (after_effect by (effects.Invoke op id) f outer s) (narrow.made (by_label l) (Invoke named) next g others t)
+unfolding by_label
+object_call by l narrowed op id named within params ks ls next f outer s g others t call stores agree =
+    let heap = (let m = t.memory in m.heap) in
+    let Meets = CallAgrees by l narrowed (Refers within ∷ params) ks next f outer s g others t in
+    let types = call.types in
+    let n = length types.params in
+    let count = passed_length call.passes in
+    let plain = passed_plain call.passes in
+    let below : Stacks heap (reverse params ++ (Refers within ∷ ks)) f.stack g.stack = subst (λ kinds. Stacks heap kinds f.stack g.stack) (receiver_below within params ks) agree.stack in
+    let passed = args_agree (Refers within ∷ ks) n plain count below in
+    let rest = below_agree (Refers within ∷ ks) n plain count below in
+    let many = enough_words ks (suc n) (both_reference plain) (ap suc count) agree.stack in
+    let enough : nat_le (suc n) (length g.stack) ≡ true = grind (arith, nat_tests) in
+    let narrow_side = narrow.made (by_label l) (Invoke named) next g others t in
+    let words = reverse (take (suc n) g.stack) in
+    let waiting = record g { next = next; stack = drop (suc n) g.stack } in
+    let args = reverse (take n f.stack) in
+    let named_side = on_receiver by call.selected (drop n f.stack) types.result args (record f { stack = drop n f.stack }) outer s in
+    subst (λ o. Meets (after_lookup by o id f outer s) narrow_side) (sym call.by_name)
+    (subst (λ o. Meets (with_types by (OnObject call.selected) o f outer s) narrow_side) (sym call.has_types)
+    (subst (λ b. Meets (if b then named_side else stuck_at (offset f) s) narrow_side) (sym (of_sorts call.passes passed))
+    (subst (λ o. Meets named_side (narrow.counted (by_label l) o named (record g { next = next }) others t)) (sym (call.narrow_words ∙ ap (λ k. Some (suc k)) (sym count)))
+    (subst (λ b. Meets named_side (if b then narrow.with_args (by_label l) (on_object named) named words waiting others t else StuckAt g.at t)) (sym enough)
+    (subst (λ b. Meets named_side (narrow.with_args (by_label l) b named words waiting others t)) (sym call.narrow_object)
+    (receive_both by l narrowed named within params ks next f outer s g others t plain call.selected call.selects stores types.result n f.stack g.stack (drop n f.stack) (drop n g.stack) refl refl passed rest))))))

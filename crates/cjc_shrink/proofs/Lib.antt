@@ -1,0 +1,14 @@
+pub mod Plain
+pub mod Divides
+pub mod Fields
+pub mod Gets
+pub mod Pushes
+pub mod Passed
+pub mod Begins
+pub mod Places
+pub mod Handlers
+pub mod Widens
+pub mod Stores
+pub mod Copies
+pub mod Drops
+pub mod References

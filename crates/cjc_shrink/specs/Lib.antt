@@ -1,0 +1,3 @@
+pub mod Relation
+pub mod Rows
+pub mod Calls

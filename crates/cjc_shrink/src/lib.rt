@@ -1,0 +1,115 @@
+//! Class files and narrow code behave alike, on numbers of 32 bits and on words of 16: when their frames, heaps and
+//! static cells agree, and laws that keep them so, one instruction at a time. It has definitions and laws alone, for
+//! whoever proves that whole runs agree. It knows no tokens and no components, and not how a table was made.
+#![tactic(auto)]
+
+ghost use Rattle.std.specs.Prelude.{◌≡◌, ◌<◌, length, slice_set, ◌∷◌, [], ◌++◌, reverse, option_map, slice_get, Option, Some, false, true, Bool, List, ℕ, ℤ, pos};
+ghost use Rattle.cjc_bytes.specs.declared.fault.MemberId.{MemberId};
+ghost use Rattle.cjc_range.specs.Span.{Span, span, Holds, Within, IsWord, short_range};
+ghost use Rattle.cjc_range.specs.Rows.{add_row, sub_row, mul_row, neg_row, div_row, rem_row, shl_row, shr_row, ushr_row, and_row, or_row, to_byte_row, to_short_row};
+ghost use Rattle.cjc_classfile.specs.declared.tree.Catch.{Catch};
+ghost use Rattle.cjc_code.specs.declared.insn.JInsn.{JInsn};
+ghost use Rattle.cjc_code.specs.declared.insn.JOp.TheVariants as jop;
+ghost use Rattle.cjc_script.specs.Sorts.{Shape, OfClass, shape_name, field_sort};
+ghost use Rattle.cjc_bytecode.specs.Effects.{Invoke, HeapObject, shape};
+ghost use Rattle.cjc_bytecode.specs.Machine.{Start, caught, made};
+ghost use Rattle.cjc_script.specs.declared.value.Value.{Value};
+ghost use Rattle.cjc_ncode.specs.declared.narrow.NMethod.{NMethod};
+ghost use Rattle.cjc_ncode.specs.Written.{Resolution, place_in, catches_at};
+ghost use Rattle.cjc_ncode.specs.ByLabel.{Callee, Named, by_label, handler as narrow_handler};
+ghost use Rattle.cjc_by_name.specs.Linked.{Method, Linked};
+ghost use Rattle.cjc_by_name.specs.Effects as effects;
+ghost use Rattle.cjc_by_name.specs.Machine.{Frame, State, holder_of, handler, after_throw, after_effect};
+ghost use Rattle.cjc_shrink.specs.Relation.{Kind, OnBoth, Range, Refers, Heap, Stacks, Locals, AllWider, Stores};
+ghost use Rattle.cjc_shrink.specs.Rows.{RowAgrees, RowOnLocals, IsNotWritten, FieldIsThere, kind_of};
+ghost use Rattle.cjc_shrink.specs.Calls.{NFrame, NState, Frames, CallAgrees, IsStaticCall, IsObjectCall, IsWrittenAt, HandlesAlike, CatchAgrees};
+
+/// Arithmetic of class files on operands in intervals, and what is written for it: words stay the low words of their
+/// numbers, and each result lies in the interval that its row gives. A quotient, a remainder and a number that is shifted to
+/// the right are so where the operands have 16 bits; a zero divisor raises.
+pub fn arithmetic_agrees()
+    ensures iadd { (by : Linked) (l : Named) (r : Resolution) (m : Method) (s t : Span) → RowAgrees by l r m (jop.Arith 0x60) (Range t ∷ Range s ∷ []) (Range (add_row s t) ∷ []) }
+    ensures isub { (by : Linked) (l : Named) (r : Resolution) (m : Method) (s t : Span) → RowAgrees by l r m (jop.Arith 0x64) (Range t ∷ Range s ∷ []) (Range (sub_row s t) ∷ []) }
+    ensures imul { (by : Linked) (l : Named) (r : Resolution) (m : Method) (s t : Span) → RowAgrees by l r m (jop.Arith 0x68) (Range t ∷ Range s ∷ []) (Range (mul_row s t) ∷ []) }
+    ensures ishl { (by : Linked) (l : Named) (r : Resolution) (m : Method) (s t : Span) → IsWord t → RowAgrees by l r m (jop.Arith 0x78) (Range t ∷ Range s ∷ []) (Range (shl_row s t) ∷ []) }
+    ensures iand { (by : Linked) (l : Named) (r : Resolution) (m : Method) (s t : Span) → IsWord s → IsWord t → RowAgrees by l r m (jop.Arith 0x7E) (Range t ∷ Range s ∷ []) (Range (and_row s t) ∷ []) }
+    ensures ior { (by : Linked) (l : Named) (r : Resolution) (m : Method) (s t : Span) → IsWord s → IsWord t → RowAgrees by l r m (jop.Arith 0x80) (Range t ∷ Range s ∷ []) (Range (or_row s t) ∷ []) }
+    ensures ixor { (by : Linked) (l : Named) (r : Resolution) (m : Method) (s t : Span) → IsWord s → IsWord t → RowAgrees by l r m (jop.Arith 0x82) (Range t ∷ Range s ∷ []) (Range (or_row s t) ∷ []) }
+    ensures idiv { (by : Linked) (l : Named) (r : Resolution) (m : Method) (s t : Span) → Within s short_range → Within t short_range → RowAgrees by l r m (jop.Arith 0x6C) (Range t ∷ Range s ∷ []) (Range (div_row s t) ∷ []) }
+    ensures irem { (by : Linked) (l : Named) (r : Resolution) (m : Method) (s t : Span) → IsWord s → IsWord t → Within s short_range → Within t short_range → RowAgrees by l r m (jop.Arith 0x70) (Range t ∷ Range s ∷ []) (Range (rem_row s t) ∷ []) }
+    ensures ishr { (by : Linked) (l : Named) (r : Resolution) (m : Method) (s t : Span) → IsWord s → IsWord t → Within s short_range → RowAgrees by l r m (jop.Arith 0x7A) (Range t ∷ Range s ∷ []) (Range (shr_row s t) ∷ []) }
+    ensures iushr { (by : Linked) (l : Named) (r : Resolution) (m : Method) (s t : Span) → IsWord s → IsWord t → Within s short_range → RowAgrees by l r m (jop.Arith 0x7C) (Range t ∷ Range s ∷ []) (Range (ushr_row s t) ∷ []) }
+    ensures i2b { (by : Linked) (l : Named) (r : Resolution) (m : Method) (s : Span) → RowAgrees by l r m (jop.Narrow 0x91) (Range s ∷ []) (Range (to_byte_row s) ∷ []) }
+    ensures ineg { (by : Linked) (l : Named) (r : Resolution) (m : Method) (s : Span) → RowAgrees by l r m (jop.Arith 0x74) (Range s ∷ []) (Range (neg_row s) ∷ []) }
+{}
+
+/// Null, a number and a local are pushed alike: of a number its low word.
+pub fn pushes_agree()
+    ensures aconst_null { (by : Linked) (l : Named) (r : Resolution) (m : Method) (within : Shape (List ℕ) → Bool) → RowAgrees by l r m jop.Null [] (Refers within ∷ []) }
+    ensures number { (by : Linked) (l : Named) (r : Resolution) (m : Method) (z : ℤ) (s : Span) → Holds s z → RowAgrees by l r m (jop.Number z) [] (Range s ∷ []) }
+    ensures iload { (by : Linked) (l : Named) (r : Resolution) (m : Method) (ls : List Kind) (n : ℕ) (s : Span) → slice_get ls n ≡ Some (Range s) → RowOnLocals by l r m (jop.Load false n) [] (Range s ∷ []) ls ls }
+    ensures aload { (by : Linked) (l : Named) (r : Resolution) (m : Method) (ls : List Kind) (n : ℕ) (within : Shape (List ℕ) → Bool) → slice_get ls n ≡ Some (Refers within) → RowOnLocals by l r m (jop.Load true n) [] (Refers within ∷ []) ls ls }
+{}
+
+/// Cells that are on both stacks are copied alike.
+pub fn copies_agree()
+    ensures dup { (by : Linked) (l : Named) (r : Resolution) (m : Method) (a : Kind) → OnBoth (a ∷ []) → RowAgrees by l r m (jop.Stack 0x59) (a ∷ []) (a ∷ a ∷ []) }
+    ensures dup_x1 { (by : Linked) (l : Named) (r : Resolution) (m : Method) (a b : Kind) → OnBoth (a ∷ b ∷ []) → RowAgrees by l r m (jop.Stack 0x5A) (a ∷ b ∷ []) (a ∷ b ∷ a ∷ []) }
+    ensures dup_x2 { (by : Linked) (l : Named) (r : Resolution) (m : Method) (a b c : Kind) → OnBoth (a ∷ b ∷ c ∷ []) → RowAgrees by l r m (jop.Stack 0x5B) (a ∷ b ∷ c ∷ []) (a ∷ b ∷ c ∷ a ∷ []) }
+    ensures dup2 { (by : Linked) (l : Named) (r : Resolution) (m : Method) (a b : Kind) → OnBoth (a ∷ b ∷ []) → RowAgrees by l r m (jop.Stack 0x5C) (a ∷ b ∷ []) (a ∷ b ∷ a ∷ b ∷ []) }
+    ensures dup2_x1 { (by : Linked) (l : Named) (r : Resolution) (m : Method) (a b c : Kind) → OnBoth (a ∷ b ∷ c ∷ []) → RowAgrees by l r m (jop.Stack 0x5D) (a ∷ b ∷ c ∷ []) (a ∷ b ∷ c ∷ a ∷ b ∷ []) }
+    ensures dup2_x2 { (by : Linked) (l : Named) (r : Resolution) (m : Method) (a b c d : Kind) → OnBoth (a ∷ b ∷ c ∷ d ∷ []) → RowAgrees by l r m (jop.Stack 0x5E) (a ∷ b ∷ c ∷ d ∷ []) (a ∷ b ∷ c ∷ d ∷ a ∷ b ∷ []) }
+{}
+
+/// Cells that are on both stacks are dropped and exchanged alike.
+pub fn drops_agree()
+    ensures pop { (by : Linked) (l : Named) (r : Resolution) (m : Method) (a : Kind) → OnBoth (a ∷ []) → RowAgrees by l r m (jop.Stack 0x57) (a ∷ []) [] }
+    ensures pop2 { (by : Linked) (l : Named) (r : Resolution) (m : Method) (a b : Kind) → OnBoth (a ∷ b ∷ []) → RowAgrees by l r m (jop.Stack 0x58) (a ∷ b ∷ []) [] }
+    ensures swap { (by : Linked) (l : Named) (r : Resolution) (m : Method) (a b : Kind) → OnBoth (a ∷ b ∷ []) → RowAgrees by l r m (jop.Stack 0x5F) (a ∷ b ∷ []) (b ∷ a ∷ []) }
+{}
+
+/// Nothing is written for nop and i2s, and no word changes: what i2s leaves of a number has the number's low word.
+pub fn nothing_changes_no_word()
+    ensures nop { (by : Linked) (r : Resolution) (m : Method) → IsNotWritten by r m jop.Nop [] [] }
+    ensures i2s { (by : Linked) (r : Resolution) (m : Method) (s : Span) → IsNotWritten by r m (jop.Narrow 0x93) (Range s ∷ []) (Range (to_short_row s) ∷ []) }
+{}
+
+/// A local is written alike, and increased by a number of 16 bits.
+pub fn locals_are_written_alike()
+    ensures istore { (by : Linked) (l : Named) (r : Resolution) (m : Method) (ls : List Kind) (n : ℕ) → n < length ls → (s : Span) → RowOnLocals by l r m (jop.Store false n) (Range s ∷ []) [] ls (slice_set ls n (Range s)) }
+    ensures astore { (by : Linked) (l : Named) (r : Resolution) (m : Method) (ls : List Kind) (n : ℕ) → n < length ls → (within : Shape (List ℕ) → Bool) → RowOnLocals by l r m (jop.Store true n) (Refers within ∷ []) [] ls (slice_set ls n (Refers within)) }
+    ensures iinc { (by : Linked) (l : Named) (r : Resolution) (m : Method) (ls : List Kind) (n : ℕ) (s : Span) (z : ℤ) → slice_get ls n ≡ Some (Range s) → Holds short_range z → RowOnLocals by l r m (jop.Inc n z) [] [] ls (slice_set ls n (Range (add_row s (span z z)))) }
+{}
+
+/// An object is thrown and the elements of an array are counted alike; null raises.
+pub fn references_are_met_alike()
+    ensures athrow { (by : Linked) (l : Named) (r : Resolution) (m : Method) (within : Shape (List ℕ) → Bool) → RowAgrees by l r m jop.Throw (Refers within ∷ []) [] }
+    ensures arraylength { (by : Linked) (l : Named) (r : Resolution) (m : Method) (within : Shape (List ℕ) → Bool) → ((class : List ℕ) → within (OfClass class) ≡ false) → RowAgrees by l r m jop.ArrayLength (Refers within ∷ []) (Range (span (pos 0) (pos 32767)) ∷ []) }
+{}
+
+/// A field whose values are one word is read alike, on an object of a class that has it: what both heaps hold under it is
+/// pushed, and null raises.
+pub fn fields_are_read_alike()
+    ensures { (by : Linked) (l : Named) (r : Resolution) (m : Method) (named : MemberId) (within : Shape (List ℕ) → Bool) → FieldIsThere by l r m named within → RowAgrees by l r m (jop.Field false named) (Refers within ∷ []) (kind_of l (field_sort named.desc) ∷ []) }
+{}
+
+/// A call of a static method, and one on a receiver that each of its types selects a method of the package for: the method
+/// and what is written for it begin with arguments that agree, above frames that wait behind the call; null raises.
+pub fn calls_begin_alike()
+    ensures static_call { (by : Linked) (l : Named) (narrowed : Method → Start NMethod) (op : ℕ) (id : MemberId) (named : Callee) (params ks ls : List Kind) (next : ℕ) (f : Frame) (outer : List Frame) (s : State) (g : NFrame) (others : List NFrame) (t : NState) → IsStaticCall by l narrowed (holder_of f) op id named params → Frames (let m = t.memory in m.heap) (reverse params ++ ks) ls f g → CallAgrees by l narrowed params ks next f outer s g others t (after_effect by (effects.Invoke op id) f outer s) (made (by_label l) (Invoke named) next g others t) }
+    ensures object_call { (by : Linked) (l : Named) (narrowed : Method → Start NMethod) (op : ℕ) (id : MemberId) (named : Callee) (within : Shape (List ℕ) → Bool) (params ks ls : List Kind) (next : ℕ) (f : Frame) (outer : List Frame) (s : State) (g : NFrame) (others : List NFrame) (t : NState) → IsObjectCall by l narrowed (holder_of f) op id named within params → Stores l s.store t.memory → Frames (let m = t.memory in m.heap) (reverse (Refers within ∷ params) ++ ks) ls f g → CallAgrees by l narrowed (Refers within ∷ params) ks next f outer s g others t (after_effect by (effects.Invoke op id) f outer s) (made (by_label l) (Invoke named) next g others t) }
+{}
+
+/// Where an instruction is one that is written for an instruction of the class file, the narrow search for a handler finds
+/// what is written for the target that the search by name finds, or both find none; and the frame goes on there with the
+/// exception alone on its stack.
+pub fn handlers_are_found_alike()
+    ensures search { (by : Linked) (l : Named) (r : Resolution) (reached : List JInsn) (holder : List ℕ) (kind : Shape (List ℕ)) (here at : ℕ) (catches : List Catch) → IsWrittenAt r reached here at → ((class : List ℕ) → by.subtype (Some holder) (shape_name kind) class ≡ l.is_of kind (OfClass class)) → narrow_handler l (catches_at (place_in r reached) catches) at kind ≡ option_map (place_in r reached) (handler by holder catches here (shape_name kind)) }
+    ensures frame { (by : Linked) (l : Named) (r : Resolution) (reached : List JInsn) (within : Shape (List ℕ) → Bool) (ls : List Kind) (from at object : ℕ) (thing : HeapObject (List ℕ) MemberId) (f : Frame) (outer : List Frame) (s : State) (g : NFrame) (others : List NFrame) (t : NState) → HandlesAlike by l r reached (shape thing) f g → slice_get (let m = t.memory in m.heap) object ≡ Some thing → within (shape thing) ≡ true → Locals (let m = t.memory in m.heap) ls f.locals g.locals → CatchAgrees by l (place_in r reached) within ls from at object (shape thing) f outer s g others t (after_throw by from (f ∷ outer) object (shape_name (shape thing)) s) (caught (by_label l) at (g ∷ others) object (shape thing) t) }
+{}
+
+/// Stacks and locals that agree by some kinds agree by wider ones, as a join of states gives them.
+pub fn wider_kinds_hold()
+    ensures stacks { (heap : Heap) (ks js : List Kind) (vs ws : List Value) → AllWider ks js → Stacks heap ks vs ws → Stacks heap js vs ws }
+    ensures locals { (heap : Heap) (ks js : List Kind) (vs ws : List (Option Value)) → AllWider ks js → Locals heap ks vs ws → Locals heap js vs ws }
+{}
