@@ -45,8 +45,7 @@ method name desc stack locals catches bytes = record {
   flags = 9;
   name = name;
   desc = desc;
-  code = Some (record { max_stack = stack; max_locals = locals; bytes = bytes; catches = catches; attributes = 0 });
-  attributes = 1;
+  code = Some (record { max_stack = stack; max_locals = locals; bytes = bytes; catches = catches });
 }
 
 -- a public method of objects
@@ -55,7 +54,7 @@ virtual name desc stack locals bytes = record (method name desc stack locals [] 
 
 -- a public abstract method
 abbrev pub abstract : (name desc : List ℕ) → MethodTree
-abstract name desc = record { flags = 0x0401; name = name; desc = desc; code = None; attributes = 0 }
+abstract name desc = record { flags = 0x0401; name = name; desc = desc; code = None }
 
 -- a class below a superclass
 abbrev pub class : (flags : ℕ) → (name superclass : List ℕ) → (interfaces : List (List ℕ)) → List PoolItem → List FieldTree → List MethodTree → ClassTree
@@ -68,7 +67,6 @@ class flags name superclass interfaces pool fields methods = record {
   pool = items.Other ∷ pool;
   fields = fields;
   methods = methods;
-  attributes = 0;
 }
 
 -- a field

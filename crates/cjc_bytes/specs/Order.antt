@@ -1,7 +1,9 @@
 -- The order of refusals: the first that is broken is answered.
-use Rattle.std.specs.Prelude.{◌≡◌, ◌⊎◌, ◌<◌, ◌+◌, ◌^◌, ℕ, zero, suc, List, [], ◌∷◌, if◌then◌else◌}
+use Rattle.std.specs.Prelude.{◌≡◌, ◌⊎◌, ◌<◌, ◌+◌, ◌*◌, ◌^◌, ℕ, zero, suc, List, [], ◌∷◌, if◌then◌else◌}
 use Rattle.cjc_bytes.specs.declared.order.FileKey.{FileKey}
 use Rattle.cjc_bytes.specs.declared.order.FileKey.TheVariants as keys
+use Rattle.cjc_bytes.specs.declared.order.GroupKey.{GroupKey}
+use Rattle.cjc_bytes.specs.declared.order.GroupKey.TheVariants as groups
 use Rattle.cjc_bytes.specs.declared.settings.FileLine.{FileLine}
 
 -- The number by which files are compared: the list, then the files of its lines, the components by their tags, the
@@ -11,6 +13,13 @@ file_number keys.List = 0
 file_number (keys.Line i) = i + 1
 file_number (keys.Component tag) = 2 ^ 64 + tag
 file_number keys.Script = 2 ^ 64 + 256
+
+-- Of several packages: the file that names them, then package by package, then the script. No file of a package has a
+-- number of 2 ^ 65 or more, and no package an index of 256 or more.
+abbrev pub group_number : GroupKey → ℕ
+group_number groups.Group = 0
+group_number (groups.Of p file) = (p + 1) * 2 ^ 65 + file_number file
+group_number groups.Script = 257 * 2 ^ 65
 
 -- a file, and its name as a refusal tells it
 pub record FilePlace : Type 0 where

@@ -26,7 +26,7 @@ pub use flags::{
     is_interface, is_private, is_protected, is_public, is_static,
 };
 pub use names::{BadDesc, Desc, Kind, descriptors};
-pub use order::{FileKey, FileRef, file_of};
+pub use order::{FileKey, FileRef, GroupKey, file_of};
 pub use output::Out;
 pub use row::{Bytes, Row};
 pub use settings::{AppletLine, FileLine, Settings};

@@ -2,7 +2,7 @@
 //! Every crate that places a broken rule numbers files by it. It knows no rule.
 
 ghost use Rattle.std.specs.Prelude.{◌≡◌};
-ghost use Rattle.cjc_bytes.specs.Order.{file_number, file_of};
+ghost use Rattle.cjc_bytes.specs.Order.{file_number, group_number, file_of};
 ghost use Rattle.cjc_bytes.specs.Told.{file_place_of};
 
 use crate::settings::FileLine;
@@ -30,6 +30,31 @@ impl FileKey {
             FileKey::Line(index) => index as u128 + 1,
             FileKey::Component(tag) => 0x1_0000_0000_0000_0000 + u128::from(tag),
             FileKey::Script => 0x1_0000_0000_0000_0100,
+        }
+    }
+}
+
+/// A file of a command over several packages, by its place in the order of refusals.
+#[derive(Clone, Copy)]
+pub enum GroupKey {
+    /// The file that names the packages.
+    Group,
+    /// A file of the package of this index.
+    Of(u8, FileKey),
+    /// The script, which all packages share.
+    Script,
+}
+
+impl GroupKey {
+    /// The number by which files are compared: package by package, and within one by `FileKey::number`.
+    pub fn number(self) -> u128
+        ensures { result ≡ group_number self }
+    {
+        match self {
+            GroupKey::Group => 0,
+            GroupKey::Of(package, file) => (u128::from(package) + 1) * 0x2_0000_0000_0000_0000
+                + file.number(),
+            GroupKey::Script => 0x202_0000_0000_0000_0000,
         }
     }
 }

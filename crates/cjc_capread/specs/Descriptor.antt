@@ -1,7 +1,8 @@
 -- The classes, their members and all types (section 6.13).
-use Rattle.std.specs.Prelude.{ℕ, ◌/◌, ◌%◌, Bool, true, false, List, [], ◌∷◌, ◌++◌, Option, Some, None, nat_lt, ◌==◌, bit_and, if◌then◌else◌}
+use Rattle.std.specs.Prelude.{ℕ, ◌/◌, ◌%◌, Bool, true, false, List, [], ◌∷◌, ◌++◌, Option, Some, None, nat_lt, ◌==◌, if◌then◌else◌}
 use Rattle.std.specs.List.{flat_map}
 use Rattle.std.specs.Int.{w8, w16}
+use Rattle.cjc_bytes.specs.AccessFlags.{is_static}
 use Rattle.cjc_bytes.specs.Format.{Format, number, gives, ◌>>=◌, repeated, before, u1, u2, raw}
 use Rattle.cjc_capread.specs.declared.tree.Descriptor.{Descriptor}
 use Rattle.cjc_capread.specs.declared.tree.ClassDescriptor.{ClassDescriptor}
@@ -13,10 +14,6 @@ use Rattle.cjc_capread.specs.declared.tree.FieldType.TheVariants as types
 use Rattle.cjc_capread.specs.declared.tree.MethodDescriptor.{MethodDescriptor}
 use Rattle.cjc_capread.specs.declared.tree.TypeDescriptor.{TypeDescriptor}
 use Rattle.cjc_capread.specs.Parts.{exactly, class_ref}
-
--- the flag static
-abbrev pub is_static : ℕ → Bool
-is_static flags = nat_lt 0 (bit_and flags 0x08)
 
 -- the three bytes of a field
 unfoldable pub field_place : Bool → Format FieldPlace

@@ -4,22 +4,17 @@
 ghost use Rattle.std.specs.Prelude.{◌≡◌, ◌++◌, IfOk, OnOk};
 ghost use Rattle.std.specs.List.{flat_map};
 ghost use Rattle.cjc_bytes.specs.Format.{repeated, before};
+ghost use Rattle.cjc_bytes.specs.AccessFlags.{is_static};
 ghost use Rattle.cjc_bytes.specs.Reading.{Reads};
-ghost use Rattle.cjc_capread.specs.Descriptor.{is_static, field_place, type_of, field_descriptor, method_descriptor, class_descriptor, two_nibbles, ended, type_descriptor, descriptor};
+ghost use Rattle.cjc_capread.specs.Descriptor.{field_place, type_of, field_descriptor, method_descriptor, class_descriptor, two_nibbles, ended, type_descriptor, descriptor};
 
 use crate::parts::{read_class_ref, read_class_refs, read_numbers};
 use crate::tree::{
     ClassDescriptor, Descriptor, FieldDescriptor, FieldPlace, FieldType, MethodDescriptor,
     TypeDescriptor,
 };
-use cjc_bytes::{Bytes, Cursor, NoMemory, Row, Stop};
+use cjc_bytes::{Bytes, Cursor, NoMemory, Row, Stop, is_static};
 use std::alloc::Global;
-
-fn is_static(flags: u8) -> bool
-    ensures { result ≡ is_static flags }
-{
-    flags & 0x08 > 0
-}
 
 /// The three bytes of a field.
 #[tactic(auto, unfolding(crate::specs::Descriptor::field_place, cjc_bytes::specs::Format::u1, cjc_bytes::specs::Format::u2))]
@@ -59,7 +54,7 @@ fn read_field(cursor: &mut Cursor<'_>) -> Result<FieldDescriptor, Stop>
 {
     let token = cursor.u1()?;
     let flags = cursor.u1()?;
-    let place = read_field_place(is_static(flags), cursor)?;
+    let place = read_field_place(is_static(u16::from(flags)), cursor)?;
     let at = cursor.at();
     let number = cursor.u2()?;
     match type_of(number) {

@@ -15,7 +15,8 @@ use Rattle.cjc_capread.specs.declared.tree.FieldType.TheVariants as types
 use Rattle.cjc_capread.specs.declared.tree.MethodDescriptor.{MethodDescriptor}
 use Rattle.cjc_capread.specs.declared.tree.TypeDescriptor.{TypeDescriptor}
 use Rattle.cjc_capread.specs.Parts.{exactly}
-use Rattle.cjc_capread.specs.Descriptor.{is_static, field_place, type_of, field_descriptor, method_descriptor, class_descriptor, two_nibbles, high_nibble, ended, type_descriptor, descriptor}
+use Rattle.cjc_bytes.specs.AccessFlags.{is_static}
+use Rattle.cjc_capread.specs.Descriptor.{field_place, type_of, field_descriptor, method_descriptor, class_descriptor, two_nibbles, high_nibble, ended, type_descriptor, descriptor}
 use Rattle.cjc_capwrite.specs.Parts.{one, two, class_bytes}
 use Rattle.cjc_capwrite.specs.Class.{nibbles}
 use Rattle.cjc_capwrite.specs.Descriptor.{place_bytes, type_number, field_bytes, code_bytes, method_descriptor_bytes, class_descriptor_bytes, packed, type_bytes, types_bytes, descriptor_bytes}

@@ -163,7 +163,7 @@ module _ (pool : List Entry) (fit : PoolFits pool) where
     catches ← repeated count (catch pool size)
     free_count ← u2
     free ← in_a_row free_count (attribute pool)
-    gives (record { max_stack = max_stack; max_locals = max_locals; bytes = bytes; catches = catches; attributes = free_count })
+    gives (record { max_stack = max_stack; max_locals = max_locals; bytes = bytes; catches = catches })
 
   handlers_keep : (max_stack max_locals size : ℕ) (b : List ℕ) (at : ℕ) (c : CodeTree) (bytes : List ℕ) → InBytes bytes → Spells (handlers_part max_stack max_locals size b) at c bytes → b ≡ c.bytes
   handlers_keep max_stack max_locals size b at c bytes ok h =
@@ -271,7 +271,7 @@ members_part major pool items flags name superclass interfaces = do
   methods ← repeated method_count (method_tree pool)
   attribute_count ← u2
   free ← in_a_row attribute_count (attribute pool)
-  gives (record { major = major; flags = flags; name = name; superclass = superclass; interfaces = interfaces; pool = items; fields = fields; methods = methods; attributes = attribute_count })
+  gives (record { major = major; flags = flags; name = name; superclass = superclass; interfaces = interfaces; pool = items; fields = fields; methods = methods })
 
 members_fit : (major : ℕ) (pool : List Entry) (items : List PoolItem) (flags : ℕ) (name superclass : List ℕ) (interfaces : List (List ℕ)) (at : ℕ) (t : ClassTree) (bytes : List ℕ) → PoolFits pool
     → IsText name → IsText superclass → AllByRecursion IsText interfaces → InBytes bytes → Spells (members_part major pool items flags name superclass interfaces) at t bytes → ClassFits t

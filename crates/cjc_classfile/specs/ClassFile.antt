@@ -43,7 +43,7 @@ back_part major pool items = do
   methods ← repeated method_count (method_tree pool)
   attribute_count ← u2
   free ← in_a_row attribute_count (attribute pool)
-  gives (record { major = major; flags = flags; name = name; superclass = superclass; interfaces = interfaces; pool = items; fields = fields; methods = methods; attributes = attribute_count })
+  gives (record { major = major; flags = flags; name = name; superclass = superclass; interfaces = interfaces; pool = items; fields = fields; methods = methods })
 
 unfoldable pub class_file : Format ClassTree
 class_file = do

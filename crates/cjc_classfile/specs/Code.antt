@@ -7,4 +7,3 @@ pub record CodeTree : Type 0 where
   pub max_locals : ℕ
   pub bytes : List ℕ
   pub catches : List Catch
-  pub attributes : ℕ

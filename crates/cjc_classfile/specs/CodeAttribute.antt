@@ -50,7 +50,7 @@ code_content pool = do
   catches ← repeated count (catch pool length)
   free_count ← u2
   free ← in_a_row free_count (attribute pool)
-  gives (record { max_stack = max_stack; max_locals = max_locals; bytes = bytes; catches = catches; attributes = free_count })
+  gives (record { max_stack = max_stack; max_locals = max_locals; bytes = bytes; catches = catches })
 
 -- a length that is exact, tested once its content has been read
 unfoldable pub code : List Entry → Format CodeTree

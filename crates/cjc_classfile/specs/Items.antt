@@ -104,7 +104,6 @@ item pool (method owner pair) = do
 item pool (interface_method owner pair) = do
   m ← member pool owner pair
   Ok (items.InterfaceMethod m)
-item pool (text bytes desc) = Ok items.Text
 item pool _ = Ok items.Other
 
 -- what the entries mean, where all their indices keep their tables

@@ -49,4 +49,4 @@ method_tree pool = do
   desc ← desc_field pool true
   count ← number w16 (attribute_count (needs_code flags))
   tree ← iterated count (method_attribute pool (needs_code flags)) None
-  gives (record { flags = flags; name = name; desc = desc; code = tree; attributes = count })
+  gives (record { flags = flags; name = name; desc = desc; code = tree })

@@ -91,7 +91,6 @@ fn read_back<'a>(
         pool: items,
         fields,
         methods,
-        attributes: count,
     })
 }
 

@@ -120,7 +120,6 @@ fn read_code_content<'a>(
         max_locals,
         bytes,
         catches,
-        attributes: count,
     })
 }
 

@@ -149,8 +149,8 @@ fn item(alloc: Global, pool: &[Entry<'_>], entry: &Entry<'_>) -> Result<PoolItem
         EntryKind::InterfaceMethod(owner, pair) => PoolItem::InterfaceMethod(member(
             alloc, pool, owner, pair,
         )?),
-        EntryKind::Utf8(_, _) => PoolItem::Text,
-        EntryKind::Float
+        EntryKind::Utf8(_, _)
+        | EntryKind::Float
         | EntryKind::Wide
         | EntryKind::String(_)
         | EntryKind::NameAndType(_, _)

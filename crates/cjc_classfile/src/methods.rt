@@ -110,7 +110,6 @@ fn read_method<'a>(
         name: Bytes::copy_of(alloc, name)?,
         desc: Bytes::copy_of(alloc, desc)?,
         code,
-        attributes: count,
     })
 }
 

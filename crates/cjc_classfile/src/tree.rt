@@ -14,8 +14,6 @@ pub enum PoolItem {
     Field(MemberId),
     Method(MemberId),
     InterfaceMethod(MemberId),
-    /// A Utf8.
-    Text,
     /// Any other entry, index 0, and the index after a Long or Double.
     Other,
 }
@@ -52,8 +50,6 @@ pub struct Code<'a> {
     /// The instructions, 1 to 65,535 bytes.
     pub bytes: &'a [u8],
     pub catches: Row<Catch>,
-    /// How many attributes the code has.
-    pub attributes: u16,
 }
 
 impl Drop for Code<'_> {
@@ -63,7 +59,6 @@ impl Drop for Code<'_> {
             max_locals: _max_locals,
             bytes: _bytes,
             catches: _catches,
-            attributes: _attributes,
         } = self;
     }
 }
@@ -73,7 +68,7 @@ impl<'a> Model for Code<'a> {
 
     ghost Value = { CodeTree };
 
-    ghost view = { λ c. record { max_stack = c.max_stack; max_locals = c.max_locals; bytes = c.bytes.now; catches = c.catches; attributes = c.attributes } };
+    ghost view = { λ c. record { max_stack = c.max_stack; max_locals = c.max_locals; bytes = c.bytes.now; catches = c.catches } };
 }
 
 /// A method (section 4.6).
@@ -83,8 +78,6 @@ pub struct MethodTree<'a> {
     pub desc: Bytes,
     /// There exactly where the method is neither abstract nor native.
     pub code: Option<Code<'a>>,
-    /// How many attributes the method has, Code among them.
-    pub attributes: u16,
 }
 
 impl Drop for MethodTree<'_> {
@@ -94,7 +87,6 @@ impl Drop for MethodTree<'_> {
             name: _name,
             desc: _desc,
             code: _code,
-            attributes: _attributes,
         } = self;
     }
 }
@@ -111,8 +103,6 @@ pub struct ClassTree<'a> {
     pub pool: Row<PoolItem>,
     pub fields: Row<FieldTree>,
     pub methods: Row<MethodTree<'a>>,
-    /// How many attributes the class has.
-    pub attributes: u16,
 }
 
 impl Drop for ClassTree<'_> {
@@ -126,7 +116,6 @@ impl Drop for ClassTree<'_> {
             pool: _pool,
             fields: _fields,
             methods: _methods,
-            attributes: _attributes,
         } = self;
     }
 }

@@ -8,7 +8,7 @@ use Rattle.cjc_classfile.specs.declared.tree.ClassTree.{ClassTree}
 use Rattle.cjc_classfile.specs.declared.tree.MethodTree.{MethodTree}
 use Rattle.cjc_classfile.specs.declared.tree.PoolItem.{PoolItem}
 use Rattle.cjc_classfile.specs.Code.{CodeTree}
-use Rattle.cjc_code.specs.declared.decoding.Broken.{Broken}
+use Rattle.cjc_bytes.specs.declared.breaks.BrokenAt.{BrokenAt}
 use Rattle.cjc_code.specs.declared.insn.JInsn.{JInsn}
 use Rattle.cjc_code.specs.declared.raw.Raw.{Raw}
 use Rattle.cjc_code.specs.Cut.{cut}
@@ -77,18 +77,18 @@ none_least (n ∷ ns) h = absurd (h n (contains_first n ns))
 
 -- ---- the answer
 
-abbrev broken : (rule offset : ℕ) → Result (List JInsn) Broken
+abbrev broken : (rule offset : ℕ) → Result (List JInsn) BrokenAt
 broken rule offset = Err (record { rule = rule; offset = offset })
 
 offset_is : (r s j k : ℕ) → broken r j ≡ broken s k → j ≡ k
 offset_is r s j k e =
-    let same : ◌≡◌ {A = Broken} (record { rule = r; offset = j }) (record { rule = s; offset = k }) = cc in
-    ap (λ (b : Broken). b.offset) same
+    let same : ◌≡◌ {A = BrokenAt} (record { rule = r; offset = j }) (record { rule = s; offset = k }) = cc in
+    ap (λ (b : BrokenAt). b.offset) same
 
 rule_is : (r s j k : ℕ) → broken r j ≡ broken s k → r ≡ s
 rule_is r s j k e =
-    let same : ◌≡◌ {A = Broken} (record { rule = r; offset = j }) (record { rule = s; offset = k }) = cc in
-    ap (λ (b : Broken). b.rule) same
+    let same : ◌≡◌ {A = BrokenAt} (record { rule = r; offset = j }) (record { rule = s; offset = k }) = cc in
+    ap (λ (b : BrokenAt). b.rule) same
 
 answer_103 : (o : Option ℕ) (found : Result (List JInsn) ℕ) (k : ℕ) → unless_unfit o (unless_foreign found) ≡ broken 103 k → o ≡ Some k
 answer_103 (Some j) found k e = ap Some (offset_is 103 103 j k e)

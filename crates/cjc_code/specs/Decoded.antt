@@ -4,11 +4,12 @@ use Rattle.std.specs.List.{Contains, All}
 use Rattle.cjc_bytes.specs.declared.fault.Fault.{Fault}
 use Rattle.cjc_bytes.specs.declared.fault.Fault.TheVariants as faults
 use Rattle.cjc_bytes.specs.declared.fault.Refusal.{Refusal}
+use Rattle.cjc_bytes.specs.Refused.{refused_at, in_class, method_text}
 use Rattle.cjc_classfile.specs.declared.tree.ClassTree.{ClassTree}
 use Rattle.cjc_classfile.specs.declared.tree.MethodTree.{MethodTree}
 use Rattle.cjc_classfile.specs.Code.{CodeTree}
 use Rattle.cjc_code.specs.declared.insn.JInsn.{JInsn}
-use Rattle.cjc_code.specs.declared.decoding.Broken.{Broken}
+use Rattle.cjc_bytes.specs.declared.breaks.BrokenAt.{BrokenAt}
 use Rattle.cjc_code.specs.declared.decoding.DecodeError.{DecodeError}
 use Rattle.cjc_code.specs.declared.decoding.DecodeError.TheVariants as errors
 use Rattle.cjc_code.specs.Cut.{cut}
@@ -29,21 +30,21 @@ pub record IsLeast (numbers : List ℕ) (k : ℕ) : Type 0 where
   pub one : Contains numbers k
   pub least : All (λ j. k ≤ j) numbers
 
-abbrev pub unless_foreign : Result (List JInsn) ℕ → Result (List JInsn) Broken
+abbrev pub unless_foreign : Result (List JInsn) ℕ → Result (List JInsn) BrokenAt
 unless_foreign (Ok insns) = Ok insns
 unless_foreign (Err k) = Err (record { rule = 303; offset = k })
 
-abbrev pub unless_unfit : Option ℕ → Result (List JInsn) Broken → Result (List JInsn) Broken
+abbrev pub unless_unfit : Option ℕ → Result (List JInsn) BrokenAt → Result (List JInsn) BrokenAt
 unless_unfit (Some k) found = Err (record { rule = 103; offset = k })
 unless_unfit None found = found
 
 -- The instructions that the code of a method is: those of its cut with their names. Where rule 103 is broken, the least
 -- of its places; else, where rule 303 is, the first.
-unfoldable pub decoding : ClassTree → MethodTree → CodeTree → Result (List JInsn) Broken
+unfoldable pub decoding : ClassTree → MethodTree → CodeTree → Result (List JInsn) BrokenAt
 decoding class method code =
     unless_unfit (least (unfit_code class method code)) (unless_foreign (all_named class.pool (cut code.bytes).insns))
 
-abbrev pub insns_of : Result (List JInsn) Broken → List JInsn
+abbrev pub insns_of : Result (List JInsn) BrokenAt → List JInsn
 insns_of (Ok insns) = insns
 insns_of (Err broken) = []
 
@@ -52,23 +53,23 @@ unfoldable pub decoded : ClassTree → MethodTree → CodeTree → List JInsn
 decoded class method code = insns_of (decoding class method code)
 
 -- A call answered this, unless memory ran out.
-abbrev pub Answers : Result (List JInsn) Broken → Result (List JInsn) DecodeError → Type 0
+abbrev pub Answers : Result (List JInsn) BrokenAt → Result (List JInsn) DecodeError → Type 0
 Answers found (Ok insns) = found ≡ Ok insns
 Answers found (Err (errors.Broken broken)) = found ≡ Err broken
 Answers found (Err errors.NoMemory) = Unit {0}
 
 -- ---- what a call is asked for
 
-abbrev pub of_code : ClassTree → MethodTree → Option CodeTree → Result (List JInsn) Broken
+abbrev pub of_code : ClassTree → MethodTree → Option CodeTree → Result (List JInsn) BrokenAt
 of_code class method (Some code) = decoding class method code
 of_code class method None = Ok []
 
-abbrev pub of_method : ClassTree → Option MethodTree → Result (List JInsn) Broken
+abbrev pub of_method : ClassTree → Option MethodTree → Result (List JInsn) BrokenAt
 of_method class (Some method) = of_code class method method.code
 of_method class None = Ok []
 
 -- of the method at this place of the class
-abbrev pub decoding_at : ClassTree → ℕ → Result (List JInsn) Broken
+abbrev pub decoding_at : ClassTree → ℕ → Result (List JInsn) BrokenAt
 decoding_at class k = of_method class (slice_get class.methods k)
 
 -- The method is there and has code, whose length and whose descriptor's length are as in each class file that is read.
@@ -81,19 +82,17 @@ pub record HasCode (class : ClassTree) (k : ℕ) : Type 0 where
   pub desc : length method.desc < 2 ^ 32
 
 abbrev pub no_method : MethodTree
-no_method = record { flags = 0; name = []; desc = []; code = None; attributes = 0 }
+no_method = record { flags = 0; name = []; desc = []; code = None }
 
 -- the method at this place of the class
 abbrev pub method_at : ClassTree → ℕ → MethodTree
 method_at class k = get_or class.methods k no_method
 
 -- the refusal of the code of the method at this place of the class
-abbrev pub refusal_of : (file : List ℕ) → ClassTree → ℕ → Broken → Refusal
-refusal_of file class k broken = record {
-  rule = record { 0 = broken.rule };
-  place = record { file = file; class = class.name; member = (method_at class k).name ++ (method_at class k).desc; offset = broken.offset };
-}
+abbrev pub refusal_of : (file : List ℕ) → ClassTree → ℕ → BrokenAt → Refusal
+refusal_of file class k broken =
+    refused_at broken.rule (in_class file class.name (method_text (method_at class k).name (method_at class k).desc) broken.offset)
 
 -- The error says which rule the code breaks and where, or that memory ran out.
-abbrev pub IsBroken : Result (List JInsn) Broken → (Broken → Refusal) → Fault → Type 0
-IsBroken found refused e = (e ≡ faults.NoMemory) ⊎ ((broken : Broken) × (found ≡ Err broken) × (e ≡ faults.Refused (refused broken)))
+abbrev pub IsBroken : Result (List JInsn) BrokenAt → (BrokenAt → Refusal) → Fault → Type 0
+IsBroken found refused e = (e ≡ faults.NoMemory) ⊎ ((broken : BrokenAt) × (found ≡ Err broken) × (e ≡ faults.Refused (refused broken)))

@@ -8,7 +8,7 @@ use Rattle.cjc_classfile.specs.declared.tree.MethodTree.{MethodTree}
 use Rattle.cjc_classfile.specs.declared.tree.PoolItem.{PoolItem}
 use Rattle.cjc_classfile.specs.declared.tree.PoolItem.TheVariants as items
 use Rattle.cjc_classfile.specs.Code.{CodeTree}
-use Rattle.cjc_code.specs.declared.decoding.Broken.{Broken}
+use Rattle.cjc_bytes.specs.declared.breaks.BrokenAt.{BrokenAt}
 use Rattle.cjc_code.specs.declared.insn.JInsn.{JInsn}
 use Rattle.cjc_code.specs.declared.insn.JOp.{JOp}
 use Rattle.cjc_code.specs.declared.insn.JOp.TheVariants as jop
@@ -22,19 +22,19 @@ abbrev pub pool : List PoolItem
 pool = items.Other ∷ items.Int (pos 7) ∷ items.Class (codes "q") ∷ items.Field member ∷ items.Method member ∷ items.InterfaceMethod member ∷ items.Other ∷ items.Other ∷ []
 
 abbrev pub class : (major : ℕ) → ClassTree
-class major = record { major = major; flags = 33; name = codes "p/T"; superclass = codes "q"; interfaces = []; pool = pool; fields = []; methods = []; attributes = 0 }
+class major = record { major = major; flags = 33; name = codes "p/T"; superclass = codes "q"; interfaces = []; pool = pool; fields = []; methods = [] }
 
 abbrev pub code : List Catch → List ℕ → CodeTree
-code catches bytes = record { max_stack = 4; max_locals = 1; bytes = bytes; catches = catches; attributes = 0 }
+code catches bytes = record { max_stack = 4; max_locals = 1; bytes = bytes; catches = catches }
 
 abbrev pub method : (flags : ℕ) → (desc : List ℕ) → MethodTree
-method flags desc = record { flags = flags; name = codes "f"; desc = desc; code = None; attributes = 1 }
+method flags desc = record { flags = flags; name = codes "f"; desc = desc; code = None }
 
 -- what some bytes are decoded to
-abbrev pub sample : List ℕ → Result (List JInsn) Broken
+abbrev pub sample : List ℕ → Result (List JInsn) BrokenAt
 sample bytes = decoding (class 52) (method 9 (codes "()V")) (code [] bytes)
 
-abbrev pub broken : (rule offset : ℕ) → Result (List JInsn) Broken
+abbrev pub broken : (rule offset : ℕ) → Result (List JInsn) BrokenAt
 broken rule offset = Err (record { rule = rule; offset = offset })
 
 -- codes that break rule 103, and where
@@ -158,21 +158,21 @@ good = (
 
 -- ---- methods whose arguments or handlers break the rule
 
-abbrev pub with_method : (flags : ℕ) → (desc : List ℕ) → Result (List JInsn) Broken
+abbrev pub with_method : (flags : ℕ) → (desc : List ℕ) → Result (List JInsn) BrokenAt
 with_method flags desc = decoding (class 52) (method flags desc) (code [] (0xB1 ∷ []))
 
 -- over sipush 1, pop and return
-abbrev pub with_catch : (start end target : ℕ) → Result (List JInsn) Broken
+abbrev pub with_catch : (start end target : ℕ) → Result (List JInsn) BrokenAt
 with_catch start end target = decoding (class 52) (method 9 (codes "()V")) (code (record { start = start; end = end; target = target; class = None } ∷ []) (0x11 ∷ 0 ∷ 1 ∷ 0x57 ∷ 0xB1 ∷ []))
 
-abbrev pub returns : Result (List JInsn) Broken
+abbrev pub returns : Result (List JInsn) BrokenAt
 returns = Ok (insn 0 (jop.Return 0xB1) ∷ [])
 
-abbrev pub pushes : Result (List JInsn) Broken
+abbrev pub pushes : Result (List JInsn) BrokenAt
 pushes = Ok (insn 0 (jop.Number (pos 1)) ∷ insn 3 (jop.Stack 0x57) ∷ insn 4 (jop.Return 0xB1) ∷ [])
 
 -- what other codes are decoded to, and what they should be
-abbrev pub others : List (Result (List JInsn) Broken × Result (List JInsn) Broken)
+abbrev pub others : List (Result (List JInsn) BrokenAt × Result (List JInsn) BrokenAt)
 others =
     (with_method 9 (codes "(S)V"), returns)
     ∷ (with_method 9 (codes "(SS)V"), broken 103 0)  -- more parameters than locals

@@ -4,7 +4,7 @@ ghost use Rattle.std.specs.Prelude.{◌≡◌, ◌≤◌, ◌<◌, ◌^◌, List
 ghost use Rattle.cjc_bytes.specs.Refused.{IsUnlessNoMemory};
 ghost use Rattle.cjc_bytes.specs.declared.fault.Fault.TheVariants as faults;
 ghost use Rattle.cjc_code.specs.declared.insn.JInsn.{JInsn as Insn};
-ghost use Rattle.cjc_code.specs.declared.decoding.Broken.{Broken};
+ghost use Rattle.cjc_bytes.specs.declared.breaks.BrokenAt.{BrokenAt};
 ghost use Rattle.cjc_code.specs.Decoded.{least, decoding, decoding_at, Answers, IsBroken, HasCode, refusal_of};
 
 use crate::cutting::cut;
@@ -12,23 +12,15 @@ use crate::insn::JInsn;
 use crate::named::all_named;
 use crate::starts::starts;
 use crate::unfit::places;
-use cjc_bytes::{Bytes, Fault, NoMemory, Place, Refusal, Row, Rule, Stop};
+use cjc_bytes::{BrokenAt, Fault, NoMemory, Part, PlaceRef, Refusal, Row, Stop, refusal};
 use cjc_classfile::{ClassTree, Code, MethodTree};
 use std::alloc::Global;
-
-/// A rule that a code breaks, and the offset of its first place.
-#[derive(Clone, Copy)]
-pub struct Broken {
-    /// 103 or 303.
-    pub rule: u16,
-    /// In bytes, from the start of the code.
-    pub offset: u32,
-}
 
 /// Why the code of a method gave no instructions.
 #[derive(Clone, Copy)]
 pub enum DecodeError {
-    Broken(Broken),
+    /// Rule 103 or 303, and the offset from the start of the code.
+    Broken(BrokenAt),
     NoMemory,
 }
 
@@ -76,11 +68,11 @@ fn decode_code(
     let starts = starts(alloc, &cut, code.bytes.len())?;
     let places = places(alloc, class, method, code, &cut, &starts)?;
     if let Some(offset) = least(places.items()) {
-        return Err(DecodeError::Broken(Broken { rule: 103, offset }));
+        return Err(DecodeError::Broken(BrokenAt { rule: 103, offset }));
     }
     match all_named(alloc, class.pool.items(), cut.insns.items()) {
         Ok(insns) => Ok(insns),
-        Err(Stop::Broken(offset)) => Err(DecodeError::Broken(Broken { rule: 303, offset })),
+        Err(Stop::Broken(offset)) => Err(DecodeError::Broken(BrokenAt { rule: 303, offset })),
         Err(Stop::NoMemory) => Err(DecodeError::NoMemory),
     }
 }
@@ -116,23 +108,19 @@ pub fn refusal_of(
     file: &[u8],
     class: &ClassTree<'_>,
     method: u32,
-    broken: Broken,
+    broken: BrokenAt,
 ) -> Result<Refusal, NoMemory>
     requires { method < length class.now.methods }
     ensures { IfOk result (λ r. r ≡ refusal_of file.now class.now method broken) }
 {
     let method = &class.methods.items()[method as usize];
-    let mut member = Vec::from_slice(alloc, method.name.items())?;
-    member.extend_from_slice(method.desc.items())?;
-    Ok(Refusal {
-        rule: Rule(broken.rule),
-        place: Place {
-            file: Bytes::copy_of(alloc, file)?,
-            class: Bytes::copy_of(alloc, class.name.items())?,
-            member: Row::of(member),
-            offset: broken.offset,
-        },
-    })
+    let place = PlaceRef {
+        file,
+        class: class.name.items(),
+        part: Part::Method(method.name.items(), method.desc.items()),
+        offset: broken.offset,
+    };
+    refusal(alloc, broken.rule, place)
 }
 
 /// As `decode_method`, with a broken rule as the refusal of `refusal_of`.
@@ -150,7 +138,7 @@ pub fn decode(
 
     // A refusal is where the code breaks a rule, and where it does it is refused.
     ensures refused { IfErr result (IsBroken (decoding_at class.now method) (refusal_of file.now class.now method)) }
-    ensures breaks { (b : Broken) → decoding_at class.now method ≡ Err b → IsUnlessNoMemory result (Err (faults.Refused (refusal_of file.now class.now method b))) }
+    ensures breaks { (b : BrokenAt) → decoding_at class.now method ≡ Err b → IsUnlessNoMemory result (Err (faults.Refused (refusal_of file.now class.now method b))) }
 {
     match decode_method(alloc, class, method) {
         Ok(insns) => Ok(insns),

@@ -15,7 +15,7 @@ mod starts;
 mod table;
 mod unfit;
 
-pub use decoding::{Broken, DecodeError, decode, decode_method, refusal_of};
+pub use decoding::{DecodeError, decode, decode_method, refusal_of};
 pub use insn::{JCase, JInsn, JOp};
 pub use laws::{cuts, opcodes, rules, samples};
 pub use method_code::{Codes, MethodCode};

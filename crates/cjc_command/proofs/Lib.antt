@@ -4,3 +4,4 @@ pub mod Ahead
 pub mod Judging
 pub mod Published
 pub mod Acting
+pub mod OneAnswer

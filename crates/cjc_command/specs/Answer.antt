@@ -1,5 +1,5 @@
 -- What a command is, and what each answer of a run of it says.
-use Rattle.std.specs.Prelude.{◌≡◌, ◌≢◌, ◌⊎◌, ℕ, ◌+◌, ◌<◌, List, length, Option, None, IfSome, IfNone, IsSomeAnd, Result, Ok, Err}
+use Rattle.std.specs.Prelude.{◌≡◌, ◌≢◌, ◌⊎◌, ℕ, ◌+◌, ◌<◌, List, length, Option, Some, None, IfSome, IfNone, IsSomeAnd, Result, Ok, Err}
 use Rattle.std.specs.FinMap.{get}
 use Rattle.cjc_bytes.specs.declared.fault.Refusal.{Refusal}
 use Rattle.cjc_shelf.specs.Count.{Rose}
@@ -102,6 +102,18 @@ IsComplete command old new from to answer =
     (Rose old.faults new.faults → ⊥) → (Rose from.faults to.faults → ⊥)
     → IfSome (known_end old.files command.plan) (λ end. (inputs : command.Inputs) → end ≡ complete inputs
     → ((r : Refusal) → command.Makes inputs (Err r) → ⊥) → (answer ≡ status.NoMemory) ⊎ (answer ≡ status.Done))
+
+-- A run over these files, where the shelf tells them, no fault count rises and memory is there, ends so.
+pub record IsEndOver (command : Command) (files : Files) (answer : Status) : Type 0 where
+  pub old : Shelved
+  pub new : Shelved
+  pub from : Sunk
+  pub to : Sunk
+  pub told : old.files ≡ Some files
+  pub shelf : Rose old.faults new.faults → ⊥
+  pub sink : Rose from.faults to.faults → ⊥
+  pub memory : answer ≢ status.NoMemory
+  pub decided : IsDecided command old new from to answer
 
 -- What acting on a command gives.
 pub record Acts (command : Command) (old new : Shelved) (from to : Sunk) (answer : Status) : Type 0 where

@@ -73,7 +73,6 @@ fn is_the_class(class: &ClassTree<'_>) -> bool {
         && class.superclass.items() == b"java/lang/Object".as_slice()
         && class.pool.items().len() == 8
         && class.fields.items().len() == 0
-        && class.attributes == 0
         && class.methods.items().len() == 1
         && class.methods.items().iter().all(is_the_method)
 }

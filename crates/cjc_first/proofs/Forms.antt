@@ -4,7 +4,7 @@ use Rattle.std.proofs.lemmas.List.{length-append, length-replicate, take-append-
 use Rattle.cjc_classfile.specs.Code.{CodeTree}
 use Rattle.cjc_classfile.specs.declared.tree.ClassTree.{ClassTree}
 use Rattle.cjc_classfile.specs.declared.tree.MethodTree.{MethodTree}
-use Rattle.cjc_code.specs.declared.decoding.Broken.{Broken}
+use Rattle.cjc_bytes.specs.declared.breaks.BrokenAt.{BrokenAt}
 use Rattle.cjc_code.specs.declared.insn.JInsn.{JInsn}
 use Rattle.cjc_code.specs.Decoded.{decoding}
 use Rattle.cjc_code.specs.declared.method_code.MethodCode.{MethodCode}
@@ -53,7 +53,6 @@ form_with line tree method params code insns plain methods decoded sum = record 
     superclass = plain.head.superclass;
     interfaces = plain.alone.interfaces;
     fields = plain.alone.fields;
-    attributes = plain.alone.attributes;
     part = plain.inside.part;
     name = plain.inside.name;
     name_length = plain.name_length;
@@ -75,7 +74,7 @@ plain_of line tree form = record {
   short_name = form.short_name;
   name_length = form.name_length;
   head = record { major = form.major; pool = form.pool; flags = form.flags; superclass = form.superclass };
-  alone = record { interfaces = form.interfaces; fields = form.fields; attributes = form.attributes };
+  alone = record { interfaces = form.interfaces; fields = form.fields };
   inside = record { part = form.part; name = form.name; is_part = form.is_part };
 }
 
@@ -97,7 +96,6 @@ sum_code params code insns f s = record {
   locals = f.locals;
   size = s.size;
   catches = f.catches;
-  attributes = f.attributes;
 }
 
 pub sum_of : (params : ℕ) (code : CodeTree) (insns : List JInsn) → IsSumCode params code insns → HasSum params code.max_stack insns
@@ -106,7 +104,7 @@ sum_of params code insns h = record { is_sum = h.is_sum; stack_for_two = h.stack
 -- ---- the instructions of the one method
 
 -- where they are there, they are those that the code is decoded into
-one_decoded : (tree : ClassTree) (m : MethodTree) (code : CodeTree) (x : MethodCode) (r : Result (List JInsn) Broken) → decoding tree m code ≡ r → x ∷ [] ≡ code_with 0 0 r → decoding tree m code ≡ Ok x.insns
+one_decoded : (tree : ClassTree) (m : MethodTree) (code : CodeTree) (x : MethodCode) (r : Result (List JInsn) BrokenAt) → decoding tree m code ≡ r → x ∷ [] ≡ code_with 0 0 r → decoding tree m code ≡ Ok x.insns
 one_decoded tree m code x (Ok insns) is e = let same : insns ≡ x.insns = (let f : record { class = 0; method = 0; insns = insns } ≡ x = cc in ap (λ (c : MethodCode). c.insns) f) in is ∙ ap Ok same
 one_decoded tree m code x (Err broken) is e = absurd cc
 

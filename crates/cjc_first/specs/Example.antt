@@ -1,6 +1,6 @@
 -- A package of the form: `short f(short a) { return (short) (a + 1); }` in class p/T.
 use Rattle.std.specs.Prelude.{ℕ, true, codes, List, [], ◌∷◌, Some, pos, false}
-use Rattle.cjc_classfile.specs.declared.tree.PoolItem.TheVariants.{Class, Text, Other}
+use Rattle.cjc_classfile.specs.declared.tree.PoolItem.TheVariants.{Class, Other}
 use Rattle.cjc_classfile.specs.declared.tree.MethodTree.{MethodTree}
 use Rattle.cjc_classfile.specs.declared.tree.ClassTree.{ClassTree}
 use Rattle.cjc_classfile.specs.Code.{CodeTree}
@@ -22,7 +22,7 @@ abbrev pub example_line : PackageLine
 example_line = record { name = 112 ∷ []; aid = 0xA0 ∷ 0 ∷ 0 ∷ 0 ∷ 1 ∷ []; major = 1; minor = 0 }
 
 abbrev pub example_code : CodeTree
-example_code = record { max_stack = 2; max_locals = 1; bytes = 0x1A ∷ 0x04 ∷ 0x60 ∷ 0x93 ∷ 0xAC ∷ []; catches = []; attributes = 0 }
+example_code = record { max_stack = 2; max_locals = 1; bytes = 0x1A ∷ 0x04 ∷ 0x60 ∷ 0x93 ∷ 0xAC ∷ []; catches = [] }
 
 abbrev pub example_insns : List JInsn
 example_insns =
@@ -30,7 +30,7 @@ example_insns =
     ∷ record { at = 3; op = Narrow 0x93 } ∷ record { at = 4; op = Return 0xAC } ∷ []
 
 abbrev pub example_method : MethodTree
-example_method = record { flags = 0x0009; name = 102 ∷ []; desc = 40 ∷ 83 ∷ 41 ∷ 83 ∷ []; code = Some example_code; attributes = 1 }
+example_method = record { flags = 0x0009; name = 102 ∷ []; desc = 40 ∷ 83 ∷ 41 ∷ 83 ∷ []; code = Some example_code }
 
 abbrev pub example_class : ClassTree
 example_class = record {
@@ -39,10 +39,9 @@ example_class = record {
   name = 112 ∷ 47 ∷ 84 ∷ [];
   superclass = object;
   interfaces = [];
-  pool = Other ∷ Text ∷ Class (112 ∷ 47 ∷ 84 ∷ []) ∷ Text ∷ Class object ∷ Text ∷ Text ∷ Text ∷ [];
+  pool = Other ∷ Other ∷ Class (112 ∷ 47 ∷ 84 ∷ []) ∷ Other ∷ Class object ∷ Other ∷ Other ∷ Other ∷ [];
   fields = [];
   methods = example_method ∷ [];
-  attributes = 0;
 }
 
 -- java/lang/Object of token 0, with its constructor and `equals`

@@ -2,7 +2,7 @@
 use Rattle.std.specs.Prelude.{◌≡◌, ℕ, ◌≤◌, ◌<◌, ◌⊎◌, List, [], ◌∷◌, ◌++◌, length, drop, map, replicate, sum_by, Some, Ok, Bool, true, false, ◌==◌, nat_lt, nat_le, ◌&&◌, ◌||◌}
 use Rattle.std.specs.List.{list_all, list_any}
 use Rattle.cjc_classfile.specs.declared.tree.PoolItem.{PoolItem}
-use Rattle.cjc_classfile.specs.declared.tree.PoolItem.TheVariants.{Class, Text}
+use Rattle.cjc_classfile.specs.declared.tree.PoolItem.TheVariants.{Class, Other}
 use Rattle.cjc_classfile.specs.declared.tree.MethodTree.{MethodTree}
 use Rattle.cjc_classfile.specs.declared.tree.ClassTree.{ClassTree}
 use Rattle.cjc_classfile.specs.Code.{CodeTree}
@@ -46,10 +46,10 @@ pub record IsPart (name : List ℕ) : Type 0 where
 abbrev pub shorts : ℕ → List ℕ
 shorts params = 40 ∷ replicate params 83 ++ 41 ∷ 83 ∷ []
 
--- a class name or a text
+-- a class name, or what code doesn't name
 abbrev pub is_name_item : PoolItem → Bool
 is_name_item (Class name) = true
-is_name_item Text = true
+is_name_item Other = true
 is_name_item item = false
 
 -- ---- instructions
@@ -99,9 +99,8 @@ pub record IsSumCode (params : ℕ) (code : CodeTree) (insns : List JInsn) : Typ
   pub locals : code.max_locals ≤ 15
   pub size : sum_by widest (ops_of insns) ≤ 32767
   pub catches : code.catches ≡ []
-  pub attributes : code.attributes ≡ 0
 
--- a public static method of shorts with such a code and no attribute beside it
+-- a public static method of shorts with such a code
 pub record IsSumMethod (params : ℕ) (method : MethodTree) (code : CodeTree) (insns : List JInsn) : Type 0 where
   pub flags : method.flags ≡ 0x0009
   pub name : IsPart method.name
@@ -110,7 +109,6 @@ pub record IsSumMethod (params : ℕ) (method : MethodTree) (code : CodeTree) (i
   pub desc : method.desc ≡ shorts params
   pub few : params ≤ 15
   pub has_code : method.code ≡ Some code
-  pub attributes : method.attributes ≡ 1
   pub is_sum : IsSumCode params code insns
 
 -- The class file of a package is of the form.
@@ -122,7 +120,6 @@ pub record IsFirstForm (line : PackageLine) (tree : ClassTree) : Type 0 where
   pub superclass : tree.superclass ≡ object
   pub interfaces : tree.interfaces ≡ []
   pub fields : tree.fields ≡ []
-  pub attributes : tree.attributes ≡ 0
   pub part : List ℕ
   pub name : tree.name ≡ line.name ++ 47 ∷ part
   -- as in each class file

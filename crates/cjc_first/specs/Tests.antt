@@ -13,7 +13,7 @@ use Rattle.cjc_code.specs.declared.insn.JOp.TheVariants.{Load}
 use Rattle.cjc_first.specs.Selected.{widest}
 use Rattle.cjc_first.specs.FirstForm.{is_sum as is_sum_of, is_iadd, ops_of, is_name_item, object, IsPart, PackageLine, IsFirstForm}
 
--- The numbers of a code are small, and nothing stands beside its instructions.
+-- The numbers of a code are small, and it has no handlers.
 pub record HasPlainFrame (params : ℕ) (code : CodeTree) : Type 0 where
   pub length : length code.bytes ≤ 65535
   pub some_stack : 1 ≤ code.max_stack
@@ -21,7 +21,6 @@ pub record HasPlainFrame (params : ℕ) (code : CodeTree) : Type 0 where
   pub params_fit : params ≤ code.max_locals
   pub locals : code.max_locals ≤ 15
   pub catches : code.catches ≡ []
-  pub attributes : code.attributes ≡ 0
 
 -- The instructions are those of the form, and the stack is deep enough for them.
 pub record HasSum (params max_stack : ℕ) (insns : List JInsn) : Type 0 where
@@ -49,7 +48,6 @@ pub record HasPlainHead (tree : ClassTree) : Type 0 where
 pub record HasMethodsAlone (tree : ClassTree) : Type 0 where
   pub interfaces : tree.interfaces ≡ []
   pub fields : tree.fields ≡ []
-  pub attributes : tree.attributes ≡ 0
 
 -- The class is of the form, but for its method.
 pub record HasPlainClass (owner : List ℕ) (tree : ClassTree) : Type 0 where

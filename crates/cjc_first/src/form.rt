@@ -179,7 +179,7 @@ fn is_small(insns: &[JInsn]) -> bool
     true
 }
 
-// Whether the frame is small enough for a short header, and nothing stands beside the instructions.
+// Whether the frame is small enough for a short header, and there are no handlers.
 fn has_plain_frame(params: u8, code: &Code<'_>) -> bool
     ensures { IsTrue result ↔ HasPlainFrame params code.now }
 {
@@ -189,7 +189,6 @@ fn has_plain_frame(params: u8, code: &Code<'_>) -> bool
         && u16::from(params) <= code.max_locals
         && code.max_locals <= 15
         && code.catches.items().is_empty()
-        && code.attributes == 0
 }
 
 // Whether a code with these instructions is of the form.
@@ -220,7 +219,7 @@ fn sum_method(method: &MethodTree<'_>, insns: &[JInsn]) -> Option<u8>
     ensures found { IfSome result (λ params. (code : CodeTree) × IsSumMethod params method.now code insns.now) }
     ensures none { IfNone result ((params : ℕ) (code : CodeTree) → IsSumMethod params method.now code insns.now → ⊥) }
 {
-    if method.flags != 0x0009 || !is_method_name(method.name.items()) || method.attributes != 1 {
+    if method.flags != 0x0009 || !is_method_name(method.name.items()) {
         return None;
     }
     let params = short_params(method.desc.items())?;
@@ -234,13 +233,13 @@ fn sum_method(method: &MethodTree<'_>, insns: &[JInsn]) -> Option<u8>
     }
 }
 
-// Whether the items are names and texts alone.
+// Whether the items are class names and what code doesn't name alone.
 fn are_name_items(items: &[PoolItem]) -> bool
     ensures { result ≡ list_all is_name_item_lem items.now }
 {
     let mut left = items;
     while let [first, more @ ..] = left {
-        if !matches!(first, PoolItem::Class(_) | PoolItem::Text) {
+        if !matches!(first, PoolItem::Class(_) | PoolItem::Other) {
             return false;
         }
         left = more;
@@ -293,7 +292,7 @@ fn has_plain_head(tree: &ClassTree<'_>) -> bool
 fn has_methods_alone(tree: &ClassTree<'_>) -> bool
     ensures { IsTrue result ↔ HasMethodsAlone tree.now }
 {
-    tree.interfaces.items().is_empty() && tree.fields.items().is_empty() && tree.attributes == 0
+    tree.interfaces.items().is_empty() && tree.fields.items().is_empty()
 }
 
 // Whether the class is of the form, but for its method.

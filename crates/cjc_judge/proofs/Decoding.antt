@@ -13,7 +13,7 @@ use Rattle.cjc_classfile.specs.Code.{CodeTree}
 use Rattle.cjc_classfile.specs.Fits.{MethodFits, CodeFits, ClassFits}
 use Rattle.cjc_classfile.specs.declared.tree.MethodTree.{MethodTree}
 use Rattle.cjc_classfile.specs.declared.tree.ClassTree.{ClassTree}
-use Rattle.cjc_code.specs.declared.decoding.Broken.{Broken}
+use Rattle.cjc_bytes.specs.declared.breaks.BrokenAt.{BrokenAt}
 use Rattle.cjc_code.specs.Cut.{cut}
 use Rattle.cjc_code.specs.Decoded.{HasCode, least, unless_unfit, unless_foreign, decoding, of_code, of_method, decoding_at, refusal_of}
 use Rattle.cjc_code.specs.Named.{all_named}
@@ -29,28 +29,28 @@ use Rattle.cjc_judge.specs.declared.reading.Foreign.{Foreign}
 
 -- ---- one method
 
-foreign_rule : (found : Result (List JInsn) ℕ) (b : Broken) → unless_foreign found ≡ Err b → b.rule ≡ 303
+foreign_rule : (found : Result (List JInsn) ℕ) (b : BrokenAt) → unless_foreign found ≡ Err b → b.rule ≡ 303
 foreign_rule (Ok insns) b e = absurd cc
-foreign_rule (Err k) b e = let is : record { rule = 303; offset = k } ≡ b = cc in sym (ap (λ (x : Broken). x.rule) is)
+foreign_rule (Err k) b e = let is : record { rule = 303; offset = k } ≡ b = cc in sym (ap (λ (x : BrokenAt). x.rule) is)
 
-unfit_rule : (o : Option ℕ) (found : Result (List JInsn) ℕ) (b : Broken) → unless_unfit o (unless_foreign found) ≡ Err b → (b.rule ≡ 103) ⊎ (b.rule ≡ 303)
-unfit_rule (Some k) found b e = let is : record { rule = 103; offset = k } ≡ b = cc in inl (sym (ap (λ (x : Broken). x.rule) is))
+unfit_rule : (o : Option ℕ) (found : Result (List JInsn) ℕ) (b : BrokenAt) → unless_unfit o (unless_foreign found) ≡ Err b → (b.rule ≡ 103) ⊎ (b.rule ≡ 303)
+unfit_rule (Some k) found b e = let is : record { rule = 103; offset = k } ≡ b = cc in inl (sym (ap (λ (x : BrokenAt). x.rule) is))
 unfit_rule None found b e = inr (foreign_rule found b e)
 
-code_rule : (tree : ClassTree) (m : MethodTree) (o : Option CodeTree) (b : Broken) → of_code tree m o ≡ Err b → (b.rule ≡ 103) ⊎ (b.rule ≡ 303)
+code_rule : (tree : ClassTree) (m : MethodTree) (o : Option CodeTree) (b : BrokenAt) → of_code tree m o ≡ Err b → (b.rule ≡ 103) ⊎ (b.rule ≡ 303)
 unfolding decoding
 code_rule tree m None b e = absurd cc
 code_rule tree m (Some code) b e = unfit_rule (least (unfit_code tree m code)) (all_named tree.pool (cut code.bytes).insns) b e
 
-method_rule : (tree : ClassTree) (o : Option MethodTree) (b : Broken) → of_method tree o ≡ Err b → (b.rule ≡ 103) ⊎ (b.rule ≡ 303)
+method_rule : (tree : ClassTree) (o : Option MethodTree) (b : BrokenAt) → of_method tree o ≡ Err b → (b.rule ≡ 103) ⊎ (b.rule ≡ 303)
 method_rule tree None b e = absurd cc
 method_rule tree (Some m) b e = code_rule tree m m.code b e
 
 -- a rule that is not 303 is 103
-pub unfit_by : (file : List ℕ) (tree : ClassTree) (k : ℕ) (b : Broken) (r : Refusal) → decoding_at tree k ≡ Err b → (b.rule ≡ 303 → ⊥) → r ≡ refusal_of file tree k b → BreaksBy file tree k 103 r
+pub unfit_by : (file : List ℕ) (tree : ClassTree) (k : ℕ) (b : BrokenAt) (r : Refusal) → decoding_at tree k ≡ Err b → (b.rule ≡ 303 → ⊥) → r ≡ refusal_of file tree k b → BreaksBy file tree k 103 r
 unfit_by file tree k b r is not e = elim (method_rule tree (slice_get tree.methods k) b is) [
   | inl same ↦ (
-      let whole : b ≡ record { rule = 103; offset = b.offset } = ap (λ n. let x : Broken = record { rule = n; offset = b.offset } in x) same in
+      let whole : b ≡ record { rule = 103; offset = b.offset } = ap (λ n. let x : BrokenAt = record { rule = n; offset = b.offset } in x) same in
       (b.offset, is ∙ ap Err whole, e ∙ ap (refusal_of file tree k) whole))
   | inr other ↦ absurd (not other)
 ]
@@ -68,7 +68,7 @@ has_code tree k m code fits is has =
     let desc : length m.desc ≤ 65535 = method.desc in
     record { method = m; code = code; there = is; has = has; bytes = short.bytes; desc = omega arith }
 
-methods_more : {A : Type 0} (f : ℕ → ℕ → Result (List JInsn) Broken → List A) (class n : ℕ) (tree : ClassTree) (ms : List MethodTree) (m : MethodTree)
+methods_more : {A : Type 0} (f : ℕ → ℕ → Result (List JInsn) BrokenAt → List A) (class n : ℕ) (tree : ClassTree) (ms : List MethodTree) (m : MethodTree)
     → of_methods f class n tree (ms ++ m ∷ []) ≡ of_methods f class n tree ms ++ where_code (f class (n + length ms)) tree m m.code
 methods_more f class n tree [] m = append-nil (where_code (f class n) tree m m.code) ∙ ap (λ k. where_code (f class k) tree m m.code) (sym (add-zero n))
 methods_more f class n tree (x ∷ xs) m =
@@ -109,7 +109,7 @@ all_read file class tree items old new from to bound is below above r =
       λ k offset breaks. ⊎_elim (λ below. r.fine k (omega arith) offset breaks) (λ beyond. past tree k offset (omega arith) breaks) (cases_lt k (length tree.methods)),
     )
   where
-    past_is : (tree : ClassTree) (o : Option MethodTree) (b : Broken) → o ≡ None → of_method tree o ≡ Err b → ⊥
+    past_is : (tree : ClassTree) (o : Option MethodTree) (b : BrokenAt) → o ≡ None → of_method tree o ≡ Err b → ⊥
     past_is tree None b e f = absurd cc
     past_is tree (Some m) b e f = absurd cc
 
@@ -130,7 +130,7 @@ stands tree items k m same lt is =
 
 module _ (class : ℕ) (tree : ClassTree) (k : ℕ) (m : MethodTree) (here : Stands tree k m) where
   -- what was put of each method, with that of one more
-  put : {A : Type 0} (f : ℕ → ℕ → Result (List JInsn) Broken → List A) (old mid new more : List A) → mid ≡ old ++ of_methods f class 0 tree (take k tree.methods) → new ≡ mid ++ more → where_code (f class k) tree m m.code ≡ more
+  put : {A : Type 0} (f : ℕ → ℕ → Result (List JInsn) BrokenAt → List A) (old mid new more : List A) → mid ≡ old ++ of_methods f class 0 tree (take k tree.methods) → new ≡ mid ++ more → where_code (f class k) tree m m.code ≡ more
       → new ≡ old ++ of_methods f class 0 tree (take (k + 1) tree.methods)
   put f old mid new more codes e own =
       let cs = of_methods f class 0 tree (take k tree.methods) in
@@ -140,7 +140,7 @@ module _ (class : ℕ) (tree : ClassTree) (k : ℕ) (m : MethodTree) (here : Sta
       e ∙ ap (λ c. c ++ more) codes ∙ append_assoc old cs more ∙ ap (λ c. old ++ c) (sym whole)
 
   -- by what decoding it gives
-  decoded_is : {A : Type 0} (f : ℕ → ℕ → Result (List JInsn) Broken → List A) (code : CodeTree) → m.code ≡ Some code → where_code (f class k) tree m m.code ≡ f class k (decoding_at tree k)
+  decoded_is : {A : Type 0} (f : ℕ → ℕ → Result (List JInsn) BrokenAt → List A) (code : CodeTree) → m.code ≡ Some code → where_code (f class k) tree m m.code ≡ f class k (decoding_at tree k)
   decoded_is f code has = ap (where_code (f class k) tree m) has ∙ ap (f class k) (sym (ap (of_method tree) here.is ∙ ap (of_code tree m) has))
 
   -- without code there are no instructions
@@ -184,5 +184,5 @@ pub refuses : (file : List ℕ) (class : ℕ) (tree : ClassTree) (k : ℕ) (r : 
 refuses file class tree k r old from to (offset, is, refused) put = (
   sym (append-nil old) ∙ ap (λ x. old ++ code_with class k x) (sym is),
   put ∙ ap (λ n. let x : Foreign = record { class = class; method = k; offset = n } in from ++ x ∷ []) (ap (λ (x : Refusal). x.place.offset) refused) ∙ ap (λ x. from ++ foreign_with class k x) (sym is),
-  λ other e. let same : record { rule = 303; offset = offset } ≡ record { rule = 103; offset = other } = (let g = sym is ∙ e in cc) in let rules : 303 ≡ 103 = ap (λ (b : Broken). b.rule) same in omega arith,
+  λ other e. let same : record { rule = 303; offset = offset } ≡ record { rule = 103; offset = other } = (let g = sym is ∙ e in cc) in let rules : 303 ≡ 103 = ap (λ (b : BrokenAt). b.rule) same in omega arith,
 )

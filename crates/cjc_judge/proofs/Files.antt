@@ -15,7 +15,7 @@ use Rattle.cjc_classfile.specs.ClassFile.{class_file, refusal_at}
 use Rattle.cjc_classfile.specs.Fits.{ClassFits}
 use Rattle.cjc_classfile.specs.declared.tree.ClassTree.{ClassTree}
 use Rattle.cjc_classfile.proofs.Fitting.{spelt_fits}
-use Rattle.cjc_code.specs.declared.decoding.Broken.{Broken}
+use Rattle.cjc_bytes.specs.declared.breaks.BrokenAt.{BrokenAt}
 use Rattle.cjc_code.specs.declared.method_code.MethodCode.{MethodCode}
 use Rattle.cjc_export.specs.ExportFile.{export_file}
 use Rattle.cjc_export.specs.Writable.{IsWritable}
@@ -73,7 +73,7 @@ export_first line bytes k is breaks index (no_export_file place c other) =
 same_offset : (tree : ClassTree) (method rule a b : ℕ) → CodeBreaks tree method rule a → CodeBreaks tree method rule b → a ≡ b
 same_offset tree method rule a b e f =
     let same : record { rule = rule; offset = a } ≡ record { rule = rule; offset = b } = (let g = sym e ∙ f in cc) in
-    ap (λ (x : Broken). x.offset) same
+    ap (λ (x : BrokenAt). x.offset) same
 
 compared : (a b : ℕ) → (b < a) ⊎ ((a ≡ b) ⊎ (a < b))
 compared a b = ⊎_elim (λ before. inl before) (λ not. ⊎_elim (λ later. inr (inr later)) (λ no. inr (inl (omega arith))) (cases_lt a b)) (cases_lt b a)
@@ -234,7 +234,7 @@ pub record ReadSoFar (lines : List FileLine) (files : List (List ℕ)) (i : ℕ)
   pub are_read : IsReadAs (take i lines) (take i files) read
   pub count : length read.classes ≤ i
 
-classes_put : {A : Type 0} (f : ℕ → ℕ → Result (List JInsn) Broken → List A) (n : ℕ) (trees : List ClassTree) (tree : ClassTree) → of_classes f n (trees ++ tree ∷ []) ≡ of_classes f n trees ++ of_methods f (n + length trees) 0 tree tree.methods
+classes_put : {A : Type 0} (f : ℕ → ℕ → Result (List JInsn) BrokenAt → List A) (n : ℕ) (trees : List ClassTree) (tree : ClassTree) → of_classes f n (trees ++ tree ∷ []) ≡ of_classes f n trees ++ of_methods f (n + length trees) 0 tree tree.methods
 classes_put f n [] tree = append-nil (of_methods f n 0 tree tree.methods) ∙ ap (λ k. of_methods f k 0 tree tree.methods) (sym (add-zero n))
 classes_put f n (t ∷ ts) tree =
     let at : n + 1 + length ts ≡ n + suc (length ts) = omega arith in
@@ -242,7 +242,7 @@ classes_put f n (t ∷ ts) tree =
     ∙ sym (append_assoc (of_methods f n 0 t t.methods) (of_classes f (n + 1) ts) (of_methods f (n + 1 + length ts) 0 tree tree.methods))
     ∙ ap (λ k. (of_methods f n 0 t t.methods ++ of_classes f (n + 1) ts) ++ of_methods f k 0 tree tree.methods) at
 
-class_put : {A : Type 0} (f : ℕ → ℕ → Result (List JInsn) Broken → List A) (trees : List ClassTree) (tree : ClassTree) → of_classes f 0 (trees ++ tree ∷ []) ≡ of_classes f 0 trees ++ of_methods f (length trees) 0 tree tree.methods
+class_put : {A : Type 0} (f : ℕ → ℕ → Result (List JInsn) BrokenAt → List A) (trees : List ClassTree) (tree : ClassTree) → of_classes f 0 (trees ++ tree ∷ []) ≡ of_classes f 0 trees ++ of_methods f (length trees) 0 tree tree.methods
 class_put f trees tree =
     let at : 0 + length trees ≡ length trees = omega arith in
     classes_put f 0 trees tree ∙ ap (λ k. of_classes f 0 trees ++ of_methods f k 0 tree tree.methods) at

@@ -15,7 +15,7 @@ use Rattle.cjc_list.specs.Listed.{ListTree}
 use Rattle.cjc_world.specs.Classes.{Class, Member, declared, numbered, size, all_classes}
 use Rattle.cjc_world.specs.Files.{Files}
 use Rattle.cjc_world.specs.Rules.{at_class, at_member, told, when, class_rules, member_rules, members, members_before, members_from, class_breaks, classes_breaks, class_file_breaks, export_file_breaks, breaks_from, breaks}
-use Rattle.cjc_bytes.specs.Breaks.{Break, Among, foremost, after, IsFirst, Spot, broken_at, list_spot}
+use Rattle.cjc_bytes.specs.Breaks.{Break, Among, IsFirst, Spot, broken_at, list_spot}
 use Rattle.cjc_judge.specs.Spelt.{FileTree, of_class, of_export, SpellsTree, SpellTrees, classes_of}
 use Rattle.cjc_judge.specs.Rules.{FileBreach, no_class_file, no_instructions, no_export_file, file_rank, BreaksFile, files_spelt, AreWorld, BreaksWorld, BreaksNames, BreaksForeign, BreaksSubset, BreaksAnyType, BreaksTypes, BreaksTokens, BreaksGroup, AnyBreaks, foreign_breaks, settings_of, Breach, of_file, of_world, of_names, of_group, OnLevels, on_first, on_second, has_applets, IsFirstRefused, IsFirstBroken}
 use Rattle.cjc_judge.specs.declared.groups.Group.{Group}
@@ -29,7 +29,8 @@ use Rattle.cjc_subset.specs.Checks.{check_breaks}
 use Rattle.cjc_subset.specs.Places.{at_class as at_spot}
 use Rattle.cjc_tokens.specs.Rules.{tested_breaks}
 use Rattle.cjc_tokens.specs.Rules as tokens
-use Rattle.cjc_judge.proofs.Families.{IsLanguage, names_second, foreigns_third, checks_language, tokens_fourth, type_fifth}
+use Rattle.cjc_judge.proofs.Each.{Each, each_none, each_more, each_append}
+use Rattle.cjc_judge.proofs.Families.{IsSecond, IsLanguage, names_second, foreigns_third, checks_language, tokens_fourth, type_fifth}
 use Rattle.cjc_judge.proofs.Files.{files_fine}
 
 -- ---- two groups
@@ -83,31 +84,13 @@ first_broken list files tested r f = record {
   is = f.is;
 }
 
-file_family : (lines : List FileLine) (files : List (List ℕ)) (b : Break) → BreaksFile lines files b → b.rank.family ≡ 1
+pub file_family : (lines : List FileLine) (files : List (List ℕ)) (b : Break) → BreaksFile lines files b → b.rank.family ≡ 1
 file_family lines files b (i, at, breach, is) = ap (λ (x : Break). x.rank.family) is ∙ by i at.line at.bytes breach
   where
     by : (i : ℕ) (line : FileLine) (bytes : List ℕ) (x : FileBreach line bytes) → (file_rank i line bytes x).family ≡ 1
     by i line bytes (no_class_file p c h) = refl
     by i line bytes (no_instructions t m o c s h) = refl
     by i line bytes (no_export_file p c h) = refl
-
--- All of these are of the second hundred.
-record InSecond (bs : List Break) : Type 0 where
-  family : (b : Break) → Among b bs → b.rank.family ≡ 2
-
-second_none : InSecond []
-second_none = record { family = λ b i. elim i [ ] }
-
-second_more : (x : Break) (xs : List Break) → x.rank.family ≡ 2 → InSecond xs → InSecond (x ∷ xs)
-second_more x xs two p = record { family = by }
-  where
-    by : (b : Break) → Among b (x ∷ xs) → b.rank.family ≡ 2
-    by b foremost = two
-    by b (after i) = p.family b i
-
-second_append : (xs ys : List Break) → InSecond xs → InSecond ys → InSecond (xs ++ ys)
-second_append [] ys p q = q
-second_append (x ∷ xs) ys p q = second_more x (xs ++ ys) (p.family x foremost) (second_append xs ys (record { family = λ b i. p.family b (after i) }) q)
 
 -- rules of the second hundred
 AreSecond : List ℕ → Type 0
@@ -133,75 +116,75 @@ member_rules_second : (w : List Class) (c : Class) (ms : List Member) (i : ℕ) 
 unfolding member_rules
 member_rules_second w c ms i name desc = are_append _ _ (are_when _ 202 refl) (are_when _ 203 refl)
 
-second_map : (at : ℕ → Break) (rules : List ℕ) → ((rule : ℕ) → (at rule).rank.family ≡ rule / 100) → AreSecond rules → InSecond (map at rules)
+second_map : (at : ℕ → Break) (rules : List ℕ) → ((rule : ℕ) → (at rule).rank.family ≡ rule / 100) → AreSecond rules → Each IsSecond (map at rules)
 unfolding AreSecond
-second_map at [] is two = second_none
-second_map at (rule ∷ rules) is two = second_more (at rule) (map at rules) (is rule ∙ two.0) (second_map at rules is two.1)
+second_map at [] is two = each_none IsSecond
+second_map at (rule ∷ rules) is two = each_more IsSecond (at rule) (map at rules) (is rule ∙ two.0) (second_map at rules is two.1)
 
-members_second : (file : FileKey) (name : List ℕ) (k : ℕ) (w : List Class) (c : Class) (field : Bool) (i : ℕ) (ms : List Member) → InSecond (members_from file name k w c field i ms)
+members_second : (file : FileKey) (name : List ℕ) (k : ℕ) (w : List Class) (c : Class) (field : Bool) (i : ℕ) (ms : List Member) → Each IsSecond (members_from file name k w c field i ms)
 unfolding members_from
-members_second file name k w c field i [] = second_none
+members_second file name k w c field i [] = each_none IsSecond
 members_second file name k w c field i (m ∷ ms) =
-    second_append _ _ (second_map (λ rule. at_member file name k c.name (members_before field c + i + 1) (told field m.name m.desc) rule) _ (λ rule. refl) (member_rules_second w c (members field c) i m.name m.desc)) (members_second file name k w c field (i + 1) ms)
+    each_append IsSecond _ _ (second_map (λ rule. at_member file name k c.name (members_before field c + i + 1) (told field m.name m.desc) rule) _ (λ rule. refl) (member_rules_second w c (members field c) i m.name m.desc)) (members_second file name k w c field (i + 1) ms)
 
-class_second : (owner : List ℕ) (file : FileKey) (name : List ℕ) (k : ℕ) (w : List Class) (c : Class) → InSecond (class_breaks owner file name k w c)
+class_second : (owner : List ℕ) (file : FileKey) (name : List ℕ) (k : ℕ) (w : List Class) (c : Class) → Each IsSecond (class_breaks owner file name k w c)
 unfolding class_breaks
 class_second owner file name k w c =
-    second_append _ _ (second_append _ _ (second_map (λ rule. at_class file name k c.name rule) _ (λ rule. refl) (class_rules_second owner w c)) (members_second file name k w c true 0 c.fields)) (members_second file name k w c false 0 c.methods)
+    each_append IsSecond _ _ (each_append IsSecond _ _ (second_map (λ rule. at_class file name k c.name rule) _ (λ rule. refl) (class_rules_second owner w c)) (members_second file name k w c true 0 c.fields)) (members_second file name k w c false 0 c.methods)
 
-classes_second : (owner : List ℕ) (file : FileKey) (name : List ℕ) (k : ℕ) (w cs : List Class) → InSecond (classes_breaks owner file name k w cs)
+classes_second : (owner : List ℕ) (file : FileKey) (name : List ℕ) (k : ℕ) (w cs : List Class) → Each IsSecond (classes_breaks owner file name k w cs)
 unfolding classes_breaks
-classes_second owner file name k w [] = second_none
-classes_second owner file name k w (c ∷ cs) = second_append _ _ (class_second owner file name k w c) (classes_second owner file name (k + 1) w cs)
+classes_second owner file name k w [] = each_none IsSecond
+classes_second owner file name k w (c ∷ cs) = each_append IsSecond _ _ (class_second owner file name k w c) (classes_second owner file name (k + 1) w cs)
 
-class_file_second : (files : Files) (file : FileKey) (name : List ℕ) (w : List Class) (number : ℕ) (o : Option ClassTree) → InSecond (class_file_breaks files file name w number o)
-class_file_second files file name w number None = second_none
+class_file_second : (files : Files) (file : FileKey) (name : List ℕ) (w : List Class) (number : ℕ) (o : Option ClassTree) → Each IsSecond (class_file_breaks files file name w number o)
+class_file_second files file name w number None = each_none IsSecond
 class_file_second files file name w number (Some c) = class_second files.package_name file name 1 w (declared number c)
 
-export_file_second : (files : Files) (file : FileKey) (name : List ℕ) (w : List Class) (e number : ℕ) (o : Option ExportTree) → InSecond (export_file_breaks files file name w e number o)
-export_file_second files file name w e number None = second_none
+export_file_second : (files : Files) (file : FileKey) (name : List ℕ) (w : List Class) (e number : ℕ) (o : Option ExportTree) → Each IsSecond (export_file_breaks files file name w e number o)
+export_file_second files file name w e number None = each_none IsSecond
 export_file_second files file name w e number (Some t) =
-    second_append _ _ (second_map (λ rule. at_class file name 0 [] rule) _ (λ rule. refl) (are_when _ 202 refl)) (classes_second files.package_name file name 1 w (numbered number t.classes))
+    each_append IsSecond _ _ (second_map (λ rule. at_class file name 0 [] rule) _ (λ rule. refl) (are_when _ 202 refl)) (classes_second files.package_name file name 1 w (numbered number t.classes))
 
-lines_second : (files : Files) (w : List Class) (k c e i : ℕ) (lines : List FileLine) → InSecond (breaks_from files w k c e i lines)
+lines_second : (files : Files) (w : List Class) (k c e i : ℕ) (lines : List FileLine) → Each IsSecond (breaks_from files w k c e i lines)
 unfolding breaks_from
-lines_second files w k c e i [] = second_none
+lines_second files w k c e i [] = each_none IsSecond
 lines_second files w k c e i (line ∷ lines) = by line.class_file (λ c e i. lines_second files w (k + 1) c e i lines)
   where
-    by : (b : Bool) → ((c e i : ℕ) → InSecond (breaks_from files w (k + 1) c e i lines))
-        → InSecond (if b
+    by : (b : Bool) → ((c e i : ℕ) → Each IsSecond (breaks_from files w (k + 1) c e i lines))
+        → Each IsSecond (if b
         then class_file_breaks files (keys.Line k) line.name w c (slice_get files.classes c) ++ breaks_from files w (k + 1) (c + 1) e i lines
         else export_file_breaks files (keys.Line k) line.name w e i (slice_get files.exports e) ++ breaks_from files w (k + 1) c (e + 1) (i + size (slice_get files.exports e)) lines)
-    by true more = second_append _ _ (class_file_second files (keys.Line k) line.name w c (slice_get files.classes c)) (more (c + 1) e i)
-    by false more = second_append _ _ (export_file_second files (keys.Line k) line.name w e i (slice_get files.exports e)) (more c (e + 1) (i + size (slice_get files.exports e)))
+    by true more = each_append IsSecond _ _ (class_file_second files (keys.Line k) line.name w c (slice_get files.classes c)) (more (c + 1) e i)
+    by false more = each_append IsSecond _ _ (export_file_second files (keys.Line k) line.name w e i (slice_get files.exports e)) (more c (e + 1) (i + size (slice_get files.exports e)))
 
-breaks_second : (list : List ℕ) (files : Files) → InSecond (breaks list files)
+breaks_second : (list : List ℕ) (files : Files) → Each IsSecond (breaks list files)
 unfolding breaks
-breaks_second list files = second_append _ _ (second_map (λ rule. broken_at (list_spot list) rule) _ (λ rule. refl) (are_when _ 207 refl)) (lines_second files (all_classes files) 0 0 0 0 files.lines)
+breaks_second list files = each_append IsSecond _ _ (second_map (λ rule. broken_at (list_spot list) rule) _ (λ rule. refl) (are_when _ 207 refl)) (lines_second files (all_classes files) 0 0 0 0 files.lines)
 
-world_family : (list : ListTree) (files : List (List ℕ)) (b : Break) → BreaksWorld list files b → b.rank.family ≡ 2
-world_family list files b (trees, spelt, among) = (breaks_second list.name (files_spelt list trees)).family b among
+pub world_family : (list : ListTree) (files : List (List ℕ)) (b : Break) → BreaksWorld list files b → b.rank.family ≡ 2
+world_family list files b (trees, spelt, among) = (breaks_second list.name (files_spelt list trees)).holds b among
 
-names_family : (list : ListTree) (files : List (List ℕ)) (b : Break) → BreaksNames list files b → b.rank.family ≡ 2
-names_family list files b (trees, world, among) = (names_second (files_spelt list trees) (all_codes (classes_of trees))).family b among
+pub names_family : (list : ListTree) (files : List (List ℕ)) (b : Break) → BreaksNames list files b → b.rank.family ≡ 2
+names_family list files b (trees, world, among) = (names_second (files_spelt list trees) (all_codes (classes_of trees))).holds b among
 
 pub none_among : (b : Break) → Among b [] → ⊥
 none_among b i = elim i [ ]
 
 foreign_family : (list : ListTree) (files : List (List ℕ)) (b : Break) → BreaksForeign list files b → b.rank.family ≡ 3
-foreign_family list files b (trees, spelt, among) = (foreigns_third (files_spelt list trees) (all_foreigns (classes_of trees))).family b among
+foreign_family list files b (trees, spelt, among) = (foreigns_third (files_spelt list trees) (all_foreigns (classes_of trees))).holds b among
 
-subset_family : (list : ListTree) (files : List (List ℕ)) (b : Break) → BreaksSubset list files b → IsLanguage b.rank.family
-subset_family list files b (trees, world, among) = (checks_language list.name (files_spelt list trees) (all_codes (classes_of trees)) (settings_of list)).family b among
+subset_family : (list : ListTree) (files : List (List ℕ)) (b : Break) → BreaksSubset list files b → IsLanguage b
+subset_family list files b (trees, world, among) = (checks_language list.name (files_spelt list trees) (all_codes (classes_of trees)) (settings_of list)).holds b among
 
 tokens_family : (list : ListTree) (files : List (List ℕ)) (b : Break) → BreaksTokens list files b → b.rank.family ≡ 4
-tokens_family list files b (trees, world, among) = (tokens_fourth (has_applets list) (files_spelt list trees)).family b among
+tokens_family list files b (trees, world, among) = (tokens_fourth (has_applets list) (files_spelt list trees)).holds b among
 
 types_family : (list : ListTree) (files : List (List ℕ)) (b : Break) → BreaksTypes list files b → b.rank.family ≡ 5
 types_family list files b (trees, world, (i, code, at, h)) = type_fifth (files_spelt list trees) code b h
 
 -- the groups behind names are of the third hundred or a later one: one line a group
-late_family : (list : ListTree) (files : List (List ℕ)) (g : Group) (b : Break) → BreaksGroup list files g b → 3 ≤ b.rank.family
+pub late_family : (list : ListTree) (files : List (List ℕ)) (g : Group) (b : Break) → BreaksGroup list files g b → 3 ≤ b.rank.family
 late_family list files groups.Unsupported b h = let three = foreign_family list files b h in omega (arith, three)
 late_family list files groups.Language b h = (subset_family list files b h.0).0
 late_family list files groups.Limits b h = (subset_family list files b h).0
@@ -280,7 +263,7 @@ module _ (list : ListTree) (files : List (List ℕ)) (tested : List Group) (tree
 
       behind : (a : Break) → Either (BreaksNames list files) (Behind list files tested) a → NotAfter b.rank a.rank
       behind a (inl (us, world, among)) = absurd (no_world us world.0 world.1)
-      behind a (inr h) = lower_family b a (let two = (breaks_second list.name (files_spelt list trees)).family b f.among in let three = behind_family list files tested a h in omega (arith, two, three))
+      behind a (inr h) = lower_family b a (let two = (breaks_second list.name (files_spelt list trees)).holds b f.among in let three = behind_family list files tested a h in omega (arith, two, three))
 
   module _ (unbroken : breaks list.name (files_spelt list trees) ≡ []) where
     world_fine : (a : Break) → BreaksWorld list files a → ⊥
@@ -304,7 +287,7 @@ module _ (list : ListTree) (files : List (List ℕ)) (tested : List Group) (tree
         }
 
         behind : (a : Break) → Behind list files tested a → NotAfter b.rank a.rank
-        behind a h = lower_family b a (let two = (names_second (files_spelt list trees) (all_codes (classes_of trees))).family b f.among in let three = behind_family list files tested a h in omega (arith, two, three))
+        behind a h = lower_family b a (let two = (names_second (files_spelt list trees) (all_codes (classes_of trees))).holds b f.among in let three = behind_family list files tested a h in omega (arith, two, three))
 
     module _ (named : names ≡ []) where
       names_fine : (a : Break) → BreaksNames list files a → ⊥

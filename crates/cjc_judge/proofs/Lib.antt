@@ -9,3 +9,8 @@ pub mod Packages
 pub mod Typed
 pub mod Tables
 pub mod Whole
+pub mod Each
+pub mod Places
+pub mod ToldWorld
+pub mod ToldRules
+pub mod OneRefusal

@@ -8,7 +8,7 @@ use Rattle.cjc_classfile.specs.Code.{CodeTree}
 use Rattle.cjc_classfile.specs.Fits.{MethodFits, CodeFits, ClassFits}
 use Rattle.cjc_classfile.specs.declared.tree.ClassTree.{ClassTree}
 use Rattle.cjc_classfile.specs.declared.tree.MethodTree.{MethodTree}
-use Rattle.cjc_code.specs.declared.decoding.Broken.{Broken}
+use Rattle.cjc_bytes.specs.declared.breaks.BrokenAt.{BrokenAt}
 use Rattle.cjc_code.specs.Decoded.{decoding, of_code, of_method, decoding_at}
 use Rattle.cjc_code.specs.declared.insn.JInsn.{JInsn}
 use Rattle.cjc_types.specs.Tables.{IsOfPackage}
@@ -40,7 +40,7 @@ behind (y ∷ ys) (suc k) x rest e =
 
 module _ (files : Files) where
   module _ (class : ℕ) (tree : ClassTree) (is_class : slice_get files.classes class ≡ Some tree) where
-    code_is : (k : ℕ) (m : MethodTree) (code : CodeTree) → slice_get tree.methods k ≡ Some m → m.code ≡ Some code → length code.bytes ≤ 65535 → (r : Result (List JInsn) Broken) → decoding tree m code ≡ r → All (IsOfPackage files) (code_with class k r)
+    code_is : (k : ℕ) (m : MethodTree) (code : CodeTree) → slice_get tree.methods k ≡ Some m → m.code ≡ Some code → length code.bytes ≤ 65535 → (r : Result (List JInsn) BrokenAt) → decoding tree m code ≡ r → All (IsOfPackage files) (code_with class k r)
     code_is k m code at has short (Err b) is = All-nil (IsOfPackage files)
     code_is k m code at has short (Ok insns) is =
         let decoded : decoding_at tree k ≡ Ok insns = ap (of_method tree) at ∙ ap (of_code tree m) has ∙ is in

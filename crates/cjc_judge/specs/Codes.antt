@@ -1,13 +1,13 @@
 -- Where the methods of a package break rule 303.
 use Rattle.std.specs.Prelude.{ℕ, ◌==◌, List, [], ◌∷◌, if◌then◌else◌, Result, Ok, Err}
 use Rattle.cjc_classfile.specs.declared.tree.ClassTree.{ClassTree}
-use Rattle.cjc_code.specs.declared.decoding.Broken.{Broken}
+use Rattle.cjc_bytes.specs.declared.breaks.BrokenAt.{BrokenAt}
 use Rattle.cjc_code.specs.declared.insn.JInsn.{JInsn}
 use Rattle.cjc_code.specs.PackageCodes.{of_classes}
 use Rattle.cjc_judge.specs.declared.reading.Foreign.{Foreign}
 
 -- the place of the first instruction of a method that is not converted, where 103 is not broken (rule 303)
-abbrev pub foreign_with : (class method : ℕ) → Result (List JInsn) Broken → List Foreign
+abbrev pub foreign_with : (class method : ℕ) → Result (List JInsn) BrokenAt → List Foreign
 foreign_with class method (Ok insns) = []
 foreign_with class method (Err broken) = if broken.rule == 303 then record { class = class; method = method; offset = broken.offset } ∷ [] else []
 

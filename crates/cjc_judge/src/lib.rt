@@ -5,7 +5,9 @@
 mod groups;
 mod judged;
 mod judging;
+mod laws;
 mod reading;
 
 pub use groups::Group;
 pub use judged::{Judged, judge};
+pub use laws::one_refusal;

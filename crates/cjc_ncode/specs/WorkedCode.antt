@@ -166,7 +166,7 @@ at offset op = record { at = offset; op = op }
 
 -- code with handlers
 abbrev pub code : (max_stack max_locals : ℕ) → List Catch → CodeTree
-code max_stack max_locals catches = record { max_stack = max_stack; max_locals = max_locals; bytes = []; catches = catches; attributes = 0 }
+code max_stack max_locals catches = record { max_stack = max_stack; max_locals = max_locals; bytes = []; catches = catches }
 
 -- iload_0 iconst_1 iadd i2s ireturn
 abbrev pub one_more : List JInsn

@@ -2,3 +2,4 @@ pub mod Listing
 pub mod Standing
 pub mod OwnTokens
 pub mod Promising
+pub mod OneStatus

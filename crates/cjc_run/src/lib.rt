@@ -5,8 +5,10 @@
 
 mod command;
 mod converting;
+mod laws;
 mod text;
 mod top;
 
+pub use laws::one_status;
 pub use text::{line, status_line};
 pub use top::run;

@@ -25,7 +25,7 @@ use Rattle.cjc_shrink.specs.Rows.{Same, RowAgrees, goes, raises}
 use Rattle.cjc_shrink.proofs.Plain.{RowIs, as_written, held_wide}
 
 -- a number of 16 bits is its word
-same_word : (s : Span) (x : ℤ) {v : ℤ} → Within s short_range → Holds s x → v ≡ low_word x → v ≡ x
+pub same_word : (s : Span) (x : ℤ) {v : ℤ} → Within s short_range → Holds s x → v ≡ low_word x → v ≡ x
 same_word s x inside h e =
     let a = h.above in let b = h.below in let c = inside.low in let d = inside.high in
     e ∙ low_word_same x (omega (arith, ints)) (omega (arith, ints))

@@ -12,3 +12,8 @@ pub mod Stores
 pub mod Copies
 pub mod Drops
 pub mod References
+pub mod Branches
+pub mod Keeps
+pub mod News
+pub mod Casts
+pub mod Puts

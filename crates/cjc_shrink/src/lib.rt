@@ -10,7 +10,7 @@ ghost use Rattle.cjc_range.specs.Rows.{add_row, sub_row, mul_row, neg_row, div_r
 ghost use Rattle.cjc_classfile.specs.declared.tree.Catch.{Catch};
 ghost use Rattle.cjc_code.specs.declared.insn.JInsn.{JInsn};
 ghost use Rattle.cjc_code.specs.declared.insn.JOp.TheVariants as jop;
-ghost use Rattle.cjc_script.specs.Sorts.{Shape, OfClass, shape_name, field_sort};
+ghost use Rattle.cjc_script.specs.Sorts.{Booleans, Bytes, Shorts, Shape, OfClass, OfNumbers, OfReferences, shape_name, field_sort};
 ghost use Rattle.cjc_bytecode.specs.Effects.{Invoke, HeapObject, shape};
 ghost use Rattle.cjc_bytecode.specs.Machine.{Start, caught, made};
 ghost use Rattle.cjc_script.specs.declared.value.Value.{Value};
@@ -20,8 +20,11 @@ ghost use Rattle.cjc_ncode.specs.ByLabel.{Callee, Named, by_label, handler as na
 ghost use Rattle.cjc_by_name.specs.Linked.{Method, Linked};
 ghost use Rattle.cjc_by_name.specs.Effects as effects;
 ghost use Rattle.cjc_by_name.specs.Machine.{Frame, State, holder_of, handler, after_throw, after_effect};
-ghost use Rattle.cjc_shrink.specs.Relation.{Kind, OnBoth, Range, Refers, Heap, Stacks, Locals, AllWider, Stores};
+ghost use Rattle.cjc_shrink.specs.Relation.{Kind, OnBoth, Range, Refers, boolean_range, Heap, Stacks, Locals, AllWider, Stores};
 ghost use Rattle.cjc_shrink.specs.Rows.{RowAgrees, RowOnLocals, IsNotWritten, FieldIsThere, kind_of};
+ghost use Rattle.cjc_shrink.specs.Objects.{IsMade, IsClassThere, IsTypeThere};
+ghost use Rattle.cjc_shrink.specs.Cells.{CellIsThere, MayBePut, RowOnCells};
+ghost use Rattle.cjc_shrink.specs.Jumps.{JumpAgrees, ReturnAgrees};
 ghost use Rattle.cjc_shrink.specs.Calls.{NFrame, NState, Frames, CallAgrees, IsStaticCall, IsObjectCall, IsWrittenAt, HandlesAlike, CatchAgrees};
 
 /// Arithmetic of class files on operands in intervals, and what is written for it: words stay the low words of their
@@ -93,6 +96,19 @@ pub fn fields_are_read_alike()
     ensures { (by : Linked) (l : Named) (r : Resolution) (m : Method) (named : MemberId) (within : Shape (List ℕ) → Bool) → FieldIsThere by l r m named within → RowAgrees by l r m (jop.Field false named) (Refers within ∷ []) (kind_of l (field_sort named.desc) ∷ []) }
 {}
 
+/// A field whose values are one word is written alike, on an object of a class that has it, and null raises: a number is put in the
+/// interval of the field's type, a reference of its type.
+pub fn fields_are_written_alike()
+    ensures { (by : Linked) (l : Named) (r : Resolution) (m : Method) (named : MemberId) (k : Kind) (within : Shape (List ℕ) → Bool) → FieldIsThere by l r m named within → MayBePut l (field_sort named.desc) k → RowAgrees by l r m (jop.Field true named) (k ∷ Refers within ∷ []) [] }
+{}
+
+/// A static field whose values are one word is read and written alike, where the static cells have it: a number is put in the
+/// interval of the field's type, a reference of its type.
+pub fn static_fields_are_met_alike()
+    ensures getstatic { (by : Linked) (l : Named) (r : Resolution) (m : Method) (named : MemberId) → CellIsThere by r m named → RowOnCells by l r m (jop.Static false named) (r.field named) [] (kind_of l (field_sort named.desc) ∷ []) }
+    ensures putstatic { (by : Linked) (l : Named) (r : Resolution) (m : Method) (named : MemberId) (k : Kind) → CellIsThere by r m named → MayBePut l (field_sort named.desc) k → RowOnCells by l r m (jop.Static true named) (r.field named) (k ∷ []) [] }
+{}
+
 /// A call of a static method, and one on a receiver that each of its types selects a method of the package for: the method
 /// and what is written for it begin with arguments that agree, above frames that wait behind the call; null raises.
 pub fn calls_begin_alike()
@@ -106,6 +122,52 @@ pub fn calls_begin_alike()
 pub fn handlers_are_found_alike()
     ensures search { (by : Linked) (l : Named) (r : Resolution) (reached : List JInsn) (holder : List ℕ) (kind : Shape (List ℕ)) (here at : ℕ) (catches : List Catch) → IsWrittenAt r reached here at → ((class : List ℕ) → by.subtype (Some holder) (shape_name kind) class ≡ l.is_of kind (OfClass class)) → narrow_handler l (catches_at (place_in r reached) catches) at kind ≡ option_map (place_in r reached) (handler by holder catches here (shape_name kind)) }
     ensures frame { (by : Linked) (l : Named) (r : Resolution) (reached : List JInsn) (within : Shape (List ℕ) → Bool) (ls : List Kind) (from at object : ℕ) (thing : HeapObject (List ℕ) MemberId) (f : Frame) (outer : List Frame) (s : State) (g : NFrame) (others : List NFrame) (t : NState) → HandlesAlike by l r reached (shape thing) f g → slice_get (let m = t.memory in m.heap) object ≡ Some thing → within (shape thing) ≡ true → Locals (let m = t.memory in m.heap) ls f.locals g.locals → CatchAgrees by l (place_in r reached) within ls from at object (shape thing) f outer s g others t (after_throw by from (f ∷ outer) object (shape_name (shape thing)) s) (caught (by_label l) at (g ∷ others) object (shape thing) t) }
+{}
+
+/// A jump leads to one place on both sides: what stands for its target, or what stands behind it. A number that a condition
+/// reads has 16 bits.
+pub fn jumps_agree()
+    ensures goto { (by : Linked) (l : Named) (r : Resolution) (m : Method) (target : ℕ) → JumpAgrees by l r m (jop.Goto target) [] (target ∷ []) }
+    ensures ifeq { (by : Linked) (l : Named) (r : Resolution) (m : Method) (target : ℕ) (s : Span) → Within s short_range → JumpAgrees by l r m (jop.If 0x99 target) (Range s ∷ []) (target ∷ []) }
+    ensures ifne { (by : Linked) (l : Named) (r : Resolution) (m : Method) (target : ℕ) (s : Span) → Within s short_range → JumpAgrees by l r m (jop.If 0x9A target) (Range s ∷ []) (target ∷ []) }
+    ensures iflt { (by : Linked) (l : Named) (r : Resolution) (m : Method) (target : ℕ) (s : Span) → Within s short_range → JumpAgrees by l r m (jop.If 0x9B target) (Range s ∷ []) (target ∷ []) }
+    ensures ifge { (by : Linked) (l : Named) (r : Resolution) (m : Method) (target : ℕ) (s : Span) → Within s short_range → JumpAgrees by l r m (jop.If 0x9C target) (Range s ∷ []) (target ∷ []) }
+    ensures ifgt { (by : Linked) (l : Named) (r : Resolution) (m : Method) (target : ℕ) (s : Span) → Within s short_range → JumpAgrees by l r m (jop.If 0x9D target) (Range s ∷ []) (target ∷ []) }
+    ensures ifle { (by : Linked) (l : Named) (r : Resolution) (m : Method) (target : ℕ) (s : Span) → Within s short_range → JumpAgrees by l r m (jop.If 0x9E target) (Range s ∷ []) (target ∷ []) }
+    ensures if_icmpeq { (by : Linked) (l : Named) (r : Resolution) (m : Method) (target : ℕ) (s t : Span) → Within s short_range → Within t short_range → JumpAgrees by l r m (jop.If 0x9F target) (Range t ∷ Range s ∷ []) (target ∷ []) }
+    ensures if_icmpne { (by : Linked) (l : Named) (r : Resolution) (m : Method) (target : ℕ) (s t : Span) → Within s short_range → Within t short_range → JumpAgrees by l r m (jop.If 0xA0 target) (Range t ∷ Range s ∷ []) (target ∷ []) }
+    ensures if_icmplt { (by : Linked) (l : Named) (r : Resolution) (m : Method) (target : ℕ) (s t : Span) → Within s short_range → Within t short_range → JumpAgrees by l r m (jop.If 0xA1 target) (Range t ∷ Range s ∷ []) (target ∷ []) }
+    ensures if_icmpge { (by : Linked) (l : Named) (r : Resolution) (m : Method) (target : ℕ) (s t : Span) → Within s short_range → Within t short_range → JumpAgrees by l r m (jop.If 0xA2 target) (Range t ∷ Range s ∷ []) (target ∷ []) }
+    ensures if_icmpgt { (by : Linked) (l : Named) (r : Resolution) (m : Method) (target : ℕ) (s t : Span) → Within s short_range → Within t short_range → JumpAgrees by l r m (jop.If 0xA3 target) (Range t ∷ Range s ∷ []) (target ∷ []) }
+    ensures if_icmple { (by : Linked) (l : Named) (r : Resolution) (m : Method) (target : ℕ) (s t : Span) → Within s short_range → Within t short_range → JumpAgrees by l r m (jop.If 0xA4 target) (Range t ∷ Range s ∷ []) (target ∷ []) }
+    ensures if_acmpeq { (by : Linked) (l : Named) (r : Resolution) (m : Method) (target : ℕ) (within below : Shape (List ℕ) → Bool) → JumpAgrees by l r m (jop.If 0xA5 target) (Refers within ∷ Refers below ∷ []) (target ∷ []) }
+    ensures if_acmpne { (by : Linked) (l : Named) (r : Resolution) (m : Method) (target : ℕ) (within below : Shape (List ℕ) → Bool) → JumpAgrees by l r m (jop.If 0xA6 target) (Refers within ∷ Refers below ∷ []) (target ∷ []) }
+    ensures ifnull { (by : Linked) (l : Named) (r : Resolution) (m : Method) (target : ℕ) (within : Shape (List ℕ) → Bool) → JumpAgrees by l r m (jop.If 0xC6 target) (Refers within ∷ []) (target ∷ []) }
+    ensures ifnonnull { (by : Linked) (l : Named) (r : Resolution) (m : Method) (target : ℕ) (within : Shape (List ℕ) → Bool) → JumpAgrees by l r m (jop.If 0xC7 target) (Refers within ∷ []) (target ∷ []) }
+{}
+
+/// A return gives the same reference on both sides, and the low word of the same number.
+pub fn returns_agree()
+    ensures ireturn { (by : Linked) (l : Named) (r : Resolution) (m : Method) (s : Span) → ReturnAgrees by l r m (jop.Return 0xAC) (Range s ∷ []) }
+    ensures areturn { (by : Linked) (l : Named) (r : Resolution) (m : Method) (within : Shape (List ℕ) → Bool) → ReturnAgrees by l r m (jop.Return 0xB0) (Refers within ∷ []) }
+    ensures returns { (by : Linked) (l : Named) (r : Resolution) (m : Method) → ReturnAgrees by l r m (jop.Return 0xB1) [] }
+{}
+
+/// A new array or object is made alike at the end of both heaps, of a class of which both sides say the same fields; a
+/// negative number of elements raises. The number of elements has 16 bits.
+pub fn objects_are_made_alike()
+    ensures new { (by : Linked) (l : Named) (r : Resolution) (m : Method) (class : List ℕ) (within : Shape (List ℕ) → Bool) → IsMade by l m class → within (OfClass class) ≡ true → RowAgrees by l r m (jop.New class) [] (Refers within ∷ []) }
+    ensures booleans { (by : Linked) (l : Named) (r : Resolution) (m : Method) (s : Span) → Within s short_range → (within : Shape (List ℕ) → Bool) → within (OfNumbers Booleans) ≡ true → RowAgrees by l r m (jop.NewArray 4) (Range s ∷ []) (Refers within ∷ []) }
+    ensures bytes { (by : Linked) (l : Named) (r : Resolution) (m : Method) (s : Span) → Within s short_range → (within : Shape (List ℕ) → Bool) → within (OfNumbers Bytes) ≡ true → RowAgrees by l r m (jop.NewArray 8) (Range s ∷ []) (Refers within ∷ []) }
+    ensures shorts { (by : Linked) (l : Named) (r : Resolution) (m : Method) (s : Span) → Within s short_range → (within : Shape (List ℕ) → Bool) → within (OfNumbers Shorts) ≡ true → RowAgrees by l r m (jop.NewArray 9) (Range s ∷ []) (Refers within ∷ []) }
+    ensures anewarray { (by : Linked) (l : Named) (r : Resolution) (m : Method) (s : Span) → Within s short_range → (within : Shape (List ℕ) → Bool) (class : List ℕ) → IsClassThere by m class → within (OfReferences class) ≡ true → RowAgrees by l r m (jop.ANewArray class) (Range s ∷ []) (Refers within ∷ []) }
+{}
+
+/// The type of an array or object is asked alike. What passes a cast is what was there, of that type too; null passes, and is
+/// of no type.
+pub fn types_are_asked_alike()
+    ensures checkcast { (by : Linked) (l : Named) (r : Resolution) (m : Method) (type : List ℕ) (there : IsTypeThere by l m type) (within after : Shape (List ℕ) → Bool) → ((kind : Shape (List ℕ)) → within kind ≡ true → l.is_of kind there.kind ≡ true → after kind ≡ true) → RowAgrees by l r m (jop.CheckCast type) (Refers within ∷ []) (Refers after ∷ []) }
+    ensures instanceof { (by : Linked) (l : Named) (r : Resolution) (m : Method) (type : List ℕ) → IsTypeThere by l m type → (within : Shape (List ℕ) → Bool) → RowAgrees by l r m (jop.InstanceOf type) (Refers within ∷ []) (Range boolean_range ∷ []) }
 {}
 
 /// Stacks and locals that agree by some kinds agree by wider ones, as a join of states gives them.

@@ -1,7 +1,6 @@
 pub mod Places
 pub mod Members
 pub mod Names
-pub mod Hits
 pub mod Types
 pub mod Flags
 pub mod Overriding

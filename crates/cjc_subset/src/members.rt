@@ -6,7 +6,7 @@ ghost use Rattle.cjc_world.specs.Access.{is_accessible};
 ghost use Rattle.cjc_world.specs.Classes.{all_classes, class_named};
 ghost use Rattle.cjc_world.specs.Working.Known.{class_of};
 ghost use Rattle.cjc_world.specs.Rules.{is_desc_missing, is_element_missing, is_missing, is_type_missing};
-ghost use Rattle.cjc_subset.specs.Hits.{hit_of};
+ghost use Rattle.cjc_subset.specs.Working.Hits.{hit_of};
 ghost use Rattle.cjc_subset.specs.Members.{hit, imports, is_array, is_constant, is_constructor, is_declared_constant, is_descriptor, is_imported_constant, is_initialiser};
 ghost use Rattle.cjc_subset.specs.Names.{is_name_missing};
 

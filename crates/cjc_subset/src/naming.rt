@@ -8,7 +8,7 @@ ghost use Rattle.cjc_world.specs.Rules.{is_class_of, is_interface_of};
 ghost use Rattle.cjc_bytes.specs.Breaks.{IsFirstRefusal, IsFirstOf, each};
 ghost use Rattle.cjc_world.specs.Working.Known.{class_of};
 ghost use Rattle.cjc_bytes.specs.Told.{break_of, spot_of};
-ghost use Rattle.cjc_subset.specs.Hits.{hit_of};
+ghost use Rattle.cjc_subset.specs.Working.Hits.{hit_of};
 ghost use Rattle.cjc_subset.specs.Places.{at_class, at_method};
 ghost use Rattle.cjc_bytes.specs.Order.{FilePlace};
 ghost use Rattle.cjc_subset.specs.Members.{hit};

@@ -6,7 +6,7 @@ ghost use Rattle.cjc_bytes.specs.AccessFlags.{is_interface};
 ghost use Rattle.cjc_world.specs.Working.Known.{class_of};
 ghost use Rattle.cjc_world.specs.Lookup.{is_called, selected};
 ghost use Rattle.cjc_bytes.specs.Told.{break_of, spot_of};
-ghost use Rattle.cjc_subset.specs.Hits.{hit_of};
+ghost use Rattle.cjc_subset.specs.Working.Hits.{hit_of};
 ghost use Rattle.cjc_subset.specs.Members.{hit};
 ghost use Rattle.cjc_subset.specs.Overriding.{asks_for_code, changes_kind, class_against, has_no_code, hides_one, is_inherited, is_of_other_kind, is_open, is_out_of_sight, is_package_visible, is_special, is_unfit_selection, kin_breaks, lacks_code, method_against, overriding_breaks};
 ghost use Rattle.cjc_subset.specs.Places.{at_class};

@@ -108,7 +108,6 @@ fn method<'t>(
         name: Bytes::copy_of(alloc, name)?,
         desc: Bytes::copy_of(alloc, desc)?,
         code,
-        attributes: 0,
     })
 }
 
@@ -127,7 +126,6 @@ fn code<'t>(alloc: Global, draft: Draft<'t>) -> Result<Code<'t>, NoMemory> {
         max_locals: draft.max_locals,
         bytes: draft.code,
         catches,
-        attributes: 0,
     })
 }
 
@@ -147,7 +145,6 @@ fn class<'t>(
         pool: pool(alloc)?,
         fields: Row::new(alloc),
         methods,
-        attributes: 0,
     })
 }
 

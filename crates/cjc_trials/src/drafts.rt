@@ -213,7 +213,6 @@ pub(crate) fn method<'a>(alloc: Global, member: Member<'_>) -> Result<MethodTree
         name: Bytes::copy_of(alloc, name)?,
         desc: Bytes::copy_of(alloc, desc)?,
         code: None,
-        attributes: 0,
     })
 }
 
@@ -240,7 +239,6 @@ pub(crate) fn class<'a>(alloc: Global, drawn: Drawn<'_>) -> Result<ClassTree<'a>
         pool: Row::new(alloc),
         fields: Row::new(alloc),
         methods: Row::new(alloc),
-        attributes: 0,
     })
 }
 

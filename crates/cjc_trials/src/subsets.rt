@@ -179,7 +179,6 @@ fn code<'a>(alloc: Global, edit: Edit<'_>) -> Result<Code<'a>, NoMemory> {
         max_locals,
         bytes: &[],
         catches,
-        attributes: 0,
     })
 }
 
@@ -211,7 +210,6 @@ fn method_f<'a>(alloc: Global, edit: Edit<'_>) -> Result<MethodTree<'a>, NoMemor
         name: Bytes::copy_of(alloc, b"f")?,
         desc: Bytes::copy_of(alloc, b"()V")?,
         code: Some(code(alloc, edit)?),
-        attributes: 1,
     })
 }
 

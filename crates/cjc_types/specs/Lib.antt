@@ -6,6 +6,8 @@ pub mod Types
 pub mod Steps
 pub mod Flow
 pub mod Index
+pub mod Marks
+pub mod Repeats
 pub mod Rules
 pub mod Tables
 pub mod Search

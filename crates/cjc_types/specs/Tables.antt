@@ -7,7 +7,7 @@ use Rattle.cjc_classfile.specs.Code.{CodeTree}
 use Rattle.cjc_classfile.specs.declared.tree.ClassTree.{ClassTree}
 use Rattle.cjc_classfile.specs.declared.tree.MethodTree.{MethodTree}
 use Rattle.cjc_code.specs.Decoded.{decoding_at}
-use Rattle.cjc_code.specs.declared.decoding.Broken.{Broken}
+use Rattle.cjc_bytes.specs.declared.breaks.BrokenAt.{BrokenAt}
 use Rattle.cjc_code.specs.declared.insn.JInsn.{JInsn}
 use Rattle.cjc_code.specs.declared.method_code.MethodCode.{MethodCode}
 use Rattle.cjc_fixpoint.specs.Tables.{HasRow, IsLeastClosed}
@@ -65,7 +65,7 @@ pub record FirstBreach (w : List Class) (b : Body) (rows : List (Option State)) 
 -- ---- what is answered
 
 -- the refusal of a method's code
-abbrev pub refusal_in : (file : List ℕ) → ClassTree → MethodTree → Broken → Refusal
+abbrev pub refusal_in : (file : List ℕ) → ClassTree → MethodTree → BrokenAt → Refusal
 refusal_in file class method broken = record {
   rule = record { 0 = broken.rule };
   place = record { file = file; class = class.name; member = method.name ++ method.desc; offset = broken.offset };

@@ -5,3 +5,7 @@ pub mod StateLaws
 pub mod TypeLaws
 pub mod StepLaws
 pub mod FlowLaws
+pub mod Marking
+pub mod Onward
+pub mod MarkLaws
+pub mod RepeatLaws

@@ -1,8 +1,10 @@
 //! What holds of type tables, for the layers above. Nothing here runs.
 
-ghost use Rattle.std.specs.Prelude.{◌≡◌, ◌<◌, ◌≤◌, ℕ, true, List, length, slice_get, Option, Some};
+ghost use Rattle.std.specs.Prelude.{◌≡◌, ◌<◌, ◌≤◌, ℕ, Bool, true, List, length, slice_get, Option, Some};
 ghost use Rattle.std.specs.List.{list_all};
 ghost use Rattle.cjc_fixpoint.specs.Dataflow.{IsLawful, StaysWithin};
+ghost use Rattle.cjc_fixpoint.specs.Kept.{AreMarks, MeetsAt};
+ghost use Rattle.cjc_fixpoint.specs.Shortened.{AreRepeats};
 ghost use Rattle.cjc_fixpoint.specs.Tables.{HasRow, IsClosed};
 ghost use Rattle.cjc_world.specs.Classes.{Class};
 ghost use Rattle.cjc_world.specs.Subtype.{is_subtype};
@@ -23,6 +25,8 @@ ghost use Rattle.cjc_types.specs.Among.{HasNames, IsStateAmong};
 ghost use Rattle.cjc_types.specs.Cells.{IsNameSet, refs};
 ghost use Rattle.cjc_types.specs.Names.{IsSet, IsWithin};
 ghost use Rattle.cjc_types.specs.Flow.{Body, entry, type_flow};
+ghost use Rattle.cjc_types.specs.Marks.{marks_of};
+ghost use Rattle.cjc_types.specs.Repeats.{CoverAlike, repeats_at};
 ghost use Rattle.cjc_types.specs.Rules.{is_number, is_reference, all_types, is_of};
 ghost use Rattle.cjc_types.specs.Tables.{Breach, IsLeastTable, IsMethodOf, IsTypeTable};
 ghost use Rattle.cjc_types.specs.Typed.{AreTyped, Leads};
@@ -31,6 +35,16 @@ ghost use Rattle.cjc_types.specs.Typed.{AreTyped, Leads};
 pub fn flow_laws()
     ensures lawful { (b : Body) → IsLawful (type_flow b) }
     ensures stays { (b : Body) → StaysWithin (type_flow b) (length b.insns) }
+{}
+
+/// The first instruction, and each place to which a jump, a switch or a handler leads, are the marked places of a method: every
+/// edge of its flow goes to one of them or to the place behind. A place that is not marked, where no range of a handler begins
+/// or ends, which does not jump and stands behind an instruction that keeps the locals, hands its handlers nothing that the
+/// place before does not hand them.
+pub fn mark_laws()
+    ensures marks { (b : Body) → AreMarks (length b.insns) (marks_of b) }
+    ensures meet { (b : Body) → MeetsAt (type_flow b) (length b.insns) (marks_of b) }
+    ensures repeats { (b : Body) (bounds : List Bool) → CoverAlike b.insns bounds b.catches → AreRepeats (type_flow b) (λ at. repeats_at b bounds at) }
 {}
 
 /// A method has at most 65,535 instructions, in ascending order of their offsets: the first by place is the first by offset.

@@ -12,7 +12,7 @@ use Rattle.cjc_tokens.specs.Members.{Signature}
 use Rattle.cjc_tokens.specs.Methods.{interfaces_at, interface_methods}
 use Rattle.cjc_tokens.specs.Slots.{Slots, token}
 use Rattle.cjc_vtable.specs.Tables.{interface_map, or_zero}
-use Rattle.cjc_vtable.specs.Naming.{index_of}
+use Rattle.cjc_vtable.specs.Working.Naming.{index_of}
 use Rattle.cjc_vtable.specs.declared.table.InterfaceMap.{InterfaceMap}
 
 module _ (f : Class → InterfaceMap) (w : List Class) (places : List ℕ) (maps all : List InterfaceMap) where

@@ -13,7 +13,8 @@ use Rattle.cjc_tokens.specs.Members.{Signature, signature_of, same, has, signatu
 use Rattle.cjc_tokens.specs.Lines.{Line, Nowhere, Imported, Declared, line_in, line_at}
 use Rattle.cjc_tokens.specs.Slots.{Slots, new_in, with_new, slots, own, got, implementing, meant_by, row}
 use Rattle.cjc_tokens.specs.Tokens.{assigned, public_methods_of}
-use Rattle.cjc_vtable.specs.Naming.{method_named, member_named, named, named_where, signature_by, ids_at}
+use Rattle.cjc_vtable.specs.Naming.{method_named, member_named, named, named_where}
+use Rattle.cjc_vtable.specs.Working.Naming.{signature_by, ids_at}
 use Rattle.cjc_tokens.proofs.Facts.{same-true, same-refl, position-cons, has-own_none, has-got_none}
 use Rattle.cjc_tokens.proofs.Held.{at_front, at_either, new-offered, listed_slot, shown-virtual}
 use Rattle.cjc_vtable.proofs.Assigned.{public-row}

@@ -18,7 +18,7 @@ use Rattle.cjc_world.specs.Classes.{Class, declared, numbered, size, of_class_fi
 use Rattle.cjc_bytes.specs.AccessFlags.{is_interface}
 use Rattle.cjc_world.specs.Order.{is_in, is_of_kind, waits, names_waiting, may_stand, next, and_then, lined_up, in_order}
 use Rattle.cjc_vtable.proofs.Numbers.{class_count-cons}
-use Rattle.cjc_vtable.specs.Standing.{numbered_from, class_count, declared_at, IsBegun, IsClass, own_number, own_numbers, listed_numbers, has_mark, stands_marked, IsMarked}
+use Rattle.cjc_vtable.specs.Working.Standing.{numbered_from, class_count, declared_at, IsBegun, IsClass, own_number, own_numbers, listed_numbers, has_mark, stands_marked, IsMarked}
 
 abbrev is_own : Class → Bool
 is_own c = not c.is_imported

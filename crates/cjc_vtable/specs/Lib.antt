@@ -3,5 +3,5 @@ pub mod Dispatch
 pub mod Calls
 pub mod Laws
 pub mod Kept
-pub mod Standing
 pub mod Naming
+pub mod Working

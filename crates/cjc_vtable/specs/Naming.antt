@@ -1,13 +1,10 @@
 -- The name and the descriptor that a method has which a look-up or a token means.
 use Rattle.std.specs.Prelude.{ℕ, ◌-◌, List, [], ◌++◌, length, nat_lt, Option, Some, None, option_map, option_and_then, slice_get, if◌then◌else◌}
-use Rattle.cjc_bytes.specs.declared.fault.MemberId.{MemberId}
 use Rattle.cjc_world.specs.declared.found.Found.{Found}
 use Rattle.cjc_world.specs.Files.{Files}
 use Rattle.cjc_world.specs.Classes.{Class, class_at}
-use Rattle.cjc_world.specs.Added.{added, added_at}
+use Rattle.cjc_world.specs.Added.{added}
 use Rattle.cjc_tokens.specs.Members.{Signature, signature_of}
-use Rattle.cjc_tokens.specs.Slots.{Slots, token}
-use Rattle.cjc_vtable.specs.Tables.{or_zero}
 
 -- the method at a place of a class: its own, then those that are added to it
 abbrev pub method_named : List Class → Class → ℕ → Option Signature
@@ -24,18 +21,3 @@ named w f = option_and_then (member_named w f.member) (class_at w f.imported f.c
 abbrev pub named_where : List Class → Option Found → Option Signature
 named_where w None = None
 named_where w (Some f) = named w f
-
--- ---- what the code holds of added methods
-
-abbrev pub signature_by : MemberId → Signature
-signature_by m = record { name = m.name; desc = m.desc }
-
--- an imported class has none
-abbrev pub ids_at : Files → Found → List MemberId
-ids_at files f = if f.imported then [] else added_at files f.class
-
--- ---- the index of an interface's method in a class
-
-abbrev pub index_of : Slots → Option Signature → ℕ
-index_of all None = 0
-index_of all (Some s) = or_zero (token all s)

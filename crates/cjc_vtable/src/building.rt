@@ -4,7 +4,7 @@ ghost use Rattle.std.specs.Prelude.{◌≡◌, Bool, IfOk, Some, slice_get};
 ghost use Rattle.cjc_classfile.specs.declared.tree.ClassTree.{ClassTree as Tree};
 ghost use Rattle.cjc_world.specs.Classes.{all_classes, declared};
 ghost use Rattle.cjc_tokens.specs.Tokens.{assigned};
-ghost use Rattle.cjc_vtable.specs.Standing.{IsClass};
+ghost use Rattle.cjc_vtable.specs.Working.Standing.{IsClass};
 ghost use Rattle.cjc_vtable.specs.Tables.{class_tables, table_of};
 
 use crate::entries::{methods, table};

@@ -11,8 +11,8 @@ ghost use Rattle.cjc_tokens.specs.Methods.{interfaces_at};
 ghost use Rattle.cjc_tokens.specs.Slots.{slots};
 ghost use Rattle.cjc_tokens.specs.Tokens.{assigned};
 ghost use Rattle.cjc_tokens.specs.Working.{signature_in, signs};
-ghost use Rattle.cjc_vtable.specs.Naming.{index_of};
-ghost use Rattle.cjc_vtable.specs.Standing.{IsOwn};
+ghost use Rattle.cjc_vtable.specs.Working.Naming.{index_of};
+ghost use Rattle.cjc_vtable.specs.Working.Standing.{IsOwn};
 ghost use Rattle.cjc_vtable.specs.Tables.{interface_map};
 
 use crate::naming::{class_count, named_row};

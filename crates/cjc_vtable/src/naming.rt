@@ -5,8 +5,9 @@ ghost use Rattle.cjc_world.specs.Classes.{all_classes, class_at};
 ghost use Rattle.cjc_world.specs.Working.Known.{class_of};
 ghost use Rattle.cjc_tokens.specs.Members.{signature_of};
 ghost use Rattle.cjc_tokens.specs.Working.{signature_in, signs};
-ghost use Rattle.cjc_vtable.specs.Naming.{ids_at, method_named, named, named_where, signature_by};
-ghost use Rattle.cjc_vtable.specs.Standing.{class_count};
+ghost use Rattle.cjc_vtable.specs.Naming.{method_named, named, named_where};
+ghost use Rattle.cjc_vtable.specs.Working.Naming.{ids_at, signature_by};
+ghost use Rattle.cjc_vtable.specs.Working.Standing.{class_count};
 
 use cjc_bytes::{MemberId, NoMemory};
 use cjc_tokens::Slot;

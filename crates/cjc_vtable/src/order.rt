@@ -5,7 +5,7 @@ ghost use Rattle.std.specs.List.{list_any};
 ghost use Rattle.cjc_world.specs.Classes.{Class, all_classes, class_named};
 ghost use Rattle.cjc_world.specs.Working.Known.{class_of};
 ghost use Rattle.cjc_world.specs.Order.{in_order, next};
-ghost use Rattle.cjc_vtable.specs.Standing.{class_count, declared_at, has_mark, IsClass, IsMarked, IsNext, listed_numbers, numbered_from, own_number, own_numbers, stands_marked};
+ghost use Rattle.cjc_vtable.specs.Working.Standing.{class_count, declared_at, has_mark, IsClass, IsMarked, IsNext, listed_numbers, numbered_from, own_number, own_numbers, stands_marked};
 
 use crate::naming::class_count;
 use cjc_bytes::{Bytes, NoMemory, Row};

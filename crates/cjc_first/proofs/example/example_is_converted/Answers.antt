@@ -35,7 +35,6 @@ is_sum_code = record {
   locals = omega arith;
   size = omega arith;
   catches = refl;
-  attributes = refl;
 }
 
 is_sum_method : IsSumMethod 1 example_method example_code example_insns
@@ -46,7 +45,6 @@ is_sum_method = record {
   desc = refl;
   few = omega arith;
   has_code = refl;
-  attributes = refl;
   is_sum = is_sum_code;
 }
 
@@ -59,7 +57,6 @@ is_first_form = record {
   superclass = refl;
   interfaces = refl;
   fields = refl;
-  attributes = refl;
   part = 84 ∷ [];
   name = refl;
   name_length = omega arith;

@@ -2,7 +2,7 @@ use Rattle.std.proofs.Common.{◌∙◌, ◌<◌, ℕ, sym, ap, subst, List, len
 use Rattle.std.specs.Prelude.{Some, option_map}
 use Rattle.cjc_world.specs.Classes.{all_classes, declared}
 use Rattle.cjc_world.specs.Order.{in_order}
-use Rattle.cjc_vtable.specs.Standing.{declared_at, IsClass}
+use Rattle.cjc_vtable.specs.Working.Standing.{declared_at, IsClass}
 use Rattle.cjc_vtable.specs.Tables.{class_tables, table_of}
 use Rattle.cjc_vtable.proofs.Rows.{rows-next, rows-end}
 use Rattle.cjc_vtable.proofs.building.tables.Goals as goal

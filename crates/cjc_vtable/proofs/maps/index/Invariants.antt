@@ -1,6 +1,6 @@
 use Rattle.std.proofs.Common.{◌≡◌, take, map}
 use Rattle.cjc_tokens.specs.Working.{signs}
-use Rattle.cjc_vtable.specs.Naming.{index_of}
+use Rattle.cjc_vtable.specs.Working.Naming.{index_of}
 use Rattle.cjc_vtable.proofs.maps.index.Given as goal
 
 abbrev pub invariant-loop-method : goal.invariant-loop-method

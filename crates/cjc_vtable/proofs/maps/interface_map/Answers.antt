@@ -2,7 +2,7 @@ use Rattle.std.proofs.Common.{◌∙◌, ap, map}
 use Rattle.cjc_world.specs.Classes.{all_classes}
 use Rattle.cjc_world.specs.Working.Known.{class_of}
 use Rattle.cjc_tokens.specs.Working.{signs}
-use Rattle.cjc_vtable.specs.Naming.{index_of}
+use Rattle.cjc_vtable.specs.Working.Naming.{index_of}
 use Rattle.cjc_vtable.proofs.MapPlaces.{map-is}
 use Rattle.cjc_vtable.proofs.maps.interface_map.Goals as goal
 

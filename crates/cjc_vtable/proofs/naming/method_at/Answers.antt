@@ -1,7 +1,7 @@
 use Rattle.std.proofs.Common.{◌∙◌, ◌-◌, ◌≤◌, ap, sym, length, arith}
 use Rattle.std.specs.Prelude.{option_map, slice_get}
 use Rattle.cjc_world.specs.Working.Known.{class_of}
-use Rattle.cjc_vtable.specs.Naming.{ids_at, signature_by}
+use Rattle.cjc_vtable.specs.Working.Naming.{ids_at, signature_by}
 use Rattle.cjc_vtable.proofs.SlotNames.{added-place}
 use Rattle.cjc_vtable.proofs.naming.method_at.Goals as goal
 

@@ -6,7 +6,7 @@ use Rattle.std.proofs.lemmas.Option.{slice_get_within}
 use Rattle.cjc_classfile.specs.declared.tree.ClassTree.{ClassTree}
 use Rattle.cjc_world.specs.Classes.{all_classes}
 use Rattle.cjc_world.specs.Order.{in_order, next}
-use Rattle.cjc_vtable.specs.Standing.{IsBegun, IsClass, IsMarked, class_count, numbered_from}
+use Rattle.cjc_vtable.specs.Working.Standing.{IsBegun, IsClass, IsMarked, class_count, numbered_from}
 use Rattle.cjc_vtable.proofs.Standing.{begun-init, begun-end, begun-on, begun-full, class-more, next-class, next-numbered, taken, taken-below, marked-more, no-marks}
 use Rattle.cjc_vtable.proofs.order.class_order.Goals as goal
 

@@ -1,7 +1,7 @@
 use Rattle.std.proofs.Common.{◌≡◌, ◌-◌, length, All, false}
 use Rattle.cjc_world.specs.Classes.{all_classes}
 use Rattle.cjc_world.specs.Order.{in_order}
-use Rattle.cjc_vtable.specs.Standing.{IsBegun, IsClass, IsMarked}
+use Rattle.cjc_vtable.specs.Working.Standing.{IsBegun, IsClass, IsMarked}
 use Rattle.cjc_vtable.proofs.order.class_order.Given as goal
 
 abbrev pub invariant-loop : goal.invariant-loop

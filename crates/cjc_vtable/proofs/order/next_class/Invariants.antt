@@ -2,7 +2,7 @@ use Rattle.std.proofs.Common.{◌≡◌, ℕ, List, drop, false}
 use Rattle.std.specs.Prelude.{map}
 use Rattle.cjc_world.specs.Classes.{Class}
 use Rattle.cjc_world.specs.Order.{next}
-use Rattle.cjc_vtable.specs.Standing.{listed_numbers, numbered_from, IsMarked}
+use Rattle.cjc_vtable.specs.Working.Standing.{listed_numbers, numbered_from, IsMarked}
 use Rattle.cjc_vtable.proofs.order.next_class.Given as goal
 
 abbrev pub invariant-loop-number : goal.invariant-loop-number

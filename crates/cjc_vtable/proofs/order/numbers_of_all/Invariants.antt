@@ -1,7 +1,7 @@
 use Rattle.std.proofs.Common.{◌≡◌, ◌++◌, drop}
 use Rattle.std.specs.Prelude.{map}
 use Rattle.cjc_world.specs.Classes.{all_classes}
-use Rattle.cjc_vtable.specs.Standing.{listed_numbers}
+use Rattle.cjc_vtable.specs.Working.Standing.{listed_numbers}
 use Rattle.cjc_vtable.proofs.order.numbers_of_all.Given as goal
 
 abbrev pub invariant-loop-class : goal.invariant-loop-class

@@ -1,6 +1,6 @@
 use Rattle.std.proofs.Common.{◌≡◌, ◌++◌, drop}
 use Rattle.cjc_world.specs.Classes.{all_classes}
-use Rattle.cjc_vtable.specs.Standing.{own_numbers}
+use Rattle.cjc_vtable.specs.Working.Standing.{own_numbers}
 use Rattle.cjc_vtable.proofs.order.push_numbers.Given as goal
 
 abbrev pub invariant-loop-name : goal.invariant-loop-name

@@ -1,0 +1,3 @@
+pub mod Firsts
+pub mod Packages
+pub mod Stops

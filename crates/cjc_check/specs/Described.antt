@@ -1,0 +1,100 @@
+-- Descriptor describes what is there (Java Card Virtual Machine Specification 2.2.2, 6.13).
+use Rattle.std.specs.Prelude.{ℕ, ◌+◌, ◌*◌, List, [], ◌∷◌, ◌++◌, length, map, Bool, true, nat_lt, not, ◌==◌, ◌&&◌, if◌then◌else◌, Option, Some, None}
+use Rattle.cjc_capread.specs.declared.tree.ClassInfo.{ClassInfo}
+use Rattle.cjc_capread.specs.declared.tree.PoolEntry.{PoolEntry}
+use Rattle.cjc_capread.specs.declared.tree.PoolEntry.TheVariants.{Classref}
+use Rattle.cjc_capread.specs.declared.tree.FieldType.{FieldType}
+use Rattle.cjc_capread.specs.declared.tree.FieldType.TheVariants.{Described}
+use Rattle.cjc_capread.specs.declared.tree.MethodDescriptor.{MethodDescriptor}
+use Rattle.cjc_capread.specs.declared.tree.ClassDescriptor.{ClassDescriptor}
+use Rattle.cjc_capread.specs.declared.tree.TypeDescriptor.{TypeDescriptor}
+use Rattle.cjc_capread.specs.declared.tree.Descriptor.{Descriptor}
+use Rattle.cjc_capread.specs.ClassRefs.{is_inside}
+use Rattle.cjc_check.specs.Spots.{Spot, in_info, unless, along, Placed, placed, begins}
+use Rattle.cjc_check.specs.Complete.{Complete, described_size, type_size}
+use Rattle.cjc_check.specs.Classes.{interfaces_at, classes_at, is_own_class}
+use Rattle.cjc_check.specs.ClassRefs.{fields_begin, pool_count_at}
+
+-- ---- classes
+
+-- the starts of the classes and interfaces of Class, in order
+abbrev pub all_starts : ClassInfo → List ℕ
+all_starts info = map (λ p. p.at) (interfaces_at info) ++ map (λ p. p.at) (classes_at info)
+
+-- classes from one on that begins at this offset, beside starts: the class_ref of another class or one too many, which stands behind a
+-- token and flags, or the number of classes where one is missing
+unfoldable pub classes_in_order : (at : ℕ) → List ClassDescriptor → (starts : List ℕ) → List Spot
+classes_in_order at [] [] = []
+classes_in_order at [] (s ∷ starts) = in_info 11 0 ∷ []
+classes_in_order at (d ∷ classes) [] = in_info 11 (at + 2) ∷ classes_in_order (at + described_size d) classes []
+classes_in_order at (d ∷ classes) (s ∷ starts) =
+    unless (is_inside d.this_class s) (in_info 11 (at + 2)) ++ classes_in_order (at + described_size d) classes starts
+
+-- ---- methods: of twelve bytes each, with the offset of the header at 2 and that of the type at 4
+
+abbrev pub methods_begin : (at : ℕ) → ClassDescriptor → ℕ
+methods_begin at d = fields_begin at d + 7 * length d.fields
+
+-- the offset of a method, after one with this offset, if any
+abbrev pub is_after : Option ℕ → (offset : ℕ) → Bool
+is_after None offset = true
+is_after (Some before) offset = nat_lt before offset
+
+-- methods from one on that begins at this offset
+unfoldable pub methods_ascend : (before : Option ℕ) → (at : ℕ) → List MethodDescriptor → List Spot
+methods_ascend before at [] = []
+methods_ascend before at (m ∷ methods) = unless (is_after before m.offset) (in_info 11 (at + 2)) ++ methods_ascend (Some m.offset) (at + 12) methods
+
+-- the offset of the last method, or what it was before
+abbrev pub last_offset : (before : Option ℕ) → List MethodDescriptor → Option ℕ
+last_offset before [] = before
+last_offset before (m ∷ methods) = last_offset (Some m.offset) methods
+
+-- the methods of classes, interfaces left out, from one on that begins at this offset
+unfoldable pub all_ascend : Complete → (before : Option ℕ) → (at : ℕ) → List ClassDescriptor → List Spot
+all_ascend c before at [] = []
+all_ascend c before at (d ∷ classes) =
+    if is_own_class c.class d.this_class
+    then methods_ascend before (methods_begin at d) d.methods ++ all_ascend c (last_offset before d.methods) (at + described_size d) classes
+    else all_ascend c before (at + described_size d) classes
+
+-- ---- types: they stand behind the number of pool entries and an offset of two bytes for each entry, and their offsets count from there
+
+abbrev pub types_at : Descriptor → List (Placed TypeDescriptor)
+types_at d = placed type_size (2 + 2 * length d.pool_types) d.types
+
+abbrev pub is_type : Descriptor → (offset : ℕ) → Bool
+is_type d offset = begins (types_at d) offset
+
+abbrev pub type_is_there : Descriptor → FieldType → Bool
+type_is_there d (Described offset) = is_type d offset
+type_is_there d _ = true
+
+-- the type of a field stands at 5 of seven bytes
+abbrev pub types_in_class : Descriptor → (at : ℕ) → ClassDescriptor → List Spot
+types_in_class d at x =
+    along (λ f. 7) (λ at f. unless (type_is_there d f.type_) (in_info 11 (at + 5))) (fields_begin at x) x.fields
+    ++ along (λ m. 12) (λ at m. unless (is_type d m.type_offset) (in_info 11 (at + 4))) (methods_begin at x) x.methods
+
+-- a Classref has 0xFFFF, and each other entry the start of a type
+abbrev pub has_type : Descriptor → PoolEntry → (offset : ℕ) → Bool
+has_type d (Classref class) offset = offset == 0xFFFF
+has_type d _ offset = not (offset == 0xFFFF) && is_type d offset
+
+-- offsets of pool entries, as far as there are both; the first stands at this offset
+unfoldable pub types_in_pool : Descriptor → (at : ℕ) → List PoolEntry → (offsets : List ℕ) → List Spot
+types_in_pool d at (entry ∷ entries) (offset ∷ offsets) = unless (has_type d entry offset) (in_info 11 at) ++ types_in_pool d (at + 2) entries offsets
+types_in_pool d at _ _ = []
+
+-- ---- 718
+
+-- 718. Descriptor has each class and interface once, in the order of Class, and each method of a class once, in the order of Method. It
+-- has an offset for each entry of the constant pool, and the offsets of types are starts of types. Broken is the class_ref, or the number
+-- of classes where one is missing; the offset of a method; the offset of a type; or the number of pool entries.
+abbrev pub descriptor_spots : Complete → List Spot
+descriptor_spots c =
+    classes_in_order 1 c.descriptor.classes (all_starts c.class)
+    ++ all_ascend c None 1 c.descriptor.classes
+    ++ along described_size (types_in_class c.descriptor) 1 c.descriptor.classes
+    ++ unless (length c.descriptor.pool_types == length c.pool.entries) (in_info 11 (pool_count_at c.descriptor))
+    ++ types_in_pool c.descriptor (pool_count_at c.descriptor + 2) c.pool.entries c.descriptor.pool_types

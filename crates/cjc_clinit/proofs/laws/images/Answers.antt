@@ -1,0 +1,16 @@
+use Rattle.std.proofs.Common.{refl}
+use Rattle.cjc_world.specs.Classes.{classes_from, all_classes, class_named}
+use Rattle.cjc_world.specs.Kin.{grown, kin}
+use Rattle.cjc_world.specs.Lookup.{own_field, find_field}
+use Rattle.cjc_clinit.specs.Initialiser.{open_place}
+use Rattle.cjc_clinit.specs.Reading.{stage_after, state_after, read, after_code, after_codes}
+use Rattle.cjc_clinit.specs.Image.{image}
+use Rattle.cjc_clinit.proofs.laws.images.Goals as goal
+
+pub returns-clause-statements : goal.returns-clause-statements
+unfolding classes_from all_classes class_named grown kin own_field find_field open_place stage_after state_after read after_code after_codes image
+returns-clause-statements c = refl
+
+pub returns-clause-replaced : goal.returns-clause-replaced
+unfolding classes_from all_classes class_named grown kin own_field find_field open_place stage_after state_after read after_code after_codes image
+returns-clause-replaced c = refl

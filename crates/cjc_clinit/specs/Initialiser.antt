@@ -1,0 +1,124 @@
+-- The grammar of initialisers: which instructions one is made of. Each statement puts a number, null or an array of numbers
+-- into a static field of the class, whose value is then part of the static image (Java Card Virtual Machine
+-- Specification 2.2.2, section 6.10).
+use Rattle.std.specs.Prelude.{◌≡◌, ◌<◌, ◌≤◌, ℕ, List, [], ◌∷◌, ◌++◌, length, replicate, slice_get, slice_set, Bool, true, false, not, ◌&&◌, ◌==◌, if◌then◌else◌, Option, Some, None, option_and_then, ℤ, pos, codes}
+use Rattle.std.specs.Str.{bytes_eq}
+use Rattle.cjc_bytes.specs.declared.fault.MemberId.{MemberId}
+use Rattle.cjc_bytes.specs.declared.names.Kind.{Kind}
+use Rattle.cjc_bytes.specs.declared.names.Kind.TheVariants as kinds
+use Rattle.cjc_classfile.specs.declared.tree.ClassTree.{ClassTree}
+use Rattle.cjc_classfile.specs.declared.tree.FieldTree.{FieldTree}
+use Rattle.cjc_classfile.specs.declared.tree.MethodTree.{MethodTree}
+use Rattle.cjc_code.specs.declared.insn.JOp.{JOp}
+use Rattle.cjc_code.specs.declared.insn.JOp.TheVariants as jop
+use Rattle.cjc_world.specs.declared.found.Found.{Found}
+use Rattle.cjc_world.specs.Files.{Files}
+use Rattle.cjc_world.specs.Classes.{all_classes}
+use Rattle.cjc_world.specs.Lookup.{find_field}
+use Rattle.cjc_clinit.specs.declared.stage.Held.{Held}
+use Rattle.cjc_clinit.specs.declared.stage.Held.TheVariants as held
+use Rattle.cjc_clinit.specs.Fields.{Contents, ANumber, ANull, AnArray, is_cell, fits, takes, held_by}
+
+-- <clinit>()V; a method of this name with another descriptor is no initialiser (Java Virtual Machine Specification, 2.9)
+abbrev pub is_initialiser : MethodTree → Bool
+is_initialiser m = bytes_eq m.name (codes "<clinit>") && bytes_eq m.desc (codes "()V")
+
+-- ---- the instructions
+
+abbrev pub dup : ℕ
+dup = 0x59
+
+-- the return of a method without result
+abbrev pub return : ℕ
+return = 0xB1
+
+-- newarray's numbers of types: boolean 4, byte 8, short 9, int 10
+abbrev pub element_kind : ℕ → Option Kind
+element_kind number =
+    if number == 4 then Some kinds.Bool else if number == 8 then Some kinds.Byte
+    else if number == 9 then Some kinds.Short else if number == 10 then Some kinds.Int else None
+
+-- an array's own store: bastore, sastore, iastore
+abbrev pub store : Kind → ℕ
+store kinds.Short = 0x56
+store kinds.Int = 0x4F
+store _ = 0x54
+
+-- the most items of an array
+abbrev pub most_items : ℕ
+most_items = 32767
+
+-- ---- the fields
+
+-- the place among the class's own fields of one that a look-up found
+abbrev pub own_place : (class : ℕ) → Option Found → Option ℕ
+own_place class None = None
+own_place class (Some f) = if not f.imported && (f.class == class) then Some f.member else None
+
+-- a field with a cell, into which nothing was put
+abbrev pub is_open : Option FieldTree → Option Held → Bool
+is_open (Some f) (Some held.Nothing) = is_cell f
+is_open f h = false
+
+abbrev pub only_if : Bool → ℕ → Option ℕ
+only_if true k = Some k
+only_if false k = None
+
+-- the place, where the field there is open
+abbrev pub open_in : ClassTree → List Held → ℕ → Option ℕ
+open_in c fields k = only_if (is_open (slice_get c.fields k) (slice_get fields k)) k
+
+-- The place of the field that an instruction of the class of this number names: a field of the class itself that is no
+-- constant, into which nothing was put.
+unfoldable pub open_place : Files → (number : ℕ) → ClassTree → List Held → MemberId → Option ℕ
+open_place files number c fields id = option_and_then (open_in c fields) (own_place number (find_field (all_classes files) id.class id.name id.desc))
+
+-- the same, where the field takes what is put
+abbrev pub place_for : Files → (number : ℕ) → ClassTree → List Held → Contents → MemberId → Option ℕ
+place_for files number c fields contents id = if takes contents id.desc then open_place files number c fields id else None
+
+-- ---- the grammar
+
+-- Stores into an array that is on the stack, each of a value of its kind at an index inside it, and the items before and
+-- after them.
+pub data Stores (kind : Kind) : (before : List ℤ) → List JOp → (after : List ℤ) → Type 0 where
+  none : {items : List ℤ} → Stores kind items [] items
+  one : {items : List ℤ} {i : ℕ} {z : ℤ} {ops : List JOp} {after : List ℤ} → i < length items → fits kind z ≡ true → Stores kind (slice_set items i z) ops after
+      → Stores kind items (jop.Stack dup ∷ jop.Number (pos i) ∷ jop.Number z ∷ jop.ArrayStore (store kind) ∷ ops) after
+
+-- instructions that leave this on the stack
+pub data Makes : List JOp → Contents → Type 0 where
+  number : {z : ℤ} → Makes (jop.Number z ∷ []) (ANumber z)
+  null : Makes (jop.Null ∷ []) ANull
+  array : {count number : ℕ} {kind : Kind} {ops : List JOp} {items : List ℤ} → count ≤ most_items → element_kind number ≡ Some kind → Stores kind (replicate count (pos 0)) ops items
+      → Makes (jop.Number (pos count) ∷ jop.NewArray number ∷ ops) (AnArray kind items)
+
+-- what is put, into the field of this place and name
+pub record Put : Type 0 where
+  pub place : ℕ
+  pub field : MemberId
+  pub contents : Contents
+
+-- An initialiser of the class of this number: its statements, and what the fields hold before and after them.
+pub data Initialises (files : Files) (number : ℕ) (c : ClassTree) : (before : List Held) → List JOp → List Put → (after : List Held) → Type 0 where
+  ends : {fields : List Held} → Initialises files number c fields (jop.Return return ∷ []) [] fields
+  puts : {fields after : List Held} {made ops : List JOp} {contents : Contents} {id : MemberId} {k : ℕ} {rest : List Put} → Makes made contents → place_for files number c fields contents id ≡ Some k
+      → Initialises files number c (slice_set fields k (held_by contents)) ops rest after
+      → Initialises files number c fields (made ++ (jop.Static true id ∷ ops)) (record { place = k; field = id; contents = contents } ∷ rest) after
+
+-- ---- how one begins
+
+-- instructions that what follows them may make a statement of: nothing, all that is put, or an array and part of a store
+pub data Begins : List JOp → Type 0 where
+  nothing : Begins []
+  made : {ops : List JOp} {contents : Contents} → Makes ops contents → Begins ops
+  copied : {ops : List JOp} {kind : Kind} {items : List ℤ} → Makes ops (AnArray kind items) → Begins (ops ++ (jop.Stack dup ∷ []))
+  indexed : {ops : List JOp} {kind : Kind} {items : List ℤ} (i : ℕ) → Makes ops (AnArray kind items) → i < length items → Begins (ops ++ (jop.Stack dup ∷ jop.Number (pos i) ∷ []))
+  valued : {ops : List JOp} {kind : Kind} {items : List ℤ} (i : ℕ) (z : ℤ) → Makes ops (AnArray kind items) → i < length items → fits kind z ≡ true → Begins (ops ++ (jop.Stack dup ∷ jop.Number (pos i) ∷ jop.Number z ∷ []))
+
+-- The beginning of an initialiser, or all of it.
+pub data IsBeginning (files : Files) (number : ℕ) (c : ClassTree) : (before : List Held) → List JOp → Type 0 where
+  begins : {fields : List Held} {ops : List JOp} → Begins ops → IsBeginning files number c fields ops
+  ends : {fields : List Held} → IsBeginning files number c fields (jop.Return return ∷ [])
+  puts : {fields : List Held} {made ops : List JOp} {contents : Contents} (id : MemberId) (k : ℕ) → Makes made contents → place_for files number c fields contents id ≡ Some k
+      → IsBeginning files number c (slice_set fields k (held_by contents)) ops → IsBeginning files number c fields (made ++ (jop.Static true id ∷ ops))

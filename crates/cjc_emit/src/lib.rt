@@ -1,0 +1,35 @@
+//! The bytes of methods: headers, instructions, and the places of their indices into the constant pool (Java Card
+//! Virtual Machine Specification 2.2.2, sections 6.9.2 and 6.12). So far headers, definitions and laws. It knows no
+//! class file, and not how a layout was chosen.
+#![tactic(auto)]
+
+ghost use Rattle.std.specs.Prelude.{◌≡◌, ◌∷◌, [], ℕ, Bool, false, List};
+ghost use Rattle.cjc_ncode.specs.declared.narrow.NMethod.{NMethod as Method};
+ghost use Rattle.cjc_lower.specs.Naming.{Naming};
+ghost use Rattle.cjc_lower.specs.Placed.{IsHeader, method_bytes};
+ghost use Rattle.cjc_lower.specs.Worked.{naming};
+ghost use Rattle.cjc_emit.specs.Emitted.{emitted_bytes, header_bytes, index_places, placed_at};
+ghost use Rattle.cjc_emit.specs.Worked.{method, narrow};
+
+mod emitted;
+mod head;
+
+pub use emitted::MethodBytes;
+pub use head::header;
+
+/// Methods made by hand: a short header, an extended one for 16 further cells, an offset from the jump's own
+/// opcode, high bytes first, and places of indices, of which a type test without class has none.
+pub fn worked_methods_are_emitted()
+    ensures bytes { emitted_bytes naming (method 0) narrow ≡ 0x02 ∷ 0x10 ∷ 0x18 ∷ 0x85 ∷ 0 ∷ 0x94 ∷ 12 ∷ 0 ∷ 0 ∷ 0x94 ∷ 0 ∷ 0 ∷ 5 ∷ 0x8F ∷ 0 ∷ 5 ∷ 0x8E ∷ 1 ∷ 0 ∷ 0 ∷ 0 ∷ 0x70 ∷ 0xED ∷ [] }
+    ensures fifteen { header_bytes (method 15) ≡ 0x02 ∷ 0x1F ∷ [] }
+    ensures sixteen { header_bytes (method 16) ≡ 0x80 ∷ 2 ∷ 1 ∷ 16 ∷ [] }
+    ensures ones { index_places naming 1 (method 0) narrow ≡ 4 ∷ [] }
+    ensures twos { index_places naming 2 (method 0) narrow ≡ 11 ∷ 14 ∷ 18 ∷ [] }
+    ensures behind { index_places naming 1 (method 16) narrow ≡ 6 ∷ [] }
+{}
+
+/// A method has the same bytes at every offset, and its header is read as what the method says.
+pub fn methods_stand_anywhere()
+    ensures bytes { (n : Naming) (offset : ℕ) (m : Method) (wide : List Bool) → method_bytes n (placed_at offset m wide) ≡ emitted_bytes n m wide }
+    ensures header { (m : Method) → IsHeader false m (header_bytes m) }
+{}

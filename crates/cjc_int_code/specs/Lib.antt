@@ -1,0 +1,2 @@
+pub mod IntCode
+pub mod Worked

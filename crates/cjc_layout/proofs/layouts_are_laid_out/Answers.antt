@@ -1,0 +1,11 @@
+use Rattle.cjc_layout.proofs.Lowered.{size_same, before_same, handlers_placed}
+use Rattle.cjc_layout.proofs.layouts_are_laid_out.Goals as goal
+
+pub returns-clause-sizes : goal.returns-clause-sizes
+returns-clause-sizes c = size_same
+
+pub returns-clause-offsets : goal.returns-clause-offsets
+returns-clause-offsets c = before_same
+
+pub returns-clause-handlers : goal.returns-clause-handlers
+returns-clause-handlers c = handlers_placed

@@ -1,0 +1,18 @@
+-- What a command makes of its inputs is one answer.
+use Rattle.std.proofs.Common.{ℕ, List}
+use Rattle.cjc_list.specs.Listed.{ListTree}
+use Rattle.cjc_command.proofs.OneAnswer.{IsOneAnswer}
+use Rattle.cjc_convert.proofs.OneAnswer.{one_refusal, not_refused}
+use Rattle.cjc_run.specs.Request.{Request, convert}
+use Rattle.cjc_run.specs.Command.{command_of}
+use Rattle.cjc_run.specs.Convert.{Makes}
+
+convert_once : (dir : List ℕ) (inputs : ListTree × List (List ℕ)) → IsOneAnswer (Makes dir inputs)
+convert_once dir inputs = record {
+  one = λ r s f g. one_refusal inputs.0 inputs.1 r s f g;
+  not_both = λ todo r made f. not_refused inputs.0 inputs.1 made.0 r made.1 f;
+}
+
+-- one line a command
+pub makes_once : (asked : Request) (inputs : (command_of asked).Inputs) → IsOneAnswer ((command_of asked).Makes inputs)
+makes_once (convert list dir) inputs = convert_once dir inputs

@@ -1,0 +1,10 @@
+use Rattle.cjc_command.proofs.OneAnswer.{one_end_over, one_refusal_over}
+use Rattle.cjc_run.specs.Command.{command_of}
+use Rattle.cjc_run.proofs.OneStatus.{makes_once}
+use Rattle.cjc_run.proofs.laws.one_status.Goals as goal
+
+pub returns-clause-one : goal.returns-clause-one
+returns-clause-one c = λ asked files. one_end_over (command_of asked) (makes_once asked) files
+
+pub returns-clause-refused : goal.returns-clause-refused
+returns-clause-refused c = λ asked files. one_refusal_over (command_of asked) (makes_once asked) files

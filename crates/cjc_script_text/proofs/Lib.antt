@@ -1,0 +1,5 @@
+pub mod Decided
+pub mod Lines
+pub mod Loops
+pub mod Short
+pub mod Steps

@@ -1,0 +1,108 @@
+//! A script as far as its lines are read.
+
+ghost use Rattle.std.specs.Prelude.{◌≡◌, ◌+◌, ◌<◌, ◌^◌, length, IfOk};
+ghost use Rattle.cjc_bytes.specs.Found.{Finds};
+ghost use Rattle.cjc_script_text.specs.Scripted.{fresh, with_item, with_line, turns, ended};
+
+use crate::item::{Item, read_item};
+use cjc_bytes::{Line, NoMemory, Row, Stop};
+use cjc_script::{Act, Answer, Entry, Script};
+use std::alloc::Global;
+use std::mem;
+
+/// The calls and answers so far, and acts behind them to which none belongs yet.
+#[derive(Drop)]
+pub(crate) struct Draft {
+    pub(crate) script: Script,
+    pub(crate) acts: Row<Act>,
+    /// Where the first of the acts stands, or 0 where there is none.
+    pub(crate) since: u32,
+}
+
+impl Draft {
+    /// Nothing yet.
+    pub(crate) fn new(alloc: Global) -> Draft
+        ensures { result ≡ fresh }
+    {
+        Draft {
+            script: Script {
+                entries: Row::new(alloc),
+                answers: Row::new(alloc),
+            },
+            acts: Row::new(alloc),
+            since: 0,
+        }
+    }
+
+    /// How many calls and answers there are.
+    fn turns(&self) -> u32
+        requires { turns self.now < 2 ^ 32 }
+        ensures { result ≡ turns self.now }
+    {
+        (self.script.entries.items().len() + self.script.answers.items().len()) as u32
+    }
+
+    /// With what a line at this place says.
+    fn with_item(self, alloc: Global, at: u32, item: Item) -> Result<Draft, NoMemory>
+        requires { turns self < 2 ^ 32 }
+        ensures { IfOk result (λ d. d ≡ with_item at item self) }
+    {
+        let number = self.turns();
+        let mut draft = self;
+        match item {
+            Item::Act(act) => {
+                if draft.acts.items().is_empty() {
+                    draft.since = at;
+                }
+                draft.acts.push(act)?;
+            }
+            Item::Call {
+                virtual_call,
+                method,
+                args,
+            } => {
+                let acts = mem::replace(&mut draft.acts, Row::new(alloc));
+                draft.since = 0;
+                draft.script.entries.push(Entry {
+                    number,
+                    acts,
+                    virtual_call,
+                    method,
+                    args,
+                })?;
+            }
+            Item::Reply(reply) => {
+                let acts = mem::replace(&mut draft.acts, Row::new(alloc));
+                draft.since = 0;
+                draft.script.answers.push(Answer {
+                    number,
+                    acts,
+                    reply,
+                })?;
+            }
+        }
+        Ok(draft)
+    }
+
+    /// With one line more.
+    pub(crate) fn with_line(self, alloc: Global, line: &Line<'_>) -> Result<Draft, Stop>
+        requires short { length line.now.text < 2 ^ 32 }
+        requires few { turns self < 2 ^ 32 }
+        ensures { Finds (λ d. d) (with_line self line.now) result }
+    {
+        let item = read_item(alloc, line)?;
+        let draft = self.with_item(alloc, line.at(), item)?;
+        Ok(draft)
+    }
+
+    /// The script, where no acts are left to which nothing belongs.
+    pub(crate) fn end(self) -> Result<Script, Stop>
+        ensures { Finds (λ s. s) (ended self) result }
+    {
+        if self.acts.items().is_empty() {
+            Ok(self.script)
+        } else {
+            Err(Stop::Broken(self.since))
+        }
+    }
+}

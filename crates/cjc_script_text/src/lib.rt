@@ -1,0 +1,12 @@
+//! Scripts and reports as text: a script is read from its lines, and a report is printed as lines. It knows no
+//! machine, and of files no name but the script's own in a refusal.
+#![tactic(auto)]
+
+mod draft;
+mod item;
+mod printing;
+mod reading;
+mod word;
+
+pub use printing::print;
+pub use reading::{read, scripts};

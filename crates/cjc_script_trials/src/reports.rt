@@ -1,0 +1,168 @@
+//! Reports with every kind of line.
+
+use cjc_bytes::{Bytes, MemberId, Row};
+use cjc_script::{FieldValue, Note, Outcome, Report, Thing, Value};
+use cjc_script_text::print;
+use std::alloc::Global;
+use std::test::*;
+
+/// These bytes.
+fn bytes(alloc: Global, text: &[u8]) -> Result<Bytes, Fail> {
+    Ok(Bytes::copy_of(alloc, text).ok().ok_or("memory")?)
+}
+
+/// These values.
+fn values(alloc: Global, items: &[Value]) -> Result<Row<Value>, Fail> {
+    Ok(Row::of(Vec::from_slice(alloc, items)?))
+}
+
+/// A member by its class, name and descriptor.
+fn member(alloc: Global, class: &[u8], name: &[u8], desc: &[u8]) -> Result<MemberId, Fail> {
+    Ok(MemberId {
+        class: bytes(alloc, class)?,
+        name: bytes(alloc, name)?,
+        desc: bytes(alloc, desc)?,
+    })
+}
+
+/// The balance of a wallet.
+fn balance(alloc: Global, value: Value) -> Result<FieldValue, Fail> {
+    Ok(FieldValue {
+        field: member(alloc, b"p/Wallet", b"balance", b"S")?,
+        value,
+    })
+}
+
+/// A note of each kind.
+fn notes(alloc: Global) -> Result<Row<Note>, Fail> {
+    let mut notes = Row::new(alloc);
+    let callee = member(alloc, b"q/A", b"a", b"(S)S")?;
+    let args = values(alloc, &[Value::Obj(0), Value::Num(-1)])?;
+    notes
+        .push(Note::Event { callee, args })
+        .ok()
+        .ok_or("memory")?;
+    notes.push(Note::Result(None)).ok().ok_or("memory")?;
+    notes
+        .push(Note::Result(Some(Value::Num(-32768))))
+        .ok()
+        .ok_or("memory")?;
+    notes
+        .push(Note::Result(Some(Value::Null)))
+        .ok()
+        .ok_or("memory")?;
+    let class = bytes(alloc, b"p/E")?;
+    notes
+        .push(Note::Thrown {
+            class,
+            object: 4294967295,
+        })
+        .ok()
+        .ok_or("memory")?;
+    Ok(notes)
+}
+
+/// An array, an empty one, an object with fields and one without.
+fn heap(alloc: Global) -> Result<Row<Thing>, Fail> {
+    let mut heap = Row::new(alloc);
+    let items = values(alloc, &[Value::Num(0), Value::Num(64), Value::Num(-128)])?;
+    heap.push(Thing::Array {
+        desc: bytes(alloc, b"[B")?,
+        items,
+    })
+    .ok()
+    .ok_or("memory")?;
+    heap.push(Thing::Array {
+        desc: bytes(alloc, b"[Lp/A;")?,
+        items: Row::new(alloc),
+    })
+    .ok()
+    .ok_or("memory")?;
+    let mut fields = Row::new(alloc);
+    fields
+        .push(balance(alloc, Value::Num(30))?)
+        .ok()
+        .ok_or("memory")?;
+    fields
+        .push(balance(alloc, Value::Obj(1))?)
+        .ok()
+        .ok_or("memory")?;
+    heap.push(Thing::Object {
+        class: bytes(alloc, b"p/Wallet")?,
+        fields,
+    })
+    .ok()
+    .ok_or("memory")?;
+    heap.push(Thing::Object {
+        class: bytes(alloc, b"q/A")?,
+        fields: Row::new(alloc),
+    })
+    .ok()
+    .ok_or("memory")?;
+    Ok(heap)
+}
+
+const TEXT: &str = "event q/A.a(S)S @0 -1
+result void
+result -32768
+result null
+thrown p/E @4294967295
+static p/Wallet.balance:S 7
+static p/Wallet.balance:S null
+array @0 [B 0 64 -128
+array @1 [Lp/A;
+object @2 p/Wallet p/Wallet.balance:S=30 p/Wallet.balance:S=@1
+object @3 q/A
+done
+";
+
+#[test]
+fn every_kind_of_line(rt: HostRuntime) -> Result<(), Fail> {
+    let alloc = rt.alloc();
+    let mut statics = Row::new(alloc);
+    statics
+        .push(balance(alloc, Value::Num(7))?)
+        .ok()
+        .ok_or("memory")?;
+    statics
+        .push(balance(alloc, Value::Null)?)
+        .ok()
+        .ok_or("memory")?;
+    let report = Report {
+        notes: notes(alloc)?,
+        statics,
+        heap: heap(alloc)?,
+        outcome: Outcome::Done,
+        spent: 5,
+    };
+    let text = print(alloc, &report).ok().ok_or("memory")?;
+    assert_eq!(rt; text.items(), TEXT.as_bytes());
+    Ok(())
+}
+
+/// The text of a report of an outcome alone.
+fn ended(alloc: Global, outcome: Outcome) -> Result<Bytes, Fail> {
+    let report = Report {
+        notes: Row::new(alloc),
+        statics: Row::new(alloc),
+        heap: Row::new(alloc),
+        outcome,
+        spent: 0,
+    };
+    Ok(print(alloc, &report).ok().ok_or("memory")?)
+}
+
+#[test]
+fn every_outcome(rt: HostRuntime) -> Result<(), Fail> {
+    let outcomes = [
+        (Outcome::Done, "done\n"),
+        (Outcome::Running, "running\n"),
+        (Outcome::Waiting, "waiting\n"),
+        (Outcome::Unfit(0), "unfit 0\n"),
+        (Outcome::Stuck(4294967295), "stuck 4294967295\n"),
+    ];
+    for (outcome, line) in outcomes {
+        assert_eq!(rt; ended(rt.alloc(), outcome)?.items(), line.as_bytes());
+    }
+    Ok(())
+}
