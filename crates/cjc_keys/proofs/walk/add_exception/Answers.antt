@@ -10,7 +10,7 @@ pub returns-then-any_catch_type : goal.returns-then-any_catch_type
 returns-then-any_catch_type c =
     let whether = sym c.if-any_catch_type.true ∙ c.any_catch_type.ensures in
     let object = keys.Class (codes "java/lang/Object") in
-    on_ok_weaker c.add-then-any_catch_type.result (λ e.
+    on_ok_weaker c.add.result (λ e.
     e
     ∙ (ap (insert_key same_key c.args.numbers.now) c.class.ensures
-    ∙ ap (λ (b : Bool). insert_all same_key c.args.numbers.now (if b then object ∷ [] else [])) whether)) c.add-then-any_catch_type.ensures
+    ∙ ap (λ (b : Bool). insert_all same_key c.args.numbers.now (if b then object ∷ [] else [])) whether)) c.add.ensures
