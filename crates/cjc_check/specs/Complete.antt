@@ -1,5 +1,5 @@
 -- The components of a package of which only Applet and Export may be absent, and how many bytes each has (Java Card Virtual Machine Specification 2.2.2, chapter 6).
-use Rattle.std.specs.Prelude.{ℕ, suc, ◌+◌, ◌*◌, ◌/◌, List, [], ◌∷◌, length, sum_by, Option, Some, None}
+use Rattle.std.specs.Prelude.{ℕ, suc, ◌+◌, ◌*◌, ◌/◌, ◌<◌, ◌^◌, List, [], ◌∷◌, length, sum_by, Option, Some, None}
 use Rattle.cjc_capread.specs.declared.tree.Header.{Header}
 use Rattle.cjc_capread.specs.declared.tree.Applet.{Applet}
 use Rattle.cjc_capread.specs.declared.tree.AppletEntry.{AppletEntry}
@@ -146,3 +146,16 @@ size_items cap =
     ∷ size_of descriptor_size cap.descriptor
     ∷ 0
     ∷ []
+
+-- each component has fewer than 2^32 bytes, its tag and its size counted
+pub record IsSmall (cap : CapTree) : Type 0 where
+  pub header : 3 + header_size cap.header < 2 ^ 32
+  pub applet : 3 + size_of applets_size cap.applet < 2 ^ 32
+  pub import : 3 + size_of import_size cap.import < 2 ^ 32
+  pub pool : 3 + size_of pool_size cap.pool < 2 ^ 32
+  pub class : 3 + size_of class_info_size cap.class < 2 ^ 32
+  pub method : 3 + size_of method_size cap.method < 2 ^ 32
+  pub statics : 3 + size_of statics_size cap.statics < 2 ^ 32
+  pub locations : 3 + size_of locations_size cap.locations < 2 ^ 32
+  pub export : 3 + size_of export_size cap.export < 2 ^ 32
+  pub descriptor : 3 + size_of descriptor_size cap.descriptor < 2 ^ 32

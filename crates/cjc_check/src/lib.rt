@@ -2,10 +2,12 @@
 //! so, as lists of the places where each is broken, and the test of them. It needs no class files.
 #![tactic(auto)]
 
+mod along;
 mod handlers;
 mod imports;
 mod laws;
 mod listed;
+mod sizes;
 mod spot;
 mod statics;
 mod worked;
