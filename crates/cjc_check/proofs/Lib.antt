@@ -1,3 +1,5 @@
 pub mod Firsts
-pub mod Packages
+pub mod Arrays
+pub mod Beside
+pub mod Starts
 pub mod Stops

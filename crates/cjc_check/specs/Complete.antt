@@ -150,6 +150,7 @@ size_items cap =
 -- each component has fewer than 2^32 bytes, its tag and its size counted
 pub record IsSmall (cap : CapTree) : Type 0 where
   pub header : 3 + header_size cap.header < 2 ^ 32
+  pub directory : 3 + 2 * length cap.directory.component_sizes < 2 ^ 32
   pub applet : 3 + size_of applets_size cap.applet < 2 ^ 32
   pub import : 3 + size_of import_size cap.import < 2 ^ 32
   pub pool : 3 + size_of pool_size cap.pool < 2 ^ 32

@@ -1,5 +1,5 @@
 -- Descriptor describes what is there (Java Card Virtual Machine Specification 2.2.2, 6.13).
-use Rattle.std.specs.Prelude.{ℕ, ◌+◌, ◌*◌, List, [], ◌∷◌, ◌++◌, length, map, Bool, true, nat_lt, not, ◌==◌, ◌&&◌, if◌then◌else◌, Option, Some, None}
+use Rattle.std.specs.Prelude.{ℕ, ◌+◌, ◌*◌, List, [], ◌∷◌, ◌++◌, length, Bool, true, nat_lt, not, ◌==◌, ◌&&◌, if◌then◌else◌, Option, Some, None}
 use Rattle.cjc_capread.specs.declared.tree.ClassInfo.{ClassInfo}
 use Rattle.cjc_capread.specs.declared.tree.PoolEntry.{PoolEntry}
 use Rattle.cjc_capread.specs.declared.tree.PoolEntry.TheVariants.{Classref}
@@ -10,16 +10,16 @@ use Rattle.cjc_capread.specs.declared.tree.ClassDescriptor.{ClassDescriptor}
 use Rattle.cjc_capread.specs.declared.tree.TypeDescriptor.{TypeDescriptor}
 use Rattle.cjc_capread.specs.declared.tree.Descriptor.{Descriptor}
 use Rattle.cjc_capread.specs.ClassRefs.{is_inside}
-use Rattle.cjc_check.specs.Spots.{Spot, in_info, unless, along, Placed, placed, begins}
-use Rattle.cjc_check.specs.Complete.{Complete, described_size, type_size}
-use Rattle.cjc_check.specs.Classes.{interfaces_at, classes_at, is_own_class}
+use Rattle.cjc_check.specs.Spots.{Spot, in_info, unless, along, beside, Placed, placed, starts, begins}
+use Rattle.cjc_check.specs.Complete.{Complete, interface_size, class_size, described_size, type_size}
+use Rattle.cjc_check.specs.Classes.{first_interface, first_class, is_own_class}
 use Rattle.cjc_check.specs.ClassRefs.{fields_begin, pool_count_at}
 
 -- ---- classes
 
 -- the starts of the classes and interfaces of Class, in order
 abbrev pub all_starts : ClassInfo → List ℕ
-all_starts info = map (λ p. p.at) (interfaces_at info) ++ map (λ p. p.at) (classes_at info)
+all_starts info = starts interface_size first_interface info.interfaces ++ starts class_size (first_class info) info.classes
 
 -- classes from one on that begins at this offset, beside starts: the class_ref of another class or one too many, which stands behind a
 -- token and flags, or the number of classes where one is missing
@@ -82,9 +82,8 @@ has_type d (Classref class) offset = offset == 0xFFFF
 has_type d _ offset = not (offset == 0xFFFF) && is_type d offset
 
 -- offsets of pool entries, as far as there are both; the first stands at this offset
-unfoldable pub types_in_pool : Descriptor → (at : ℕ) → List PoolEntry → (offsets : List ℕ) → List Spot
-types_in_pool d at (entry ∷ entries) (offset ∷ offsets) = unless (has_type d entry offset) (in_info 11 at) ++ types_in_pool d (at + 2) entries offsets
-types_in_pool d at _ _ = []
+abbrev pub types_in_pool : Descriptor → (at : ℕ) → (offsets : List ℕ) → List PoolEntry → List Spot
+types_in_pool d at offsets entries = beside (λ offset. 2) (λ at offset entry. unless (has_type d entry offset) (in_info 11 at)) at offsets entries
 
 -- ---- 718
 
@@ -97,4 +96,4 @@ descriptor_spots c =
     ++ all_ascend c None 1 c.descriptor.classes
     ++ along described_size (types_in_class c.descriptor) 1 c.descriptor.classes
     ++ unless (length c.descriptor.pool_types == length c.pool.entries) (in_info 11 (pool_count_at c.descriptor))
-    ++ types_in_pool c.descriptor (pool_count_at c.descriptor + 2) c.pool.entries c.descriptor.pool_types
+    ++ types_in_pool c.descriptor (pool_count_at c.descriptor + 2) c.descriptor.pool_types c.pool.entries

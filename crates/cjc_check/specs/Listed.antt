@@ -1,13 +1,14 @@
 -- Directory and the flags of Header say what is there (Java Card Virtual Machine Specification 2.2.2, 6.3 and 6.4).
-use Rattle.std.specs.Prelude.{ℕ, ◌+◌, ◌-◌, ◌*◌, List, [], ◌∷◌, ◌++◌, length, sum_by, Bool, ◌==◌, ◌&&◌, ◌||◌, not, Option, Some, None, is_some}
+use Rattle.std.specs.Prelude.{ℕ, ◌+◌, ◌/◌, List, [], ◌++◌, length, sum_by, Bool, ◌==◌, ◌&&◌, ◌||◌, not, Option, Some, None, is_some}
 use Rattle.cjc_capread.specs.declared.tree.Directory.{Directory}
 use Rattle.cjc_capread.specs.declared.tree.Applet.{Applet}
+use Rattle.cjc_capread.specs.declared.tree.ArrayInit.{ArrayInit}
 use Rattle.cjc_capread.specs.declared.tree.Import.{Import}
 use Rattle.cjc_capread.specs.declared.tree.StaticField.{StaticField}
 use Rattle.cjc_capread.specs.declared.tree.CapTree.{CapTree}
 use Rattle.cjc_bytes.specs.AccessFlags.{has}
 use Rattle.cjc_export.specs.Members.{same_bool}
-use Rattle.cjc_check.specs.Spots.{Spot, in_info, unless}
+use Rattle.cjc_check.specs.Spots.{Spot, in_info, unless, beside}
 use Rattle.cjc_check.specs.Complete.{size_items}
 
 -- ---- 701
@@ -20,10 +21,16 @@ may_be_absent tag = tag == 3 || tag == 10 || tag == 12
 abbrev pub size_agrees : (tag told own : ℕ) → Bool
 size_agrees tag told own = told == own && (may_be_absent tag || not (own == 0))
 
--- the sizes of tags from this one on
-unfoldable pub sizes_from : (tag : ℕ) → (told own : List ℕ) → List Spot
-sizes_from tag (t ∷ told) (n ∷ own) = unless (size_agrees tag t n) (in_info 2 (2 * (tag - 1))) ++ sizes_from (tag + 1) told own
-sizes_from tag _ _ = []
+-- the sizes of the tags from 1 on, of two bytes each
+abbrev pub size_spots : (at told own : ℕ) → List Spot
+size_spots at told own = unless (size_agrees (1 + at / 2) told own) (in_info 2 at)
+
+abbrev pub sizes_agree : (told own : List ℕ) → List Spot
+sizes_agree told own = beside (λ t. 2) size_spots 0 told own
+
+-- the bytes of all arrays
+abbrev pub array_bytes : List ArrayInit → ℕ
+array_bytes arrays = sum_by (λ a. length a.values) arrays
 
 -- the numbers that StaticField says too
 abbrev pub statics_agree : Directory → Option StaticField → List Spot
@@ -31,7 +38,7 @@ statics_agree d None = []
 statics_agree d (Some s) =
     unless (d.image_size == s.image_size) (in_info 2 24)
     ++ unless (d.array_init_count == length s.array_inits) (in_info 2 26)
-    ++ unless (d.array_init_size == sum_by (λ a. length a.values) s.array_inits) (in_info 2 28)
+    ++ unless (d.array_init_size == array_bytes s.array_inits) (in_info 2 28)
 
 abbrev pub imports_agree : Directory → Option Import → List Spot
 imports_agree d None = []
@@ -41,14 +48,17 @@ abbrev pub applet_count : Option Applet → ℕ
 applet_count None = 0
 applet_count (Some a) = length a.applets
 
+abbrev pub applets_agree : Directory → Option Applet → List Spot
+applets_agree d a = unless (d.applet_count == applet_count a) (in_info 2 31)
+
 -- 701. Directory has the size of each component and 0 of each absent one, and no component but Applet and Export is absent. Its other
 -- numbers are those of StaticField, Import and Applet. Broken is the item of Directory.
 abbrev pub directory_spots : CapTree → List Spot
 directory_spots cap =
-    sizes_from 1 cap.directory.component_sizes (size_items cap)
+    sizes_agree cap.directory.component_sizes (size_items cap)
     ++ statics_agree cap.directory cap.statics
     ++ imports_agree cap.directory cap.import
-    ++ unless (cap.directory.applet_count == applet_count cap.applet) (in_info 2 31)
+    ++ applets_agree cap.directory cap.applet
 
 -- ---- 702
 

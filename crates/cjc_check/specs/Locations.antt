@@ -1,7 +1,7 @@
 -- ReferenceLocation lists the indices into the constant pool (Java Card Virtual Machine Specification 2.2.2, 6.11).
 use Rattle.std.specs.Prelude.{ℕ, ◌+◌, ◌-◌, ◌/◌, ◌%◌, List, [], ◌∷◌, ◌++◌, length, map, filter, replicate, ◌==◌, if◌then◌else◌}
 use Rattle.cjc_capread.specs.declared.tree.Handler.{Handler}
-use Rattle.cjc_check.specs.Spots.{Spot, in_info, unless}
+use Rattle.cjc_check.specs.Spots.{Spot, in_info, unless, beside}
 use Rattle.cjc_check.specs.Complete.{Complete}
 use Rattle.cjc_check.specs.Instructions.{IndexOperand, all_indices}
 
@@ -24,9 +24,8 @@ distances before [] = []
 distances before (at ∷ places) = distance (at - before) ++ distances at places
 
 -- bytes that differ, as far as there are both; the first has this offset
-unfoldable pub differ : (at : ℕ) → (listed wanted : List ℕ) → List Spot
-differ at (b ∷ listed) (w ∷ wanted) = unless (b == w) (in_info 9 at) ++ differ (at + 1) listed wanted
-differ at _ _ = []
+abbrev pub differ : (at : ℕ) → (listed wanted : List ℕ) → List Spot
+differ at listed wanted = beside (λ b. 1) (λ at b w. unless (b == w) (in_info 9 at)) at listed wanted
 
 -- bytes behind their number of two bytes, which stands at this offset
 abbrev pub are_listed : (at : ℕ) → (listed wanted : List ℕ) → List Spot

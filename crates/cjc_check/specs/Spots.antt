@@ -1,5 +1,5 @@
 -- Places in components, and items that stand one behind the other in them.
-use Rattle.std.specs.Prelude.{ℕ, ◌+◌, List, [], ◌∷◌, ◌++◌, Bool, true, false, ◌==◌, ◌&&◌, ◌||◌, if◌then◌else◌, Option, Some, None, option_map, nat_lt, nat_le}
+use Rattle.std.specs.Prelude.{ℕ, ◌+◌, List, [], ◌∷◌, ◌++◌, map, Bool, true, false, ◌==◌, ◌&&◌, ◌||◌, if◌then◌else◌, Option, Some, None, option_map, nat_lt, nat_le}
 use Rattle.std.specs.List.{list_any, find}
 pub use Rattle.cjc_check.specs.declared.spot.Spot.{Spot}
 
@@ -22,6 +22,11 @@ unfoldable pub numbered : {A : Type 0} → (size : A → ℕ) → (broken : (num
 numbered size broken n at [] = []
 numbered size broken n at (x ∷ xs) = broken n at x ++ numbered size broken (n + 1) (at + size x) xs
 
+-- What is broken in items of these sizes beside others, as far as there are both.
+unfoldable pub beside : {A B : Type 0} → (size : A → ℕ) → (broken : ℕ → A → B → List Spot) → (at : ℕ) → List A → List B → List Spot
+beside size broken at (x ∷ xs) (y ∷ ys) = broken at x y ++ beside size broken (at + size x) xs ys
+beside size broken at _ _ = []
+
 -- an item and the offset of its first byte
 pub record Placed (A : Type 0) : Type 0 where
   pub at : ℕ
@@ -31,6 +36,10 @@ pub record Placed (A : Type 0) : Type 0 where
 unfoldable pub placed : {A : Type 0} → (size : A → ℕ) → (from : ℕ) → List A → List (Placed A)
 placed size from [] = []
 placed size from (x ∷ xs) = record { at = from; item = x } ∷ placed size (from + size x) xs
+
+-- where items of these sizes begin, from an offset on
+abbrev pub starts : {A : Type 0} → (size : A → ℕ) → (from : ℕ) → List A → List ℕ
+starts size from xs = map (λ p. p.at) (placed size from xs)
 
 -- an item begins at this offset
 abbrev pub begins : {A : Type 0} → List (Placed A) → ℕ → Bool

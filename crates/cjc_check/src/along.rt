@@ -1,11 +1,15 @@
 //! Items that stand one behind the other in a component: their bytes in all, and the first place where a test of them fails. The
 //! test of each sentence uses it. It knows no sentence.
 
-ghost use Rattle.std.specs.Prelude.{◌≡◌, ℕ, ◌+◌, ◌<◌, ◌^◌, List, sum_by};
-ghost use Rattle.cjc_check.specs.Spots.{along, first};
+ghost use Rattle.std.specs.Prelude.{◌≡◌, ℕ, ◌+◌, ◌<◌, ◌^◌, ◌==◌, List, IfOk, sum_by};
+ghost use Rattle.std.specs.List.{list_any};
+ghost use Rattle.std.specs.List.Sorted.{IsNonDecreasing};
+ghost use Rattle.cjc_check.specs.Spots.{along, beside, first, starts};
 ghost use Rattle.cjc_check.specs.declared.spot.Spot.{Spot as Place};
 
 use crate::spot::{Spot, earlier};
+use cjc_bytes::{NoMemory, Row};
+use std::alloc::Global;
 
 /// An item of a component.
 pub(crate) trait Item {
@@ -55,4 +59,62 @@ pub(crate) fn first_along<T: Item, C: Test<T>>(test: &C, from: u32, items: &[T])
         at += item.size();
     }
     least
+}
+
+/// A test of items of one kind beside others.
+pub(crate) trait Comparison<T: Item, U> {
+    ghost broken: { Self → ℕ → T → U → List Place };
+
+    ghost fits: { Self → Type 0 };
+
+    /// The first place where an item that begins at an offset fails beside another.
+    fn first_between(&self, at: u32, item: &T, other: &U) -> Option<Spot>
+        requires ready { fits self.now }
+        requires small { 3 + at + T.bytes item.now < 2 ^ 32 }
+        ensures { result ≡ first (broken self.now at item.now other.now) };
+}
+
+/// The first place where one of several items fails beside the other of its place, as far as there are both.
+pub(crate) fn first_beside<T: Item, U, C: Comparison<T, U>>(
+    test: &C,
+    from: u32,
+    items: &[T],
+    others: &[U],
+) -> Option<Spot>
+    requires ready { C.fits test.now }
+    requires small { 3 + from + sum_by T.bytes items.now < 2 ^ 32 }
+    ensures { result ≡ first (beside T.bytes (C.broken test.now) from items.now others.now) }
+{
+    let mut least = None;
+    let mut at = from;
+    for (i, item) in items.iter().enumerate() {
+        if i >= others.len() {
+            return least;
+        }
+        least = earlier(least, test.first_between(at, item, &others[i]));
+        at += item.size();
+    }
+    least
+}
+
+/// Where items begin, the first at an offset.
+pub(crate) fn starts<T: Item>(alloc: Global, from: u32, items: &[T]) -> Result<Row<u64>, NoMemory>
+    requires { from + sum_by T.bytes items.now < 2 ^ 32 }
+    ensures { IfOk result (λ s. s ≡ starts T.bytes from items.now) }
+{
+    let mut starts = Row::new(alloc);
+    let mut at = from;
+    for item in items {
+        starts.push(u64::from(at))?;
+        at += item.size();
+    }
+    Ok(starts)
+}
+
+/// Whether a number is one of several that do not fall.
+pub(crate) fn is_among(numbers: &[u64], number: u64) -> bool
+    requires { IsNonDecreasing numbers.now }
+    ensures { result ≡ list_any (λ n. n == number) numbers.now }
+{
+    numbers.binary_search(&number).is_ok()
 }

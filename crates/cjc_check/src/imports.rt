@@ -1,11 +1,12 @@
 //! Import names the export files (Java Card Virtual Machine Specification 2.2.2, sections 4.5.2 and 6.6). It knows no other component.
 
-ghost use Rattle.std.specs.Prelude.{◌≡◌, ◌+◌, ◌<◌, ◌^◌, sum_by};
-ghost use Rattle.cjc_check.specs.Complete.{import_size, package_size};
-ghost use Rattle.cjc_check.specs.Imports.{import_spots, package_agrees, packages_agree};
+ghost use Rattle.std.specs.Prelude.{◌≡◌, ◌+◌, ◌<◌, ◌^◌};
+ghost use Rattle.cjc_check.specs.Complete.{import_size};
+ghost use Rattle.cjc_check.specs.Imports.{import_spots, package_agrees};
 ghost use Rattle.cjc_check.specs.Spots.{first};
 ghost use Rattle.std.specs.Str.{bytes_eq};
 
+use crate::along::{Comparison, first_beside};
 use crate::spot::{Spot, earlier, unless};
 use cjc_capread::{Import, ImportedPackage};
 use cjc_export::ExportTree;
@@ -20,32 +21,20 @@ fn has_aid(one: &ImportedPackage, tree: &ExportTree) -> bool
     one.aid.items() == tree.aid.items()
 }
 
-/// Where a package that begins at an offset is another than an export file's.
-#[tactic(auto, using(crate::proofs::Firsts::first_append))]
-fn package_agrees(at: u32, one: &ImportedPackage, tree: &ExportTree) -> Option<Spot>
-    requires { 5 + at < 2 ^ 32 }
-    ensures { result ≡ first (package_agrees at one.now tree.now) }
-{
-    let major = unless(one.major == tree.major, IMPORT, at + 1);
-    let aid = unless(has_aid(one, tree), IMPORT, at + 2);
-    earlier(major, aid)
-}
+/// Whether packages are those of export files.
+struct Agree;
 
-/// The first package that is another than the export file of its place, as far as there are both.
-fn packages_agree(packages: &[ImportedPackage], exports: &[ExportTree]) -> Option<Spot>
-    requires { 4 + sum_by package_size packages.now < 2 ^ 32 }
-    ensures { result ≡ first (packages_agree 1 packages.now exports.now) }
-{
-    let mut least = None;
-    let mut at: u32 = 1;
-    for (i, one) in packages.iter().enumerate() {
-        if i >= exports.len() {
-            return least;
-        }
-        least = earlier(least, package_agrees(at, one, &exports[i]));
-        at += 3 + one.aid.items().len() as u32;
+impl Comparison<ImportedPackage, ExportTree> for Agree {
+    ghost broken = { λ s. package_agrees };
+
+    ghost fits = { λ s. Unit {0} };
+
+    #[tactic(auto, using(crate::proofs::Firsts::first_append))]
+    fn first_between(&self, at: u32, item: &ImportedPackage, other: &ExportTree) -> Option<Spot> {
+        let major = unless(item.major == other.major, IMPORT, at + 1);
+        let aid = unless(has_aid(item, other), IMPORT, at + 2);
+        earlier(major, aid)
     }
-    least
 }
 
 /// Where 703 is broken first: the number of packages, a major version or an AID that is another than the export
@@ -56,5 +45,5 @@ pub fn import_spot(import: &Import, exports: &[ExportTree]) -> Option<Spot>
 {
     let packages = import.packages.items();
     let count = unless(packages.len() == exports.len(), IMPORT, 0);
-    earlier(count, packages_agree(packages, exports))
+    earlier(count, first_beside(&Agree, 1, packages, exports))
 }

@@ -3,6 +3,7 @@
 #![tactic(auto)]
 
 mod along;
+mod directory;
 mod handlers;
 mod imports;
 mod laws;
@@ -12,6 +13,7 @@ mod spot;
 mod statics;
 mod worked;
 
+pub use directory::directory_spot;
 pub use handlers::stop_spot;
 pub use imports::import_spot;
 pub use laws::{consistent_where_unbroken, first_places};

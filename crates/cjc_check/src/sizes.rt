@@ -89,6 +89,14 @@ impl Item for TypeDescriptor {
     }
 }
 
+impl Item for u64 {
+    ghost bytes = { λ n. 2 };
+
+    fn size(&self) -> u32 {
+        2
+    }
+}
+
 /// The bytes of Header.
 fn header_size(header: &Header) -> u32
     requires { header_size header.now < 2 ^ 32 }

@@ -9,5 +9,5 @@ use Rattle.cjc_check.proofs.imports.import_spot.Goals as goal
 pub returns : goal.returns
 returns c =
     let count = c.unless-count.ensures ∙ ap (λ (ps : List ImportedPackage). first (unless (length ps == length c.args.exports.now) (in_info 4 0))) c.items-packages.ensures in
-    let packages = c.packages_agree.ensures ∙ ap (λ (ps : List ImportedPackage). first (packages_agree 1 ps c.args.exports.now)) c.items-packages.ensures in
+    let packages = c.first_beside.ensures ∙ ap (λ (ps : List ImportedPackage). first (packages_agree 1 ps c.args.exports.now)) c.items-packages.ensures in
     c.earlier.ensures ∙ joined _ _ _ _ count packages
