@@ -67,7 +67,7 @@ found l heap f (slot {s = s} {slots = slots} h hs) e = by (λ e. found l heap f 
 
 -- ---- as a word
 
-holds_word : (s : Span) (z : ℤ) → negsuc 32767 ≤ℤ s.low → s.high ≤ℤ pos 32767 → Holds s z → z ≡ low_word z
+pub holds_word : (s : Span) (z : ℤ) → negsuc 32767 ≤ℤ s.low → s.high ≤ℤ pos 32767 → Holds s z → z ≡ low_word z
 holds_word s z low high h = let a = h.above in let b = h.below in sym (low_word_same z (omega (arith, ints)) (omega (arith, ints)))
 
 -- a value of one word agrees with itself
@@ -110,7 +110,7 @@ le_true a b h = go (int_le a b) refl
     go true e = refl
     go false e = absurd (grind (arith, ints, e, h))
 
-is_word_held : (s : Span) (z : ℤ) → negsuc 32767 ≤ℤ s.low → s.high ≤ℤ pos 32767 → Holds s z → is_word z ≡ true
+pub is_word_held : (s : Span) (z : ℤ) → negsuc 32767 ≤ℤ s.low → s.high ≤ℤ pos 32767 → Holds s z → is_word z ≡ true
 is_word_held s z low high h =
     let a = h.above in let b = h.below in
     let e = le_true (negsuc 32767) z (omega (arith, ints)) in let f = le_true z (pos 32767) (omega (arith, ints)) in

@@ -17,3 +17,8 @@ pub mod Keeps
 pub mod News
 pub mod Casts
 pub mod Puts
+pub mod Items
+pub mod Elements
+pub mod ReferenceItems
+pub mod Switches
+pub mod Throws

@@ -45,7 +45,7 @@ fits_byte : (z : ℤ) → negsuc 127 ≤ℤ z → z ≤ℤ pos 127 → FitsSigne
 fits_byte (pos n) a b = record { sfits = omega (arith, ints) }
 fits_byte (negsuc n) a b = record { sfits = omega (arith, ints) }
 
-byte_same : (z : ℤ) → negsuc 127 ≤ℤ z → z ≤ℤ pos 127 → low_byte z ≡ z
+pub byte_same : (z : ℤ) → negsuc 127 ≤ℤ z → z ≤ℤ pos 127 → low_byte z ≡ z
 byte_same z a b = low_byte_fixed z (fits_byte z a b)
 
 -- a cell that may be put is the same value on both sides, fits, and is taken as it is

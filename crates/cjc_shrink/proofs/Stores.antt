@@ -35,7 +35,7 @@ locals_long no_more = (refl, refl)
 locals_long (local a s) = let r = locals_long s in (ap suc r.0, ap suc r.1)
 locals_long (unused s) = let r = locals_long s in (ap suc r.0, ap suc r.1)
 
-get_there : {A : Type 0} (xs : List A) (n : ℕ) → n < length xs → (x : A) × (slice_get xs n ≡ Some x)
+pub get_there : {A : Type 0} (xs : List A) (n : ℕ) → n < length xs → (x : A) × (slice_get xs n ≡ Some x)
 get_there [] n h = absurd (omega arith)
 get_there (x ∷ xs) zero h = (x, refl)
 get_there (x ∷ xs) (suc n) h = get_there xs n (omega arith)

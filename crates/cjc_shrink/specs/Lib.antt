@@ -4,3 +4,6 @@ pub mod Jumps
 pub mod Objects
 pub mod Cells
 pub mod Calls
+pub mod Elements
+pub mod Switches
+pub mod Throws

@@ -8,23 +8,28 @@ ghost use Rattle.cjc_bytes.specs.declared.fault.MemberId.{MemberId};
 ghost use Rattle.cjc_range.specs.Span.{Span, span, Holds, Within, IsWord, short_range};
 ghost use Rattle.cjc_range.specs.Rows.{add_row, sub_row, mul_row, neg_row, div_row, rem_row, shl_row, shr_row, ushr_row, and_row, or_row, to_byte_row, to_short_row};
 ghost use Rattle.cjc_classfile.specs.declared.tree.Catch.{Catch};
+ghost use Rattle.cjc_code.specs.declared.insn.JCase.{JCase};
 ghost use Rattle.cjc_code.specs.declared.insn.JInsn.{JInsn};
 ghost use Rattle.cjc_code.specs.declared.insn.JOp.TheVariants as jop;
 ghost use Rattle.cjc_script.specs.Sorts.{Booleans, Bytes, Shorts, Shape, OfClass, OfNumbers, OfReferences, shape_name, field_sort};
-ghost use Rattle.cjc_bytecode.specs.Effects.{Invoke, HeapObject, shape};
+ghost use Rattle.cjc_bytecode.specs.Effects.{Invoke, Toss, Raise, HeapObject, shape};
 ghost use Rattle.cjc_bytecode.specs.Machine.{Start, caught, made};
 ghost use Rattle.cjc_script.specs.declared.value.Value.{Value};
 ghost use Rattle.cjc_ncode.specs.declared.narrow.NMethod.{NMethod};
 ghost use Rattle.cjc_ncode.specs.Written.{Resolution, place_in, catches_at};
 ghost use Rattle.cjc_ncode.specs.ByLabel.{Callee, Named, by_label, handler as narrow_handler};
 ghost use Rattle.cjc_by_name.specs.Linked.{Method, Linked};
+ghost use Rattle.cjc_by_name.specs.Effects.{Fault, exception_class};
 ghost use Rattle.cjc_by_name.specs.Effects as effects;
 ghost use Rattle.cjc_by_name.specs.Machine.{Frame, State, holder_of, handler, after_throw, after_effect};
 ghost use Rattle.cjc_shrink.specs.Relation.{Kind, OnBoth, Range, Refers, boolean_range, Heap, Stacks, Locals, AllWider, Stores};
-ghost use Rattle.cjc_shrink.specs.Rows.{RowAgrees, RowOnLocals, IsNotWritten, FieldIsThere, kind_of};
+ghost use Rattle.cjc_shrink.specs.Rows.{narrow_fault, RowAgrees, RowOnLocals, IsNotWritten, FieldIsThere, kind_of};
 ghost use Rattle.cjc_shrink.specs.Objects.{IsMade, IsClassThere, IsTypeThere};
+ghost use Rattle.cjc_shrink.specs.Elements.{index_range, IsBytes, IsShorts, IsReferences, AreAll, ElementsLie, ItemsPass, KeepsAlike};
 ghost use Rattle.cjc_shrink.specs.Cells.{CellIsThere, MayBePut, RowOnCells};
 ghost use Rattle.cjc_shrink.specs.Jumps.{JumpAgrees, ReturnAgrees};
+ghost use Rattle.cjc_shrink.specs.Switches.{targets_of, TwoAgree};
+ghost use Rattle.cjc_shrink.specs.Throws.{nheap, HandleAlike, Unwinds, Raises, IsRaised};
 ghost use Rattle.cjc_shrink.specs.Calls.{NFrame, NState, Frames, CallAgrees, IsStaticCall, IsObjectCall, IsWrittenAt, HandlesAlike, CatchAgrees};
 
 /// Arithmetic of class files on operands in intervals, and what is written for it: words stay the low words of their
@@ -90,6 +95,18 @@ pub fn references_are_met_alike()
     ensures arraylength { (by : Linked) (l : Named) (r : Resolution) (m : Method) (within : Shape (List ℕ) → Bool) → ((class : List ℕ) → within (OfClass class) ≡ false) → RowAgrees by l r m jop.ArrayLength (Refers within ∷ []) (Range (span (pos 0) (pos 32767)) ∷ []) }
 {}
 
+/// Elements of arrays are read and written alike, at indices whose low words find the same items: null, an index outside and a
+/// reference that the array's class does not have raise. A byte or boolean keeps eight bits of a number and a short sixteen; a
+/// number that is put into an array that may be one of booleans is 0 or 1.
+pub fn elements_are_met_alike()
+    ensures baload { (by : Linked) (l : Named) (r : Resolution) (m : Method) (i t : Span) (within : Shape (List ℕ) → Bool) → Within i index_range → AreAll IsBytes within → ElementsLie within t → RowAgrees by l r m (jop.ArrayLoad 0x33) (Range i ∷ Refers within ∷ []) (Range t ∷ []) }
+    ensures saload { (by : Linked) (l : Named) (r : Resolution) (m : Method) (i t : Span) (within : Shape (List ℕ) → Bool) → Within i index_range → AreAll IsShorts within → ElementsLie within t → RowAgrees by l r m (jop.ArrayLoad 0x35) (Range i ∷ Refers within ∷ []) (Range t ∷ []) }
+    ensures aaload { (by : Linked) (l : Named) (r : Resolution) (m : Method) (i : Span) (within items : Shape (List ℕ) → Bool) → Within i index_range → AreAll IsReferences within → ItemsPass l within items → RowAgrees by l r m (jop.ArrayLoad 0x32) (Range i ∷ Refers within ∷ []) (Refers items ∷ []) }
+    ensures bastore { (by : Linked) (l : Named) (r : Resolution) (m : Method) (i s : Span) (within : Shape (List ℕ) → Bool) → Within i index_range → AreAll IsBytes within → (within (OfNumbers Booleans) ≡ true → Within s boolean_range) → RowAgrees by l r m (jop.ArrayStore 0x54) (Range s ∷ Range i ∷ Refers within ∷ []) [] }
+    ensures sastore { (by : Linked) (l : Named) (r : Resolution) (m : Method) (i s : Span) (within : Shape (List ℕ) → Bool) → Within i index_range → AreAll IsShorts within → RowAgrees by l r m (jop.ArrayStore 0x56) (Range s ∷ Range i ∷ Refers within ∷ []) [] }
+    ensures aastore { (by : Linked) (l : Named) (r : Resolution) (m : Method) (i : Span) (within values : Shape (List ℕ) → Bool) → Within i index_range → AreAll IsReferences within → KeepsAlike by l m within values → RowAgrees by l r m (jop.ArrayStore 0x53) (Refers values ∷ Range i ∷ Refers within ∷ []) [] }
+{}
+
 /// A field whose values are one word is read alike, on an object of a class that has it: what both heaps hold under it is
 /// pushed, and null raises.
 pub fn fields_are_read_alike()
@@ -124,6 +141,15 @@ pub fn handlers_are_found_alike()
     ensures frame { (by : Linked) (l : Named) (r : Resolution) (reached : List JInsn) (within : Shape (List ℕ) → Bool) (ls : List Kind) (from at object : ℕ) (thing : HeapObject (List ℕ) MemberId) (f : Frame) (outer : List Frame) (s : State) (g : NFrame) (others : List NFrame) (t : NState) → HandlesAlike by l r reached (shape thing) f g → slice_get (let m = t.memory in m.heap) object ≡ Some thing → within (shape thing) ≡ true → Locals (let m = t.memory in m.heap) ls f.locals g.locals → CatchAgrees by l (place_in r reached) within ls from at object (shape thing) f outer s g others t (after_throw by from (f ∷ outer) object (shape_name (shape thing)) s) (caught (by_label l) at (g ∷ others) object (shape thing) t) }
 {}
 
+/// An exception goes outwards alike: from the innermost frame on, through frames that handle alike, to what is written for the
+/// target of the same handler, or out of all frames, where it is noted. So does what athrow throws, and an exception of the
+/// machine's own, whose object is made alike at the end of both heaps.
+pub fn exceptions_go_out_alike()
+    ensures unwinding { (by : Linked) (l : Named) (within : Shape (List ℕ) → Bool) (object : ℕ) (thing : HeapObject (List ℕ) MemberId) (from at : ℕ) (s : State) (t : NState) (outer : List Frame) (others : List NFrame) → slice_get (nheap t) object ≡ Some thing → within (shape thing) ≡ true → HandleAlike by l (nheap t) (shape thing) outer others → Unwinds by l within object (shape thing) s t outer others (after_throw by from outer object (shape_name (shape thing)) s) (caught (by_label l) at others object (shape thing) t) }
+    ensures athrow { (by : Linked) (l : Named) (within : Shape (List ℕ) → Bool) (f : Frame) (outer : List Frame) (s : State) (g : NFrame) (others : List NFrame) (t : NState) → Stores l s.store t.memory → (object : ℕ) (thing : HeapObject (List ℕ) MemberId) (next : ℕ) → slice_get (nheap t) object ≡ Some thing → within (shape thing) ≡ true → HandleAlike by l (nheap t) (shape thing) (f ∷ outer) (g ∷ others) → Unwinds by l within object (shape thing) s t (f ∷ outer) (g ∷ others) (after_effect by (effects.Toss object) f outer s) (made (by_label l) (Toss object) next g others t) }
+    ensures own { (by : Linked) (l : Named) (within : Shape (List ℕ) → Bool) (f : Frame) (outer : List Frame) (s : State) (g : NFrame) (others : List NFrame) (t : NState) → Stores l s.store t.memory → (fault : Fault) (next : ℕ) → IsRaised l fault → within (OfClass (exception_class fault)) ≡ true → HandleAlike by l (nheap t) (OfClass (exception_class fault)) (f ∷ outer) (g ∷ others) → Raises by l within (exception_class fault) s t (f ∷ outer) (g ∷ others) (after_effect by (effects.Raise fault) f outer s) (made (by_label l) (Raise (narrow_fault fault)) next g others t) }
+{}
+
 /// A jump leads to one place on both sides: what stands for its target, or what stands behind it. A number that a condition
 /// reads has 16 bits.
 pub fn jumps_agree()
@@ -144,6 +170,16 @@ pub fn jumps_agree()
     ensures if_acmpne { (by : Linked) (l : Named) (r : Resolution) (m : Method) (target : ℕ) (within below : Shape (List ℕ) → Bool) → JumpAgrees by l r m (jop.If 0xA6 target) (Refers within ∷ Refers below ∷ []) (target ∷ []) }
     ensures ifnull { (by : Linked) (l : Named) (r : Resolution) (m : Method) (target : ℕ) (within : Shape (List ℕ) → Bool) → JumpAgrees by l r m (jop.If 0xC6 target) (Refers within ∷ []) (target ∷ []) }
     ensures ifnonnull { (by : Linked) (l : Named) (r : Resolution) (m : Method) (target : ℕ) (within : Shape (List ℕ) → Bool) → JumpAgrees by l r m (jop.If 0xC7 target) (Refers within ∷ []) (target ∷ []) }
+{}
+
+/// A switch by a number of 16 bits leads to one place on both sides. A case outside of 16 bits is left out of what is written: it is
+/// none of such a number. Where no case is left, what is written takes the number off the stack and jumps to what stands for the
+/// default.
+pub fn switches_agree()
+    ensures tableswitch { (by : Linked) (l : Named) (r : Resolution) (m : Method) (s : Span) → Within s short_range → (other : ℕ) (low : ℤ) (targets : List ℕ) → JumpAgrees by l r m (jop.TableSwitch other low targets) (Range s ∷ []) (other ∷ targets) }
+    ensures lookupswitch { (by : Linked) (l : Named) (r : Resolution) (m : Method) (s : Span) → Within s short_range → (other : ℕ) (cases : List JCase) → JumpAgrees by l r m (jop.LookupSwitch other cases) (Range s ∷ []) (other ∷ targets_of cases) }
+    ensures empty_table { (by : Linked) (l : Named) (r : Resolution) (m : Method) (s : Span) → Within s short_range → (other : ℕ) (low : ℤ) (targets : List ℕ) → TwoAgree by l r m (jop.TableSwitch other low targets) (Range s ∷ []) (other ∷ targets) }
+    ensures empty_pairs { (by : Linked) (l : Named) (r : Resolution) (m : Method) (s : Span) → Within s short_range → (other : ℕ) (cases : List JCase) → TwoAgree by l r m (jop.LookupSwitch other cases) (Range s ∷ []) (other ∷ targets_of cases) }
 {}
 
 /// A return gives the same reference on both sides, and the low word of the same number.
