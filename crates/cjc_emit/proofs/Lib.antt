@@ -1,1 +1,5 @@
 pub mod Shifted
+mod Steps
+mod Spelled
+mod Whole
+mod Decoded

@@ -1,5 +1,5 @@
 -- Bytes at one offset and at another.
-use Rattle.std.proofs.Common.{◌≡◌, ℕ, zero, suc, ◌+◌, ◌-◌, ◌<◌, ◌≤◌, refl, sym, ap, subst, true≢false, ◌∙◌, ⊎_elim, arith, Bool, true, false, List, [], ◌∷◌, ◌++◌, length, add_assoc, ℤ, pos, negsuc}
+use Rattle.std.proofs.Common.{◌≡◌, ℕ, suc, ◌+◌, ◌-◌, ◌<◌, refl, sym, ap, subst, true≢false, ◌∙◌, ⊎_elim, arith, Bool, true, false, List, [], ◌∷◌, ◌++◌, length, ℤ, pos, negsuc}
 use Rattle.std.specs.Prelude.{nat_le, nat_lt, if◌then◌else◌, ◌+ℤ◌, ◌-ℤ◌, ◌&&◌}
 use Rattle.std.proofs.lemmas.Bool.{cases_lt}
 use Rattle.std.proofs.lemmas.Bool.Decides.{nat_tests}
@@ -49,7 +49,7 @@ module _ (n : Naming) (b : ℕ) (to : ℕ → ℕ) where
       ∙ ap (λ zs. let i : Instruction = record { opcode = op; operands = distance at (to other) ∷ low ∷ high ∷ []; table = zs } in i) (offsets_shift at cases)
   switch_shift m at op other low cases = looked_up at op other cases
 
-  laid_shift : (at : ℕ) (w : Bool) (i : NInsn) → laid n far (b + at) w i ≡ laid n to at w i
+  pub laid_shift : (at : ℕ) (w : Bool) (i : NInsn) → laid n far (b + at) w i ≡ laid n to at w i
   laid_shift at w (insns.Op op) = refl
   laid_shift at w (insns.Push op value) = refl
   laid_shift at w (insns.Local op index) = refl

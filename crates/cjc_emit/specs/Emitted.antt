@@ -1,5 +1,5 @@
 -- The bytes of a method with its header, and where the indices into the constant pool stand in them (Java Card Virtual Machine Specification 2.2.2, sections 6.9.2 and 6.12).
-use Rattle.std.specs.Prelude.{◌≡◌, ℕ, ◌+◌, List, [], ◌∷◌, ◌++◌, length, position, Option, Some, None, Bool, nat_lt, ◌&&◌, ◌==◌, if◌then◌else◌}
+use Rattle.std.specs.Prelude.{◌≡◌, ℕ, ◌+◌, List, [], ◌∷◌, ◌++◌, length, position, slice_get, Option, Some, None, Bool, nat_lt, ◌&&◌, ◌==◌, if◌then◌else◌}
 use Rattle.cjc_bytes.specs.declared.fault.MemberId.{MemberId}
 use Rattle.cjc_capread.specs.declared.opcode.OpInfo.{OpInfo}
 use Rattle.cjc_capread.specs.Opcodes.{op_info}
@@ -7,10 +7,12 @@ use Rattle.cjc_ncode.specs.declared.narrow.NInsn.{NInsn}
 use Rattle.cjc_ncode.specs.declared.narrow.NInsn.TheVariants as insns
 use Rattle.cjc_ncode.specs.declared.narrow.NMethod.{NMethod}
 use Rattle.cjc_ncode.specs.declared.narrow.PoolKey.{PoolKey}
+use Rattle.cjc_ncode.specs.declared.narrow.PoolKey.TheVariants as keys
 use Rattle.cjc_ncode.specs.PoolOrder.{same_key}
 use Rattle.cjc_lower.specs.Naming.{Naming}
 use Rattle.cjc_lower.specs.Laid.{invokeinterface}
-use Rattle.cjc_lower.specs.Placed.{Placed, extended_header, insn_size, method_bytes, short_header}
+use Rattle.cjc_lower.specs.Placed.{Placed, IsLaidOut, extended_header, insn_size, method_bytes, short_header}
+use Rattle.cjc_emit.specs.declared.emitted.MethodBytes.{MethodBytes}
 
 -- ---- bytes
 
@@ -31,8 +33,8 @@ abbrev pub emitted_bytes : Naming → NMethod → (wide : List Bool) → List �
 emitted_bytes n m wide = method_bytes n (placed_at 0 m wide)
 
 -- indices and tokens are those of a pool with these keys and these tokens of interface methods
-pub record IsNamedBy (keys : List PoolKey) (token_of : MemberId → Option ℕ) (n : Naming) : Type 0 where
-  pub index : (key : PoolKey) (i : ℕ) → position (same_key key) keys ≡ Some i → n.index key ≡ i
+pub record IsNamedBy (ks : List PoolKey) (token_of : MemberId → Option ℕ) (n : Naming) : Type 0 where
+  pub index : (key : PoolKey) (i : ℕ) → position (same_key key) ks ≡ Some i → n.index key ≡ i
   pub token : (id : MemberId) (t : ℕ) → token_of id ≡ Some t → n.interface_token id ≡ t
 
 -- ---- places of indices
@@ -58,3 +60,33 @@ code_places n bytes at (i ∷ insns) (w ∷ wide) = insn_places bytes at i ++ co
 -- The places of the indices of so many bytes, from the start of the method's header.
 abbrev pub index_places : Naming → (bytes : ℕ) → NMethod → (wide : List Bool) → List ℕ
 index_places n bytes m wide = code_places n bytes (length (header_bytes m)) m.insns wide
+
+-- ---- what is emitted
+
+module _ (ks : List PoolKey) (token_of : MemberId → Option ℕ) where
+  -- a pool has an index for a key
+  abbrev pub HasIndex : PoolKey → Type 0
+  HasIndex key = (i : ℕ) × (position (same_key key) ks ≡ Some i)
+
+  -- there is a token for an interface's method
+  abbrev pub HasToken : MemberId → Type 0
+  HasToken method = (t : ℕ) × (token_of method ≡ Some t)
+
+  -- a pool has what an instruction names
+  abbrev pub HasNames : NInsn → Type 0
+  HasNames (insns.Named op key) = HasIndex key
+  HasNames (insns.Interface nargs method) = HasIndex (keys.Class method.class) × HasToken method
+  HasNames (insns.TypeTest op kind (Some class)) = HasIndex (keys.Class class)
+  HasNames _ = Unit {0}
+
+  -- Components name what a pool has, bytes can say the method's instructions where they are laid, and the pool has what these name.
+  pub record IsEmittable (n : Naming) (m : NMethod) (wide : List Bool) : Type 0 where
+    pub named : IsNamedBy ks token_of n
+    pub laid_out : IsLaidOut n (placed_at 0 m wide)
+    pub names : (k : ℕ) (insn : NInsn) → slice_get m.insns k ≡ Some insn → HasNames insn
+
+-- The bytes of a method, and the places of its indices of one byte and of two.
+pub record IsEmitted (n : Naming) (m : NMethod) (wide : List Bool) (emitted : MethodBytes) : Type 0 where
+  pub bytes : emitted.bytes ≡ emitted_bytes n m wide
+  pub ones : emitted.ones ≡ index_places n 1 m wide
+  pub twos : emitted.twos ≡ index_places n 2 m wide

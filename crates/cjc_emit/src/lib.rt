@@ -3,19 +3,31 @@
 //! class file, and not how a layout was chosen.
 #![tactic(auto)]
 
-ghost use Rattle.std.specs.Prelude.{◌≡◌, ◌∷◌, [], ℕ, Bool, false, List};
+ghost use Rattle.std.specs.Prelude.{◌≡◌, ◌∷◌, [], ◌++◌, ℕ, Bool, false, List, Some, drop, slice_get};
+ghost use Rattle.cjc_capread.specs.Decode.{decode};
+ghost use Rattle.cjc_ncode.specs.declared.narrow.NInsn.{NInsn as Insn};
 ghost use Rattle.cjc_ncode.specs.declared.narrow.NMethod.{NMethod as Method};
 ghost use Rattle.cjc_lower.specs.Naming.{Naming};
-ghost use Rattle.cjc_lower.specs.Placed.{IsHeader, method_bytes};
+ghost use Rattle.cjc_lower.specs.Laid.{laid};
+ghost use Rattle.cjc_lower.specs.Placed.{IsHeader, IsLaidOut, method_bytes, offset_of};
 ghost use Rattle.cjc_lower.specs.Worked.{naming};
 ghost use Rattle.cjc_emit.specs.Emitted.{emitted_bytes, header_bytes, index_places, placed_at};
 ghost use Rattle.cjc_emit.specs.Worked.{method, narrow};
 
+mod code;
 mod emitted;
 mod head;
+mod method;
+mod numbers;
+mod operands;
+mod places;
+mod pool;
+mod switches;
 
 pub use emitted::MethodBytes;
 pub use head::header;
+pub use method::emit;
+pub use pool::PoolLookup;
 
 /// Methods made by hand: a short header, an extended one for 16 further cells, an offset from the jump's own
 /// opcode, high bytes first, and places of indices, of which a type test without class has none.
@@ -32,4 +44,10 @@ pub fn worked_methods_are_emitted()
 pub fn methods_stand_anywhere()
     ensures bytes { (n : Naming) (offset : ℕ) (m : Method) (wide : List Bool) → method_bytes n (placed_at offset m wide) ≡ emitted_bytes n m wide }
     ensures header { (m : Method) → IsHeader false m (header_bytes m) }
+{}
+
+/// Decoding what is emitted of a method gives back each instruction as it is laid, at the offset of its label and
+/// whatever stands behind the method.
+pub fn emitted_code_is_decoded()
+    ensures { (n : Naming) (m : Method) (wide : List Bool) (behind : List ℕ) → (let p = placed_at 0 m wide in IsLaidOut n p → (k : ℕ) (insn : Insn) (w : Bool) → slice_get m.insns k ≡ Some insn → slice_get wide k ≡ Some w → decode (drop (offset_of n p k) (emitted_bytes n m wide ++ behind)) ≡ Some (laid n (offset_of n p) (offset_of n p k) w insn)) }
 {}
