@@ -1,0 +1,3 @@
+pub mod Shapes
+pub mod Standing
+pub mod Lowered
