@@ -1,10 +1,18 @@
 //! Numbers as bytes, high ones first. Called by whoever writes instructions. It knows no instruction.
 
-ghost use Rattle.std.specs.Prelude.{◌≡◌, ◌++◌, OnOk};
+ghost use Rattle.std.specs.Prelude.{◌≡◌, ◌∷◌, [], ◌++◌, OnOk};
 ghost use Rattle.cjc_lower.specs.Laid.{distance};
 ghost use Rattle.cjc_emit.specs.Working.{bits, last_bits, low_bytes};
 
 use cjc_bytes::{Bytes, NoMemory};
+
+fn put_pair(out: &mut Bytes, high: u8, low: u8) -> Result<(), NoMemory>
+    ensures { OnOk result (out.new ≡ out.old ++ high ∷ low ∷ []) }
+{
+    out.push(high)?;
+    out.push(low)?;
+    Ok(())
+}
 
 /// The lowest of four bytes, so many; in no other width than one, two and four.
 pub(crate) fn put_low(out: &mut Bytes, width: u8, n: u32) -> Result<(), NoMemory>
@@ -15,14 +23,11 @@ pub(crate) fn put_low(out: &mut Bytes, width: u8, n: u32) -> Result<(), NoMemory
             out.push((n % 256) as u8)?;
         }
         2 => {
-            out.push((n / 256 % 256) as u8)?;
-            out.push((n % 256) as u8)?;
+            put_pair(out, (n / 256 % 256) as u8, (n % 256) as u8)?;
         }
         4 => {
-            out.push((n / 16777216) as u8)?;
-            out.push((n / 65536 % 256) as u8)?;
-            out.push((n / 256 % 256) as u8)?;
-            out.push((n % 256) as u8)?;
+            put_pair(out, (n / 16777216) as u8, (n / 65536 % 256) as u8)?;
+            put_pair(out, (n / 256 % 256) as u8, (n % 256) as u8)?;
         }
         _ => {}
     }
