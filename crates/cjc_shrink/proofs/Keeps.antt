@@ -3,22 +3,13 @@ use Rattle.std.proofs.Common.{◌≡◌, ◌⊎◌, ℕ, zero, suc, refl, ap, su
 use Rattle.std.specs.Prelude.{Option, Some, slice_get, slice_set}
 use Rattle.cjc_bytes.specs.declared.fault.MemberId.{MemberId}
 use Rattle.cjc_script.specs.declared.value.Value.{Value}
-use Rattle.cjc_script.specs.Sorts.{Shape, Sort}
+use Rattle.cjc_script.specs.Sorts.{Sort}
 use Rattle.cjc_bytecode.specs.Effects.{Slot, HeapObject, shape}
 use Rattle.cjc_bytecode.proofs.Natural.{map_last, set_map}
 use Rattle.cjc_ncode.specs.ByLabel.{Named}
 use Rattle.cjc_by_name.specs.Effects.{Store}
 use Rattle.cjc_shrink.specs.Relation.{Kind, Heap, NMemory, Agrees, number, null, object, free, Stacks, bottom, cell, left_out, Locals, no_more, local, unused, CellFits, a_boolean, a_byte, a_short, an_int, a_null, an_object, SlotsFit, no_slots, slot, ThingFits, numbers, references, of_class, HeapFits, shown, Stores}
-
--- something of a type is at a place of the heap
-pub record IsAt (heap : Heap) (k : ℕ) (kind : Shape (List ℕ)) : Type 0 where
-  pub thing : HeapObject (List ℕ) MemberId
-  pub is : slice_get heap k ≡ Some thing
-  pub type : shape thing ≡ kind
-
--- what is there has its type on the other heap too
-abbrev pub Keeps : Heap → Heap → Type 0
-Keeps heap after = (k : ℕ) (thing : HeapObject (List ℕ) MemberId) → slice_get heap k ≡ Some thing → IsAt after k (shape thing)
+use Rattle.cjc_shrink.specs.Acts.{IsAt, Keeps}
 
 module _ {heap after : Heap} (keeps : Keeps heap after) where
   pub agree_kept : {k : Kind} {v w : Value} → Agrees heap k v w → Agrees after k v w

@@ -22,3 +22,7 @@ pub mod Elements
 pub mod ReferenceItems
 pub mod Switches
 pub mod Throws
+pub mod Callees
+pub mod Results
+pub mod Replies
+pub mod Imports

@@ -20,10 +20,11 @@ use Rattle.cjc_by_name.specs.Machine.{Frame, State, heap_of, with_frames, with_n
 use Rattle.cjc_shrink.specs.Relation.{Kind, Heap, no_slots, of_class, shown, Stores}
 use Rattle.cjc_shrink.specs.Rows.{narrow_fault}
 use Rattle.cjc_shrink.specs.Calls.{NFrame, NState, NTurn, CatchAgrees, takes, passes}
+use Rattle.cjc_shrink.specs.Acts.{Keeps}
 use Rattle.cjc_shrink.specs.Throws.{nheap, HandleAlike, no_frame, a_frame, Unwinds, handled, outwards, unhandled, Raises, IsRaised}
 use Rattle.cjc_shrink.proofs.Begins.{thing_shown, type_shown}
 use Rattle.cjc_shrink.proofs.Handlers.{caught}
-use Rattle.cjc_shrink.proofs.Keeps.{Keeps, locals_kept, grown_keeps, get_last, grown_stores}
+use Rattle.cjc_shrink.proofs.Keeps.{locals_kept, grown_keeps, get_last, grown_stores}
 
 -- a type has one name on both sides
 name_same : (l : Named) (kind : Shape (List ℕ)) → narrow.type_name (by_label l) kind ≡ shape_name kind
@@ -32,7 +33,7 @@ name_same l (OfClass class) = refl
 name_same l (OfNumbers element) = refl
 name_same l (OfReferences class) = refl
 
-handle_kept : {by : Linked} {l : Named} {heap after : Heap} {kind : Shape (List ℕ)} {fs : List Frame} {gs : List NFrame} → Keeps heap after → HandleAlike by l heap kind fs gs → HandleAlike by l after kind fs gs
+pub handle_kept : {by : Linked} {l : Named} {heap after : Heap} {kind : Shape (List ℕ)} {fs : List Frame} {gs : List NFrame} → Keeps heap after → HandleAlike by l heap kind fs gs → HandleAlike by l after kind fs gs
 handle_kept keeps no_frame = no_frame
 handle_kept keeps (a_frame r reached ls alike held more) = a_frame r reached ls alike (locals_kept keeps held) (handle_kept keeps more)
 

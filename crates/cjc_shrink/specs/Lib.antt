@@ -7,3 +7,7 @@ pub mod Calls
 pub mod Elements
 pub mod Switches
 pub mod Throws
+pub mod Callees
+pub mod Results
+pub mod Acts
+pub mod Replies

@@ -11,8 +11,8 @@ ghost use Rattle.cjc_classfile.specs.declared.tree.Catch.{Catch};
 ghost use Rattle.cjc_code.specs.declared.insn.JCase.{JCase};
 ghost use Rattle.cjc_code.specs.declared.insn.JInsn.{JInsn};
 ghost use Rattle.cjc_code.specs.declared.insn.JOp.TheVariants as jop;
-ghost use Rattle.cjc_script.specs.Sorts.{Booleans, Bytes, Shorts, Shape, OfClass, OfNumbers, OfReferences, shape_name, field_sort};
-ghost use Rattle.cjc_bytecode.specs.Effects.{Invoke, Toss, Raise, HeapObject, shape};
+ghost use Rattle.cjc_script.specs.Sorts.{Booleans, Bytes, Shorts, Signature, Shape, OfClass, OfNumbers, OfReferences, shape_name, field_sort};
+ghost use Rattle.cjc_bytecode.specs.Effects.{Invoke, Toss, Raise, Leave, HeapObject, shape};
 ghost use Rattle.cjc_bytecode.specs.Machine.{Start, caught, made};
 ghost use Rattle.cjc_script.specs.declared.value.Value.{Value};
 ghost use Rattle.cjc_ncode.specs.declared.narrow.NMethod.{NMethod};
@@ -21,14 +21,17 @@ ghost use Rattle.cjc_ncode.specs.ByLabel.{Callee, Named, by_label, handler as na
 ghost use Rattle.cjc_by_name.specs.Linked.{Method, Linked};
 ghost use Rattle.cjc_by_name.specs.Effects.{Fault, exception_class};
 ghost use Rattle.cjc_by_name.specs.Effects as effects;
-ghost use Rattle.cjc_by_name.specs.Machine.{Frame, State, holder_of, handler, after_throw, after_effect};
+ghost use Rattle.cjc_by_name.specs.Machine.{Frame, State, room, holder_of, handler, after_throw, after_effect};
 ghost use Rattle.cjc_shrink.specs.Relation.{Kind, OnBoth, Range, Refers, boolean_range, Heap, Stacks, Locals, AllWider, Stores};
-ghost use Rattle.cjc_shrink.specs.Rows.{narrow_fault, RowAgrees, RowOnLocals, IsNotWritten, FieldIsThere, kind_of};
+ghost use Rattle.cjc_shrink.specs.Rows.{narrow_fault, HasRoom, RowAgrees, RowOnLocals, IsNotWritten, FieldIsThere, kind_of};
 ghost use Rattle.cjc_shrink.specs.Objects.{IsMade, IsClassThere, IsTypeThere};
 ghost use Rattle.cjc_shrink.specs.Elements.{index_range, IsBytes, IsShorts, IsReferences, AreAll, ElementsLie, ItemsPass, KeepsAlike};
 ghost use Rattle.cjc_shrink.specs.Cells.{CellIsThere, MayBePut, RowOnCells};
-ghost use Rattle.cjc_shrink.specs.Jumps.{JumpAgrees, ReturnAgrees};
+ghost use Rattle.cjc_shrink.specs.Jumps.{JumpAgrees, ReturnAgrees, Results};
 ghost use Rattle.cjc_shrink.specs.Switches.{targets_of, TwoAgree};
+ghost use Rattle.cjc_shrink.specs.Callees.{Names, CallIsWritten};
+ghost use Rattle.cjc_shrink.specs.Results.{Resumes, NotesResult, AreShort};
+ghost use Rattle.cjc_shrink.specs.Replies.{StatesAgree, result_kinds, IsStaticImport, IsObjectImport, AnswersAlike, ImportAgrees};
 ghost use Rattle.cjc_shrink.specs.Throws.{nheap, HandleAlike, Unwinds, Raises, IsRaised};
 ghost use Rattle.cjc_shrink.specs.Calls.{NFrame, NState, Frames, CallAgrees, IsStaticCall, IsObjectCall, IsWrittenAt, HandlesAlike, CatchAgrees};
 
@@ -133,6 +136,21 @@ pub fn calls_begin_alike()
     ensures object_call { (by : Linked) (l : Named) (narrowed : Method → Start NMethod) (op : ℕ) (id : MemberId) (named : Callee) (within : Shape (List ℕ) → Bool) (params ks ls : List Kind) (next : ℕ) (f : Frame) (outer : List Frame) (s : State) (g : NFrame) (others : List NFrame) (t : NState) → IsObjectCall by l narrowed (holder_of f) op id named within params → Stores l s.store t.memory → Frames (let m = t.memory in m.heap) (reverse (Refers within ∷ params) ++ ks) ls f g → CallAgrees by l narrowed (Refers within ∷ params) ks next f outer s g others t (after_effect by (effects.Invoke op id) f outer s) (made (by_label l) (Invoke named) next g others t) }
 {}
 
+/// A call of an imported method is noted alike, with the same values, and answered alike: the script's acts change both heaps in the
+/// same way, a value that fits goes behind the call, an object that an answer throws is made and goes outwards, and an answer that
+/// does not fit, or none that is left, ends both runs. A call on null raises. Numbers that are passed have 16 bits, results are
+/// one word, and what the script does by itself is done alike.
+pub fn imports_are_answered_alike()
+    ensures static_call { (by : Linked) (l : Named) (op : ℕ) (id event : MemberId) (named : Callee) (types : Signature) (params ks ls : List Kind) (next : ℕ) (f : Frame) (outer : List Frame) (s : State) (g : NFrame) (others : List NFrame) (t : NState) → IsStaticImport by l (holder_of f) op id event named types params → StatesAgree l s t → Frames (nheap t) (reverse params ++ ks) ls f g → HasRoom (result_kinds l types.result ++ ks) (room f) (let m = g.code in m.max_stack) → ((vs ws : List Value) → AnswersAlike by l t (record f { stack = vs }) outer (record g { next = next; stack = ws }) others) → ImportAgrees by l (result_kinds l types.result) ks ls next f outer s g others t (after_effect by (effects.Invoke op id) f outer s) (made (by_label l) (Invoke named) next g others t) }
+    ensures object_call { (by : Linked) (l : Named) (op : ℕ) (id : MemberId) (named : Callee) (within : Shape (List ℕ) → Bool) (types : Signature) (params ks ls : List Kind) (next : ℕ) (f : Frame) (outer : List Frame) (s : State) (g : NFrame) (others : List NFrame) (t : NState) → IsObjectImport by l (holder_of f) op id named within types params → StatesAgree l s t → Frames (nheap t) (reverse (Refers within ∷ params) ++ ks) ls f g → HasRoom (result_kinds l types.result ++ ks) (room f) (let m = g.code in m.max_stack) → ((vs ws : List Value) → AnswersAlike by l t (record f { stack = vs }) outer (record g { next = next; stack = ws }) others) → ImportAgrees by l (result_kinds l types.result) ks ls next f outer s g others t (after_effect by (effects.Invoke op id) f outer s) (made (by_label l) (Invoke named) next g others t) }
+{}
+
+/// What is written for a call names what the member stands for: a static method, a constructor or private method, a method of a
+/// superclass, a virtual method, or a method of an interface with the words that it takes.
+pub fn calls_are_written()
+    ensures { (by : Linked) (l : Named) (r : Resolution) (m : Method) (op : ℕ) (id : MemberId) (named : Callee) → Names r op id named → CallIsWritten by l r m op id named }
+{}
+
 /// Where an instruction is one that is written for an instruction of the class file, the narrow search for a handler finds
 /// what is written for the target that the search by name finds, or both find none; and the frame goes on there with the
 /// exception alone on its stack.
@@ -187,6 +205,13 @@ pub fn returns_agree()
     ensures ireturn { (by : Linked) (l : Named) (r : Resolution) (m : Method) (s : Span) → ReturnAgrees by l r m (jop.Return 0xAC) (Range s ∷ []) }
     ensures areturn { (by : Linked) (l : Named) (r : Resolution) (m : Method) (within : Shape (List ℕ) → Bool) → ReturnAgrees by l r m (jop.Return 0xB0) (Refers within ∷ []) }
     ensures returns { (by : Linked) (l : Named) (r : Resolution) (m : Method) → ReturnAgrees by l r m (jop.Return 0xB1) [] }
+{}
+
+/// A result goes to the frames that wait behind the same call, or, where none waits, is noted: a number of 16 bits and a
+/// reference as they are.
+pub fn results_go_out_alike()
+    ensures to_caller { (by : Linked) (l : Named) (ks : List Kind) (f : Frame) (outer : List Frame) (s : State) (g : NFrame) (others : List NFrame) (t : NState) → Stacks (nheap t) ks f.stack g.stack → (kinds : List Kind) (value : Option Value) (words : List Value) → Results (nheap t) kinds value words → HasRoom (kinds ++ ks) (room f) (let m = g.code in m.max_stack) → (from : Frame) (at : NFrame) (next : ℕ) → Resumes l (kinds ++ ks) s t f outer g others (after_effect by (effects.Leave value) from (f ∷ outer) s) (made (by_label l) (Leave words) next at (g ∷ others) t) }
+    ensures of_entry { (by : Linked) (l : Named) (s : State) (t : NState) (kinds : List Kind) (value : Option Value) (words : List Value) → AreShort kinds → Results (nheap t) kinds value words → (from : Frame) (at : NFrame) (next : ℕ) → NotesResult value s t (after_effect by (effects.Leave value) from [] s) (made (by_label l) (Leave words) next at [] t) }
 {}
 
 /// A new array or object is made alike at the end of both heaps, of a class of which both sides say the same fields; a
