@@ -10,9 +10,8 @@ use Rattle.cjc_classfile.specs.declared.tree.ClassTree.{ClassTree}
 use Rattle.cjc_code.specs.declared.insn.JInsn.{JInsn}
 use Rattle.cjc_code.specs.declared.method_code.MethodCode.{MethodCode}
 use Rattle.cjc_world.specs.Files.{Files}
-use Rattle.cjc_clinit.specs.declared.stage.Wrong.{Wrong}
-use Rattle.cjc_clinit.specs.Reading.{State, Puts, read, state_after, or_wrong, is_ended, ended, nothing_in, with_read, after_code, after_codes, and_then}
-use Rattle.cjc_clinit.specs.Working.{IsRead, puts}
+use Rattle.cjc_clinit.specs.Initialiser.{nothing_in}
+use Rattle.cjc_clinit.specs.Working.Reading.{IsRead, State, Puts, puts, read, state_after, or_wrong, is_ended, ended, with_read, after_code, after_codes, and_then}
 
 pub drop-next : {A : Type 0} (xs : List A) (i : ℕ) (x : A) → i < length xs → x ≡ get_or xs i x → drop i xs ≡ x ∷ drop (i + 1) xs
 drop-next xs i x lt is = drop-cons xs i x lt ∙ ap (λ q. q ∷ drop (suc i) xs) (sym is) ∙ ap (λ n. x ∷ drop n xs) (sym (add-one i))
@@ -36,12 +35,12 @@ module _ (files : Files) (number : ℕ) (c : ClassTree) where
 
 -- ---- methods
 
-pub codes-next : (files : Files) (codes : List MethodCode) (i : ℕ) (x : MethodCode) (p : Puts) (r : Result Puts Wrong) → i < length codes → x ≡ get_or codes i x → after_code files p x ≡ r
+pub codes-next : (files : Files) (codes : List MethodCode) (i : ℕ) (x : MethodCode) (p : Puts) (r : Result Puts ℕ) → i < length codes → x ≡ get_or codes i x → after_code files p x ≡ r
     → after_codes files p (drop i codes) ≡ and_then r (λ later. after_codes files later (drop (i + 1) codes))
 unfolding after_codes
 codes-next files codes i x p r lt is e =
     ap (after_codes files p) (drop-next codes i x lt is)
-    ∙ ap (λ (q : Result Puts Wrong). and_then q (λ later. after_codes files later (drop (i + 1) codes))) e
+    ∙ ap (λ (q : Result Puts ℕ). and_then q (λ later. after_codes files later (drop (i + 1) codes))) e
 
 pub codes-end : (files : Files) (codes : List MethodCode) (i : ℕ) (p : Puts) → length codes ≤ i → after_codes files p (drop i codes) ≡ Ok p
 unfolding after_codes
@@ -66,9 +65,9 @@ pub with-ended : (code : MethodCode) (before : Puts) (r : Result State ℕ) (fie
 with-ended code before (Ok s) fields arrays h = ap (λ q. Ok (puts (slice_set before.fields code.class q) s.arrays)) h.0 ∙ ap (λ q. Ok (puts (slice_set before.fields code.class fields) q)) h.1
 with-ended code before (Err at) fields arrays h = absurd h
 
-pub with-wrong : (code : MethodCode) (before : Puts) (r : Result State ℕ) (at : ℕ) (fields : List Held) (arrays : List ArrayCell) → IsRead r (Some at) fields arrays → with_read code before r ≡ Err (record { class = code.class; method = code.method; offset = at })
+pub with-wrong : (code : MethodCode) (before : Puts) (r : Result State ℕ) (at : ℕ) (fields : List Held) (arrays : List ArrayCell) → IsRead r (Some at) fields arrays → with_read code before r ≡ Err at
 with-wrong code before (Ok s) at fields arrays h = absurd h
-with-wrong code before (Err found) at fields arrays h = ap (λ q. Err (record { class = code.class; method = code.method; offset = q })) h
+with-wrong code before (Err found) at fields arrays h = ap (λ q. Err q) h
 
 -- ---- classes whose fields hold nothing
 
@@ -81,9 +80,9 @@ pub nothing_end : (cs : List ClassTree) (i : ℕ) (old all : List (List Held)) �
 nothing_end cs i old all le inv = sym (append-nil old) ∙ ap (λ q. old ++ map nothing_in q) (sym (drop-past cs i le)) ∙ inv
 
 -- a vector whose items were all lent and written
-pub written-back : (new old : List Held) (len : ℕ) → length new ≡ length old → len ≡ length old → take len (new ++ drop (length new) old) ≡ new
-written-back new old len a b =
+pub written-back : {A : Type 0} (new old : List A) (len : ℕ) → length new ≡ length old → len ≡ length old → take len (new ++ drop (length new) old) ≡ new
+written-back {A} new old len a b =
     let rest : drop (length new) old ≡ [] = drop-past old (length new) (omega arith) in
     let all : length new ≤ len = omega arith in
     let whole : take len new ≡ new = grind (arith, common_steps) in
-    ap (λ q. take len (new ++ q)) rest ∙ ap (take len) (append-nil new) ∙ whole
+    ap (λ (q : List A). take len (new ++ q)) rest ∙ ap (take len) (append-nil new) ∙ whole

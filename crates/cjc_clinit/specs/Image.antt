@@ -1,20 +1,58 @@
 -- The static image of a package: what its static fields hold after all initialisers, by groups (Java Card Virtual Machine
 -- Specification 2.2.2, section 6.10).
-use Rattle.std.specs.Prelude.{ℕ, ◌+◌, List, [], ◌∷◌, ◌++◌, slice_get, Bool, if◌then◌else◌, Option, Some, None, Result, Ok, Err, is_some, ℤ, pos}
+use Rattle.std.specs.Prelude.{◌≡◌, ℕ, ◌+◌, List, [], ◌∷◌, ◌++◌, map, slice_get, slice_set, Bool, if◌then◌else◌, Option, Some, None, is_some, ℤ, pos}
 use Rattle.std.specs.Ordering.{int_eq}
 use Rattle.cjc_bytes.specs.declared.fault.MemberId.{MemberId}
 use Rattle.cjc_classfile.specs.declared.tree.ClassTree.{ClassTree}
 use Rattle.cjc_classfile.specs.declared.tree.FieldTree.{FieldTree}
+use Rattle.cjc_classfile.specs.declared.tree.MethodTree.{MethodTree}
 use Rattle.cjc_code.specs.declared.method_code.MethodCode.{MethodCode}
+use Rattle.cjc_world.specs.declared.image.ArrayCell.{ArrayCell}
 use Rattle.cjc_world.specs.declared.image.StaticImage.{StaticImage}
 use Rattle.cjc_world.specs.Files.{Files}
 use Rattle.cjc_clinit.specs.declared.stage.Held.{Held}
 use Rattle.cjc_clinit.specs.declared.stage.Held.TheVariants as held
 use Rattle.cjc_clinit.specs.declared.stage.Start.{Start}
 use Rattle.cjc_clinit.specs.declared.stage.Start.TheVariants as starts
-use Rattle.cjc_clinit.specs.declared.stage.Wrong.{Wrong}
-use Rattle.cjc_clinit.specs.Fields.{is_cell, is_reference, number_kind}
-use Rattle.cjc_clinit.specs.Reading.{Puts, no_puts, after_codes}
+use Rattle.cjc_clinit.specs.Fields.{Contents, AnArray, is_cell, is_reference, number_kind}
+use Rattle.cjc_clinit.specs.Initialiser.{Initialises, Put, is_initialiser, nothing_in, ops_of}
+
+-- ---- all initialisers
+
+-- the same field, by the class that declares it
+abbrev pub own_field : ClassTree → MemberId → MemberId
+own_field c id = record { class = c.name; name = id.name; desc = id.desc }
+
+-- the array of a field, where it is one
+abbrev pub array_in : MemberId → Contents → List ArrayCell
+array_in field (AnArray kind items) = record { field = field; kind = kind; items = items } ∷ []
+array_in field contents = []
+
+-- the arrays that statements make, in order
+abbrev pub arrays_of : ClassTree → List Put → List ArrayCell
+arrays_of c [] = []
+arrays_of c (p ∷ ps) = array_in (own_field c p.field) p.contents ++ arrays_of c ps
+
+abbrev pub if_initialiser : ClassTree → Option MethodTree → Option ClassTree
+if_initialiser c None = None
+if_initialiser c (Some m) = if is_initialiser m then Some c else None
+
+abbrev pub class_where : (method : ℕ) → Option ClassTree → Option ClassTree
+class_where method None = None
+class_where method (Some c) = if_initialiser c (slice_get c.methods method)
+
+-- the class whose initialiser has this code; none where it is that of another method
+abbrev pub initialised : Files → MethodCode → Option ClassTree
+initialised files code = class_where code.method (slice_get files.classes code.class)
+
+-- The initialisers among these codes, one after the other: what the fields of each class hold before and after them, and
+-- the arrays that they make.
+pub data AreInitialised (files : Files) : (before : List (List Held)) → List MethodCode → List ArrayCell → (after : List (List Held)) → Type 0 where
+  none : {fields : List (List Held)} → AreInitialised files fields [] [] fields
+  other : {before after : List (List Held)} {code : MethodCode} {codes : List MethodCode} {arrays : List ArrayCell} → initialised files code ≡ None → AreInitialised files before codes arrays after → AreInitialised files before (code ∷ codes) arrays after
+  one : {before after : List (List Held)} {code : MethodCode} {codes : List MethodCode} {arrays : List ArrayCell} (c : ClassTree) (puts : List Put) (fields : List Held)
+      → initialised files code ≡ Some c → Initialises files code.class c (nothing_in c) (ops_of code.insns) puts fields → AreInitialised files (slice_set before code.class fields) codes arrays after
+      → AreInitialised files before (code ∷ codes) (arrays_of c puts ++ arrays) after
 
 -- ---- one field
 
@@ -75,13 +113,12 @@ of_classes puts n [] = empty
 of_classes puts n (c ∷ cs) = joined (of_fields c.name (fields_in (slice_get puts n)) 0 c.fields) (of_classes puts (n + 1) cs)
 
 -- arrays in the order of making, then the fields
-abbrev pub image_by : List ClassTree → Puts → StaticImage
-image_by classes puts = joined (record empty { arrays = puts.arrays }) (of_classes puts.fields 0 classes)
+abbrev pub image_of : List ClassTree → List ArrayCell → List (List Held) → StaticImage
+image_of classes arrays fields = joined (record empty { arrays = arrays }) (of_classes fields 0 classes)
 
-abbrev pub puts_or : Puts → Result Puts Wrong → Puts
-puts_or before (Ok puts) = puts
-puts_or before (Err wrong) = before
-
--- The static image of the package whose methods have these instructions.
-unfoldable pub image : Files → List MethodCode → StaticImage
-image files codes = image_by files.classes (puts_or (no_puts files.classes) (after_codes files (no_puts files.classes) codes))
+-- The static image of the package whose methods have these instructions, all of whose initialisers are of the form.
+pub record IsImage (files : Files) (codes : List MethodCode) (image : StaticImage) : Type 0 where
+  pub arrays : List ArrayCell
+  pub fields : List (List Held)
+  pub initialises : AreInitialised files (map nothing_in files.classes) codes arrays fields
+  pub is : image ≡ image_of files.classes arrays fields

@@ -1,7 +1,7 @@
 -- The grammar of initialisers: which instructions one is made of. Each statement puts a number, null or an array of numbers
 -- into a static field of the class, whose value is then part of the static image (Java Card Virtual Machine
 -- Specification 2.2.2, section 6.10).
-use Rattle.std.specs.Prelude.{◌≡◌, ◌<◌, ◌≤◌, ℕ, List, [], ◌∷◌, ◌++◌, length, replicate, slice_get, slice_set, Bool, true, false, not, ◌&&◌, ◌==◌, if◌then◌else◌, Option, Some, None, option_and_then, ℤ, pos, codes}
+use Rattle.std.specs.Prelude.{◌≡◌, ◌<◌, ◌≤◌, ℕ, List, [], ◌∷◌, ◌++◌, map, length, replicate, slice_get, slice_set, Bool, true, false, not, ◌&&◌, ◌==◌, if◌then◌else◌, Option, Some, None, option_and_then, ℤ, pos, codes}
 use Rattle.std.specs.Str.{bytes_eq}
 use Rattle.cjc_bytes.specs.declared.fault.MemberId.{MemberId}
 use Rattle.cjc_bytes.specs.declared.names.Kind.{Kind}
@@ -9,6 +9,7 @@ use Rattle.cjc_bytes.specs.declared.names.Kind.TheVariants as kinds
 use Rattle.cjc_classfile.specs.declared.tree.ClassTree.{ClassTree}
 use Rattle.cjc_classfile.specs.declared.tree.FieldTree.{FieldTree}
 use Rattle.cjc_classfile.specs.declared.tree.MethodTree.{MethodTree}
+use Rattle.cjc_code.specs.declared.insn.JInsn.{JInsn}
 use Rattle.cjc_code.specs.declared.insn.JOp.{JOp}
 use Rattle.cjc_code.specs.declared.insn.JOp.TheVariants as jop
 use Rattle.cjc_world.specs.declared.found.Found.{Found}
@@ -88,9 +89,9 @@ pub data Stores (kind : Kind) : (before : List ℤ) → List JOp → (after : Li
 
 -- instructions that leave this on the stack
 pub data Makes : List JOp → Contents → Type 0 where
-  number : {z : ℤ} → Makes (jop.Number z ∷ []) (ANumber z)
-  null : Makes (jop.Null ∷ []) ANull
-  array : {count number : ℕ} {kind : Kind} {ops : List JOp} {items : List ℤ} → count ≤ most_items → element_kind number ≡ Some kind → Stores kind (replicate count (pos 0)) ops items
+  of_number : {z : ℤ} → Makes (jop.Number z ∷ []) (ANumber z)
+  of_null : Makes (jop.Null ∷ []) ANull
+  of_array : {count number : ℕ} {kind : Kind} {ops : List JOp} {items : List ℤ} → count ≤ most_items → element_kind number ≡ Some kind → Stores kind (replicate count (pos 0)) ops items
       → Makes (jop.Number (pos count) ∷ jop.NewArray number ∷ ops) (AnArray kind items)
 
 -- what is put, into the field of this place and name
@@ -108,17 +109,34 @@ pub data Initialises (files : Files) (number : ℕ) (c : ClassTree) : (before : 
 
 -- ---- how one begins
 
--- instructions that what follows them may make a statement of: nothing, all that is put, or an array and part of a store
-pub data Begins : List JOp → Type 0 where
-  nothing : Begins []
-  made : {ops : List JOp} {contents : Contents} → Makes ops contents → Begins ops
-  copied : {ops : List JOp} {kind : Kind} {items : List ℤ} → Makes ops (AnArray kind items) → Begins (ops ++ (jop.Stack dup ∷ []))
-  indexed : {ops : List JOp} {kind : Kind} {items : List ℤ} (i : ℕ) → Makes ops (AnArray kind items) → i < length items → Begins (ops ++ (jop.Stack dup ∷ jop.Number (pos i) ∷ []))
-  valued : {ops : List JOp} {kind : Kind} {items : List ℤ} (i : ℕ) (z : ℤ) → Makes ops (AnArray kind items) → i < length items → fits kind z ≡ true → Begins (ops ++ (jop.Stack dup ∷ jop.Number (pos i) ∷ jop.Number z ∷ []))
-
--- The beginning of an initialiser, or all of it.
+-- The beginning of an initialiser, or all of it: statements, and behind them the return, or the beginning of what a further
+-- statement puts, which may be no instruction or all of them.
 pub data IsBeginning (files : Files) (number : ℕ) (c : ClassTree) : (before : List Held) → List JOp → Type 0 where
-  begins : {fields : List Held} {ops : List JOp} → Begins ops → IsBeginning files number c fields ops
+  begins : {fields : List Held} {ops : List JOp} (more : List JOp) (contents : Contents) → Makes (ops ++ more) contents → IsBeginning files number c fields ops
   ends : {fields : List Held} → IsBeginning files number c fields (jop.Return return ∷ [])
-  puts : {fields : List Held} {made ops : List JOp} {contents : Contents} (id : MemberId) (k : ℕ) → Makes made contents → place_for files number c fields contents id ≡ Some k
+  puts : {fields : List Held} {made ops : List JOp} (contents : Contents) (id : MemberId) (k : ℕ) → Makes made contents → place_for files number c fields contents id ≡ Some k
       → IsBeginning files number c (slice_set fields k (held_by contents)) ops → IsBeginning files number c fields (made ++ (jop.Static true id ∷ ops))
+
+-- ---- the code of one
+
+-- what the instructions are, without their offsets
+abbrev pub op_of : JInsn → JOp
+op_of i = i.op
+
+abbrev pub ops_of : List JInsn → List JOp
+ops_of insns = map op_of insns
+
+-- nothing is put into any field
+abbrev pub nothing_in : ClassTree → List Held
+nothing_in c = replicate (length c.fields) held.Nothing
+
+-- an initialiser, from the first statement on
+abbrev pub IsInitialiser : Files → (number : ℕ) → ClassTree → List JInsn → Type 0
+IsInitialiser files number c insns = (puts : List Put) × (after : List Held) × Initialises files number c (nothing_in c) (ops_of insns) puts after
+
+-- Code that is no initialiser is wrong at the first instruction with which it is no longer the beginning of one.
+pub data IsWrongAt (files : Files) (number : ℕ) (c : ClassTree) (insns : List JInsn) (offset : ℕ) : Type 0 where
+  wrong : (front rest : List JInsn) (i : JInsn) → insns ≡ front ++ i ∷ rest → offset ≡ i.at → IsBeginning files number c (nothing_in c) (ops_of front) → (IsBeginning files number c (nothing_in c) (ops_of (front ++ i ∷ [])) → ⊥)
+      → IsWrongAt files number c insns offset
+  -- Code without its return, which no decoded code is, is wrong at its start.
+  unended : offset ≡ 0 → IsBeginning files number c (nothing_in c) (ops_of insns) → (IsInitialiser files number c insns → ⊥) → IsWrongAt files number c insns offset

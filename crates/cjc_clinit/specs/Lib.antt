@@ -1,7 +1,5 @@
 pub mod Fields
 pub mod Initialiser
-pub mod Reading
 pub mod Image
 pub mod Rules
 pub mod Working
-pub mod Worked

@@ -2,11 +2,14 @@
 //! section 6.10). It knows no token and no machine.
 #![tactic(auto)]
 
+mod breaks;
 mod fields;
 mod laws;
 mod puts;
 mod stage;
 mod stages;
+mod static_image;
 
-pub use laws::{images, refusals};
-pub use stage::{Held, Stage, Start, Wrong};
+pub use laws::initialisers;
+pub use stage::{Held, Stage, Start};
+pub use static_image::{first_broken, image};

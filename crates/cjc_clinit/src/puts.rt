@@ -2,19 +2,18 @@
 
 ghost use Rattle.std.specs.Prelude.{◌≡◌, ◌++◌, [], map, slice_get, slice_set, option_map, true, IfNone, IfOk, IfSome, OnOk};
 ghost use Rattle.cjc_clinit.specs.declared.stage.Stage.TheVariants as stages;
-ghost use Rattle.cjc_clinit.specs.Initialiser.{is_initialiser, is_open, open_in, open_place, own_place};
-ghost use Rattle.cjc_clinit.specs.Reading.{after_code, after_codes, after_initialiser, after_static, contents_of, ended, is_ended, nothing_in, own_field, read, state, state_after};
-ghost use Rattle.cjc_clinit.specs.Working.{IsRead, array_from, puts, puts_as};
+ghost use Rattle.cjc_clinit.specs.Image.{initialised, own_field};
+ghost use Rattle.cjc_clinit.specs.Initialiser.{is_initialiser, is_open, nothing_in, open_in, open_place, own_place};
+ghost use Rattle.cjc_clinit.specs.Working.Reading.{IsRead, after_code, after_initialiser, after_static, array_from, contents_of, ended, is_ended, puts, puts_as, read, state, state_after};
 
 use crate::fields::is_cell;
-use crate::stage::{Held, Stage, Wrong};
+use crate::stage::{Held, Stage};
 use crate::stages::{held_by, stage_after, takes};
 use cjc_bytes::{Bytes, MemberId, NoMemory, Row};
 use cjc_classfile::{ClassTree, FieldTree, MethodTree};
 use cjc_code::{JInsn, JOp, MethodCode};
 use cjc_world::{ArrayCell, Found, World};
 use std::alloc::Global;
-use std::mem;
 
 // ---- one put
 
@@ -135,7 +134,7 @@ fn after_put(
 // ---- an initialiser
 
 /// The state behind an instruction; None where no initialiser of the class begins so.
-#[tactic(auto, unfolding(crate::specs::Reading::state_after))]
+#[tactic(auto, unfolding(crate::specs::Working::Reading::state_after))]
 fn state_after(
     alloc: Global,
     world: &World<'_>,
@@ -225,19 +224,6 @@ pub(crate) fn no_puts(alloc: Global, classes: &[ClassTree<'_>]) -> Result<Vec<Ro
     Ok(rows)
 }
 
-/// What the fields of a class hold, which leaves nothing in its place.
-fn take_fields(alloc: Global, rows: &mut [Row<Held>], number: usize) -> Option<Row<Held>>
-    ensures taken { result ≡ slice_get rows.old number }
-    ensures left { IfSome result (λ r. rows.new ≡ slice_set rows.old number []) }
-    ensures none { IfNone result (rows.new ≡ rows.old) }
-{
-    if number < rows.len() {
-        Some(mem::replace(&mut rows[number], Row::new(alloc)))
-    } else {
-        None
-    }
-}
-
 fn put_fields(rows: &mut [Row<Held>], number: usize, fields: Row<Held>)
     ensures { rows.new ≡ slice_set rows.old number fields }
 {
@@ -246,7 +232,8 @@ fn put_fields(rows: &mut [Row<Held>], number: usize, fields: Row<Held>)
     }
 }
 
-/// Reads the initialiser of a class. The instruction with which it is none; else what is put is as after it.
+/// Reads the initialiser of a class. The offset with which it is none; else what is put is as after it.
+#[tactic(auto, unfolding(crate::specs::Working::Reading::after_initialiser))]
 fn after_initialiser(
     alloc: Global,
     world: &World<'_>,
@@ -254,70 +241,47 @@ fn after_initialiser(
     code: &MethodCode,
     rows: &mut [Row<Held>],
     arrays: &mut Row<ArrayCell>,
-) -> Result<Option<Wrong>, NoMemory>
-    ensures { IfOk result (λ w. after_initialiser world.now class.now code.now (puts rows.old arrays.old) (slice_get rows.old code.now.class) ≡ puts_as w (puts rows.new arrays.new)) }
+) -> Result<Option<u32>, NoMemory>
+    ensures { IfOk result (λ at. after_initialiser world.now class.now code.now (puts rows.old arrays.old) ≡ puts_as at (puts rows.new arrays.new)) }
 {
-    match take_fields(alloc, rows, code.class as usize) {
-        None => Ok(None),
-        Some(held) => {
-            let mut fields = held.into_vec();
-            let insns = code.insns.items();
-            match read(alloc, world, code.class, class, &mut fields, arrays, insns)? {
-                None => {
-                    put_fields(rows, code.class as usize, Row::of(fields));
-                    Ok(None)
-                }
-                Some(offset) => Ok(Some(Wrong {
-                    class: code.class,
-                    method: code.method,
-                    offset,
-                })),
-            }
+    let held = nothing_in(alloc, class)?;
+    let mut fields = held.into_vec();
+    let insns = code.insns.items();
+    match read(alloc, world, code.class, class, &mut fields, arrays, insns)? {
+        None => {
+            put_fields(rows, code.class as usize, Row::of(fields));
+            Ok(None)
         }
+        Some(offset) => Ok(Some(offset)),
+    }
+}
+
+/// The class whose initialiser has this code; None where it is that of another method.
+fn initialised<'w, 'a>(world: &'w World<'a>, code: &MethodCode) -> Option<&'w ClassTree<'a>>
+    ensures { option_map (λ c. c.now) result ≡ initialised world.now code.now }
+{
+    let class = world.classes().items().get(code.class as usize)?;
+    let method = class.methods.items().get(code.method as usize)?;
+    if is_initialiser(method) {
+        Some(class)
+    } else {
+        None
     }
 }
 
 /// The same for the code of any method, which is passed over where it is no initialiser.
-#[tactic(auto, unfolding(crate::specs::Reading::after_code))]
-fn after_code(
+#[tactic(auto, unfolding(crate::specs::Working::Reading::after_code))]
+pub(crate) fn after_code(
     alloc: Global,
     world: &World<'_>,
     code: &MethodCode,
     rows: &mut [Row<Held>],
     arrays: &mut Row<ArrayCell>,
-) -> Result<Option<Wrong>, NoMemory>
-    ensures { IfOk result (λ w. after_code world.now (puts rows.old arrays.old) code.now ≡ puts_as w (puts rows.new arrays.new)) }
+) -> Result<Option<u32>, NoMemory>
+    ensures { IfOk result (λ at. after_code world.now (puts rows.old arrays.old) code.now ≡ puts_as at (puts rows.new arrays.new)) }
 {
-    match world.classes().items().get(code.class as usize) {
+    match initialised(world, code) {
         None => Ok(None),
-        Some(class) => match class.methods.items().get(code.method as usize) {
-            None => Ok(None),
-            Some(method) => {
-                if is_initialiser(method) {
-                    after_initialiser(alloc, world, class, code, rows, arrays)
-                } else {
-                    Ok(None)
-                }
-            }
-        },
+        Some(class) => after_initialiser(alloc, world, class, code, rows, arrays),
     }
-}
-
-/// The same for the codes of all methods, in their order.
-pub(crate) fn after_codes(
-    alloc: Global,
-    world: &World<'_>,
-    codes: &[MethodCode],
-    rows: &mut [Row<Held>],
-    arrays: &mut Row<ArrayCell>,
-) -> Result<Option<Wrong>, NoMemory>
-    ensures { IfOk result (λ w. after_codes world.now (puts rows.old arrays.old) codes.now ≡ puts_as w (puts rows.new arrays.new)) }
-{
-    for code in codes {
-        match after_code(alloc, world, code, rows, arrays)? {
-            None => {}
-            Some(wrong) => return Ok(Some(wrong)),
-        }
-    }
-    Ok(None)
 }

@@ -36,12 +36,3 @@ pub enum Stage {
     /// The return is past.
     Ended,
 }
-
-/// An instruction with which an initialiser is none any more, by the numbers of its class and of its method, and its
-/// offset in the code.
-#[derive(Clone, Copy)]
-pub struct Wrong {
-    pub class: u32,
-    pub method: u32,
-    pub offset: u32,
-}

@@ -2,8 +2,7 @@
 
 ghost use Rattle.std.specs.Prelude.{◌≡◌, replicate, pos, slice_set, IfOk};
 ghost use Rattle.cjc_clinit.specs.Initialiser.{element_kind, store};
-ghost use Rattle.cjc_clinit.specs.Reading.{after_newarray, after_null, after_number, after_return, after_stack, after_store, contents_of, count_in, index_in, new_array, stage_after};
-ghost use Rattle.cjc_clinit.specs.Working.{takes_from, held_from};
+ghost use Rattle.cjc_clinit.specs.Working.Reading.{after_newarray, after_null, after_number, after_return, after_stack, after_store, contents_of, count_in, held_from, index_in, new_array, stage_after, takes_from};
 
 use crate::fields::{array_desc, fits, fits_kind, is_reference, number_kind};
 use crate::stage::{Held, Stage};
@@ -128,17 +127,23 @@ fn after_return(stage: Stage, opcode: u8) -> Option<Stage>
     }
 }
 
+/// The array twice, where it has an item.
+fn copied(opcode: u8, kind: Kind, items: Row<i32>) -> Option<Stage>
+    ensures { result ≡ after_stack opcode (Stage.Array kind items) }
+{
+    let count = items.items().len();
+    if opcode == DUP && count > 0 {
+        Some(Stage::Copied(kind, items))
+    } else {
+        None
+    }
+}
+
 fn after_stack(stage: Stage, opcode: u8) -> Option<Stage>
     ensures { result ≡ after_stack opcode stage }
 {
     match stage {
-        Stage::Array(kind, items) => {
-            if opcode == DUP {
-                Some(Stage::Copied(kind, items))
-            } else {
-                None
-            }
-        }
+        Stage::Array(kind, items) => copied(opcode, kind, items),
         _ => None,
     }
 }
@@ -207,7 +212,7 @@ fn after_newarray(alloc: Global, stage: Stage, number: u8) -> Result<Option<Stag
 }
 
 /// How far the statement is behind an instruction that puts nothing; None where none is that begins so.
-#[tactic(auto, unfolding(crate::specs::Reading::stage_after))]
+#[tactic(auto, unfolding(crate::specs::Working::Reading::stage_after))]
 pub(crate) fn stage_after(alloc: Global, stage: Stage, op: &JOp) -> Result<Option<Stage>, NoMemory>
     ensures { IfOk result (λ s. s ≡ stage_after stage op.now) }
 {

@@ -1,6 +1,6 @@
 use Rattle.std.proofs.Common.{◌≡◌, ◌++◌, drop}
 use Rattle.std.specs.Prelude.{map}
-use Rattle.cjc_clinit.specs.Reading.{nothing_in}
+use Rattle.cjc_clinit.specs.Initialiser.{nothing_in}
 use Rattle.cjc_clinit.proofs.puts.no_puts.Given as goal
 
 abbrev pub invariant-loop-class : goal.invariant-loop-class

@@ -2,7 +2,7 @@ use Rattle.std.proofs.Common.{◌≡◌, ◌∙◌, sym, ap}
 use Rattle.std.specs.Prelude.{Option, Some, None, Ok, Err, option_map, true, false}
 use Rattle.cjc_clinit.specs.declared.stage.Stage.{Stage}
 use Rattle.cjc_clinit.specs.declared.stage.Stage.TheVariants as stages
-use Rattle.cjc_clinit.specs.Reading.{is_ended, read, state, state_after}
+use Rattle.cjc_clinit.specs.Working.Reading.{is_ended, read, state, state_after}
 use Rattle.cjc_clinit.proofs.Walks.{read-next, read-end, read-wrong, read-ended, read-open}
 use Rattle.cjc_clinit.proofs.puts.read.Goals as goal
 

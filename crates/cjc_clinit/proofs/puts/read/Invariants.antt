@@ -1,6 +1,6 @@
 use Rattle.std.proofs.Common.{◌≡◌, drop}
 use Rattle.cjc_clinit.specs.declared.stage.Stage.TheVariants as stages
-use Rattle.cjc_clinit.specs.Reading.{read, state}
+use Rattle.cjc_clinit.specs.Working.Reading.{read, state}
 use Rattle.cjc_clinit.proofs.puts.read.Given as goal
 
 abbrev pub invariant-loop-insn : goal.invariant-loop-insn

@@ -1,6 +1,8 @@
--- Initialisers read instruction by instruction: what they have done so far, and the first instruction with which one is no
--- longer the beginning of an initialiser.
-use Rattle.std.specs.Prelude.{ℕ, ◌+◌, List, [], ◌∷◌, ◌++◌, map, length, replicate, slice_get, slice_set, nat_lt, nat_le, Bool, true, false, ◌==◌, if◌then◌else◌, Option, Some, None, option_map, option_and_then, Result, Ok, Err, ℤ, pos, negsuc}
+-- Initialisers as the code reads them, instruction by instruction: what they have put so far, and how far they are in a
+-- statement.
+use Rattle.std.specs.Prelude.{◌≡◌, ℕ, ◌+◌, List, [], ◌∷◌, ◌++◌, map, length, replicate, slice_get, slice_set, nat_lt, nat_le, Bool, true, false, ◌==◌, ◌&&◌, if◌then◌else◌, Option, Some, None, option_map, option_and_then, Result, Ok, Err, ℤ, pos, negsuc}
+use Rattle.cjc_bytes.specs.Breaks.{Break, at, each, broken_at}
+use Rattle.cjc_bytes.specs.Order.{FilePlace, file_of}
 use Rattle.cjc_bytes.specs.declared.fault.MemberId.{MemberId}
 use Rattle.cjc_bytes.specs.declared.names.Kind.{Kind}
 use Rattle.cjc_classfile.specs.declared.tree.ClassTree.{ClassTree}
@@ -10,15 +12,17 @@ use Rattle.cjc_code.specs.declared.insn.JInsn.{JInsn}
 use Rattle.cjc_code.specs.declared.insn.JOp.{JOp}
 use Rattle.cjc_code.specs.declared.insn.JOp.TheVariants as jop
 use Rattle.cjc_code.specs.declared.method_code.MethodCode.{MethodCode}
+use Rattle.cjc_subset.specs.Places.{at_class, at_method, of_code}
 use Rattle.cjc_world.specs.declared.image.ArrayCell.{ArrayCell}
 use Rattle.cjc_world.specs.Files.{Files}
 use Rattle.cjc_clinit.specs.declared.stage.Held.{Held}
 use Rattle.cjc_clinit.specs.declared.stage.Held.TheVariants as held
 use Rattle.cjc_clinit.specs.declared.stage.Stage.{Stage}
 use Rattle.cjc_clinit.specs.declared.stage.Stage.TheVariants as stages
-use Rattle.cjc_clinit.specs.declared.stage.Wrong.{Wrong}
-use Rattle.cjc_clinit.specs.Fields.{Contents, ANumber, ANull, AnArray, fits, held_by}
-use Rattle.cjc_clinit.specs.Initialiser.{dup, return, element_kind, store, most_items, place_for, is_initialiser}
+use Rattle.cjc_clinit.specs.Fields.{Contents, ANumber, ANull, AnArray, fits, held_by, takes}
+use Rattle.cjc_clinit.specs.Image.{array_in, own_field, initialised}
+use Rattle.cjc_clinit.specs.Initialiser.{dup, return, element_kind, store, most_items, nothing_in, place_for}
+use Rattle.cjc_clinit.specs.Rules.{is_wrong_class}
 
 -- ---- one instruction that puts nothing
 
@@ -46,8 +50,9 @@ abbrev pub after_return : ℕ → Stage → Option Stage
 after_return op stages.Free = stage_if (op == return) stages.Ended
 after_return op _ = None
 
+-- an array that has an item
 abbrev pub after_stack : ℕ → Stage → Option Stage
-after_stack op (stages.Array kind items) = stage_if (op == dup) (stages.Copied kind items)
+after_stack op (stages.Array kind items) = stage_if (op == dup && nat_lt 0 (length items)) (stages.Copied kind items)
 after_stack op _ = None
 
 abbrev pub after_store : ℕ → Stage → Option Stage
@@ -86,11 +91,6 @@ contents_of stages.Null = Some ANull
 contents_of (stages.Array kind items) = Some (AnArray kind items)
 contents_of _ = None
 
--- the array of a field, where it is one
-abbrev pub array_in : MemberId → Contents → List ArrayCell
-array_in field (AnArray kind items) = record { field = field; kind = kind; items = items } ∷ []
-array_in field contents = []
-
 -- what the fields of the class hold, the arrays that were made so far, and how far the statement is
 pub record State : Type 0 where
   pub fields : List Held
@@ -99,10 +99,6 @@ pub record State : Type 0 where
 
 abbrev pub state : List Held → List ArrayCell → Stage → State
 state fields arrays stage = record { fields = fields; arrays = arrays; stage = stage }
-
--- the same field, by the class that declares it
-abbrev pub own_field : ClassTree → MemberId → MemberId
-own_field c id = record { class = c.name; name = id.name; desc = id.desc }
 
 abbrev pub or_wrong : (at : ℕ) → Option State → (State → Result State ℕ) → Result State ℕ
 or_wrong at None go = Err at
@@ -149,40 +145,81 @@ pub record Puts : Type 0 where
   pub fields : List (List Held)
   pub arrays : List ArrayCell
 
--- before any initialiser
-abbrev pub nothing_in : ClassTree → List Held
-nothing_in c = replicate (length c.fields) held.Nothing
+abbrev pub puts : List (List Held) → List ArrayCell → Puts
+puts fields arrays = record { fields = fields; arrays = arrays }
 
-abbrev pub no_puts : List ClassTree → Puts
-no_puts classes = record { fields = map nothing_in classes; arrays = [] }
+-- the offset with which an initialiser is none, or what was put
+abbrev pub with_read : MethodCode → Puts → Result State ℕ → Result Puts ℕ
+with_read code before (Ok s) = Ok (puts (slice_set before.fields code.class s.fields) s.arrays)
+with_read code before (Err at) = Err at
 
-abbrev pub with_read : MethodCode → Puts → Result State ℕ → Result Puts Wrong
-with_read code puts (Ok s) = Ok (record { fields = slice_set puts.fields code.class s.fields; arrays = s.arrays })
-with_read code puts (Err at) = Err (record { class = code.class; method = code.method; offset = at })
+-- an initialiser of a class
+unfoldable pub after_initialiser : Files → ClassTree → MethodCode → Puts → Result Puts ℕ
+after_initialiser files c code before = with_read code before (ended (read files code.class c (state (nothing_in c) before.arrays stages.Free) code.insns))
 
--- an initialiser of a class whose fields hold this
-abbrev pub after_initialiser : Files → ClassTree → MethodCode → Puts → Option (List Held) → Result Puts Wrong
-after_initialiser files c code puts None = Ok puts
-after_initialiser files c code puts (Some fields) = with_read code puts (ended (read files code.class c (state fields puts.arrays stages.Free) code.insns))
-
--- a method
-abbrev pub after_method : Files → ClassTree → MethodCode → Puts → Option MethodTree → Result Puts Wrong
-after_method files c code puts None = Ok puts
-after_method files c code puts (Some m) = if is_initialiser m then after_initialiser files c code puts (slice_get puts.fields code.class) else Ok puts
-
-abbrev pub of_class : Files → MethodCode → Puts → Option ClassTree → Result Puts Wrong
-of_class files code puts None = Ok puts
-of_class files code puts (Some c) = after_method files c code puts (slice_get c.methods code.method)
+-- the class, where the code is of its initialiser
+abbrev pub after_class : Files → MethodCode → Puts → Option ClassTree → Result Puts ℕ
+after_class files code before None = Ok before
+after_class files code before (Some c) = after_initialiser files c code before
 
 -- the instructions of a method, which are passed over where it is no initialiser
-unfoldable pub after_code : Files → Puts → MethodCode → Result Puts Wrong
-after_code files puts code = of_class files code puts (slice_get files.classes code.class)
+unfoldable pub after_code : Files → Puts → MethodCode → Result Puts ℕ
+after_code files before code = after_class files code before (initialised files code)
 
-abbrev pub and_then : Result Puts Wrong → (Puts → Result Puts Wrong) → Result Puts Wrong
-and_then (Ok puts) go = go puts
-and_then (Err wrong) go = Err wrong
+abbrev pub and_then : Result Puts ℕ → (Puts → Result Puts ℕ) → Result Puts ℕ
+and_then (Ok later) go = go later
+and_then (Err at) go = Err at
 
--- those of all methods, or the first instruction with which an initialiser is none
-unfoldable pub after_codes : Files → Puts → List MethodCode → Result Puts Wrong
-after_codes files puts [] = Ok puts
-after_codes files puts (code ∷ codes) = and_then (after_code files puts code) (λ later. after_codes files later codes)
+-- those of all methods, or the first offset with which an initialiser is none
+unfoldable pub after_codes : Files → Puts → List MethodCode → Result Puts ℕ
+after_codes files before [] = Ok before
+after_codes files before (code ∷ codes) = and_then (after_code files before code) (λ later. after_codes files later codes)
+
+-- ---- what is broken
+
+abbrev pub wrong_in : Result Puts ℕ → Option ℕ
+wrong_in (Ok later) = None
+wrong_in (Err at) = Some at
+
+abbrev pub breaks_at : (ℕ → List Break) → Option ℕ → List Break
+breaks_at breaks None = []
+breaks_at breaks (Some at) = breaks at
+
+-- at an offset of the method of this code
+unfoldable pub offset_break : Files → MethodCode → (offset : ℕ) → List Break
+offset_break files code offset = of_code files code.class code.method (λ f c m. broken_at (at_method f c code.method m offset) 308 ∷ [])
+
+unfoldable pub code_breaks : Files → MethodCode → List Break
+code_breaks files code = breaks_at (offset_break files code) (wrong_in (after_code files (puts [] []) code))
+
+unfoldable pub class_breaks : FilePlace → ClassTree → List Break
+class_breaks f c = at (is_wrong_class c) (at_class f c) 308
+
+unfoldable pub image_breaks : Files → List MethodCode → List Break
+image_breaks files codes = each (λ n c. class_breaks (file_of files.lines n) c) files.classes ++ each (λ _ code. code_breaks files code) codes
+
+-- ---- what the code holds
+
+-- of all that is put, or false
+abbrev pub takes_from : Option Contents → (desc : List ℕ) → Bool
+takes_from None desc = false
+takes_from (Some contents) desc = takes contents desc
+
+abbrev pub held_from : Option Contents → Held
+held_from None = held.Nothing
+held_from (Some contents) = held_by contents
+
+abbrev pub array_from : MemberId → Option Contents → List ArrayCell
+array_from field None = []
+array_from field (Some contents) = array_in field contents
+
+-- a wrong offset, or what was put
+abbrev pub puts_as : Option ℕ → Puts → Result Puts ℕ
+puts_as None later = Ok later
+puts_as (Some at) later = Err at
+
+-- Reading an initialiser ended at a wrong offset, or left this.
+abbrev pub IsRead : Result State ℕ → (at : Option ℕ) → List Held → List ArrayCell → Type 0
+IsRead (Ok s) None fields arrays = (s.fields ≡ fields) × (s.arrays ≡ arrays)
+IsRead (Err at) (Some found) fields arrays = at ≡ found
+IsRead r at fields arrays = ⊥
