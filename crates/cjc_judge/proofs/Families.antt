@@ -1,7 +1,6 @@
 -- Of which hundred the rules of a list of breaks are.
 use Rattle.std.proofs.Common.{◌≡◌, ℕ, ◌+◌, ◌≤◌, Bool, true, false, List, [], ◌∷◌, refl, ap, ◌∙◌, arith}
 use Rattle.std.specs.Prelude.{◌/◌, if◌then◌else◌}
-use Rattle.cjc_bytes.specs.declared.fault.Refusal.{Refusal}
 use Rattle.cjc_bytes.specs.declared.settings.FileLine.{FileLine}
 use Rattle.cjc_bytes.specs.declared.settings.Settings.{Settings}
 use Rattle.cjc_classfile.specs.declared.tree.Catch.{Catch}
@@ -201,5 +200,4 @@ type_rule w b op x rule (off s locals is) = refl
 pub type_fifth : (files : Files) (code : MethodCode) (b : Break) → BreaksType files code b → b.rank.family ≡ 5
 type_fifth files code b h =
     ap (λ (x : Break). x.rank.family) h.is
-    ∙ ap (λ (r : Refusal). r.rule.0 / 100) h.breaks.is
     ∙ type_rule _ _ _ _ _ h.breaks.first.breach.breaks

@@ -181,4 +181,4 @@ module _ (list : List ℕ) (files : Files) (counted : length files.classes ≡ c
   pub type_told : (code : MethodCode) (b : Break) → BreaksType files code b → Told b
   type_told code b h =
       subst Told (sym h.is)
-      (told_at_method list files code.class h.class (file_of files.lines code.class) (there code.class h.class h.of_package.is_class) code.method h.method h.of_package.is_method h.refusal.place.offset h.refusal.rule.0)
+      (told_at_method list files code.class h.class (file_of files.lines code.class) (there code.class h.class h.of_package.is_class) code.method h.method h.of_package.is_method h.broken.offset h.broken.rule)

@@ -2,6 +2,7 @@
 use Rattle.std.specs.Prelude.{◌≡◌, ◌⊎◌, ℕ, ◌+◌, List, [], ◌∷◌, ◌++◌, length, nat_lt, Bool, true, false, Option, Some, Err, slice_get}
 use Rattle.cjc_bytes.specs.Format.{FileSpells, FileBreaks}
 use Rattle.cjc_bytes.specs.Refused.{refusal}
+use Rattle.cjc_bytes.specs.declared.breaks.BrokenAt.{BrokenAt}
 use Rattle.cjc_bytes.specs.declared.fault.Fault.{Fault}
 use Rattle.cjc_bytes.specs.declared.fault.Fault.TheVariants as faults
 use Rattle.cjc_bytes.specs.declared.fault.Refusal.{Refusal}
@@ -28,7 +29,7 @@ use Rattle.cjc_subset.specs.Checks.{check_breaks}
 use Rattle.cjc_tokens.specs.Rules.{tested_breaks}
 use Rattle.cjc_subset.specs.Places.{at_method, of_code}
 use Rattle.cjc_types.specs.Flow.{body_of}
-use Rattle.cjc_types.specs.Tables.{IsMethodOf, IsRefusedBy}
+use Rattle.cjc_types.specs.Tables.{IsMethodOf, IsBrokenBy}
 use Rattle.cjc_code.specs.PackageCodes.{all_codes}
 use Rattle.cjc_judge.specs.Codes.{all_foreigns}
 use Rattle.cjc_judge.specs.declared.groups.Group.{Group}
@@ -139,17 +140,17 @@ abbrev pub AnyBreaks : {A : Type 0} → (A → Break → Type 0) → List A → 
 AnyBreaks {A} Breaks xs b = (i : ℕ) × (x : A) × (slice_get xs i ≡ Some x) × Breaks x b
 
 -- 501 to 503: a method breaks the first of them at the first of its instructions that breaks one
-abbrev pub type_break : Files → MethodCode → ClassTree → MethodTree → Refusal → Break
-type_break files code class method r = broken_at (at_method (file_of files.lines code.class) class code.method method r.place.offset) r.rule.0
+abbrev pub type_break : Files → MethodCode → ClassTree → MethodTree → BrokenAt → Break
+type_break files code class method x = broken_at (at_method (file_of files.lines code.class) class code.method method x.offset) x.rule
 
 pub record BreaksType (files : Files) (code : MethodCode) (b : Break) : Type 0 where
   pub class : ClassTree
   pub method : MethodTree
   pub tree : CodeTree
   pub of_package : IsMethodOf files code class method tree
-  pub refusal : Refusal
-  pub breaks : IsRefusedBy (all_classes files) (file_of files.lines code.class).name class method (body_of class method tree code.insns) refusal
-  pub is : b ≡ type_break files code class method refusal
+  pub broken : BrokenAt
+  pub breaks : IsBrokenBy (all_classes files) (body_of class method tree code.insns) broken
+  pub is : b ≡ type_break files code class method broken
 
 abbrev pub BreaksAnyType : Files → List MethodCode → Break → Type 0
 BreaksAnyType files codes b = AnyBreaks (BreaksType files) codes b

@@ -17,7 +17,7 @@ use cjc_code::{Codes, MethodCode};
 use cjc_list::List;
 use cjc_subset::{class_spot, first_broken, method_spot};
 use cjc_tokens::first_high;
-use cjc_types::{TypeTable, infer};
+use cjc_types::{InferError, TypeTable, infer_method};
 use cjc_world::World;
 use std::alloc::Global;
 
@@ -110,19 +110,19 @@ fn type_break<'w>(
     let place = code.method as usize;
     let method = &class.methods.items()[place];
     let file = file_of(world.lines().items(), code.class as usize);
-    match infer(alloc, file.name, world, code) {
+    match infer_method(alloc, world, code) {
         Ok(table) => {
             types.push(table)?;
             Ok(None)
         }
-        Err(Fault::Refused(refusal)) => {
+        Err(InferError::Broken(broken)) => {
             let spot = class_spot(file, class);
             Ok(Some(Break {
-                rule: refusal.rule.0,
-                spot: method_spot(spot, class, place, method, refusal.place.offset),
+                rule: broken.rule,
+                spot: method_spot(spot, class, place, method, broken.offset),
             }))
         }
-        Err(Fault::NoMemory) => Err(NoMemory),
+        Err(InferError::NoMemory) => Err(NoMemory),
     }
 }
 

@@ -1,10 +1,7 @@
 -- A method has one least table, and with it one answer.
 use Rattle.std.proofs.Common.{◌≡◌, ◌⊎◌, ◌≤◌, ◌<◌, ℕ, suc, List, [], ◌∷◌, length, slice_get, get_or, Option, Some, None, option_map, Result, Ok, Err, IfOk, IfErr, refl, sym, ◌∙◌, ap, subst, inl, inr, arith}
 use Rattle.std.proofs.lemmas.Option.{slice_get_within, slice_get-get_or, get_or_from_slice_get}
-use Rattle.cjc_bytes.specs.Refused.{IsUnlessNoMemory}
-use Rattle.cjc_bytes.specs.declared.fault.Fault.{Fault}
-use Rattle.cjc_bytes.specs.declared.fault.Fault.TheVariants as faults
-use Rattle.cjc_bytes.specs.declared.fault.Refusal.{Refusal}
+use Rattle.cjc_bytes.specs.declared.breaks.BrokenAt.{BrokenAt}
 use Rattle.cjc_classfile.specs.Code.{CodeTree}
 use Rattle.cjc_classfile.specs.declared.tree.ClassTree.{ClassTree}
 use Rattle.cjc_classfile.specs.declared.tree.MethodTree.{MethodTree}
@@ -15,6 +12,8 @@ use Rattle.cjc_world.specs.Classes.{Class}
 use Rattle.cjc_world.specs.Files.{Files}
 use Rattle.cjc_types.specs.declared.cell.Cell.{Cell}
 use Rattle.cjc_types.specs.declared.inference.FirstBroken.{FirstBroken}
+use Rattle.cjc_types.specs.declared.inference.InferError.{InferError}
+use Rattle.cjc_types.specs.declared.inference.InferError.TheVariants as errors
 use Rattle.cjc_types.specs.declared.state.Stack.TheVariants.{Cells}
 use Rattle.cjc_types.specs.declared.state.State.{State}
 use Rattle.cjc_types.specs.declared.table.Frame.{Frame}
@@ -22,7 +21,7 @@ use Rattle.cjc_types.specs.declared.table.TypeTable.{TypeTable}
 use Rattle.cjc_types.specs.Flow.{Body, body_of, type_flow}
 use Rattle.cjc_types.specs.Search.{first_from, frames_of}
 use Rattle.cjc_types.specs.Working.StateLaws.{same_state}
-use Rattle.cjc_types.specs.Tables.{state_of, states_of, IsLeastTable, IsMethodOf, Breach, FirstBreach, IsTypeTable, IsRefusedBy, IsRefused, Answers, refusal_in}
+use Rattle.cjc_types.specs.Tables.{state_of, states_of, IsLeastTable, IsMethodOf, Breach, FirstBreach, IsTypeTable, IsBrokenBy, IsBroken, IsAnswer, Answers}
 use Rattle.cjc_types.proofs.Answering.{first_breach, unbroken_rows, states-frames}
 
 -- ---- one least table
@@ -99,9 +98,9 @@ one_table w b left right h k =
     let make : List (Option Frame) → TypeTable = λ fs. record { frames = fs } in
     ap make frames
 
-pub not_both : (w : List Class) (b : Body) (file : List ℕ) (class : ClassTree) (method : MethodTree) (table : TypeTable) (r : Refusal) → IsTypeTable w b table → IsRefusedBy w file class method b r → ⊥
-not_both w b file class method table r h k =
-    h.unbroken k.place k.rule (subst (λ (rows : List (Option State)). Breach w b rows k.place k.rule) (one_least b k.rows (states_of table.frames) k.least h.least) k.first.breach)
+pub not_both : (w : List Class) (b : Body) (table : TypeTable) (x : BrokenAt) → IsTypeTable w b table → IsBrokenBy w b x → ⊥
+not_both w b table x h k =
+    h.unbroken k.place x.rule (subst (λ (rows : List (Option State)). Breach w b rows k.place x.rule) (one_least b k.rows (states_of table.frames) k.least h.least) k.first.breach)
 
 -- two first breaches of the rows are at one place, and by one rule
 same_first : (w : List Class) (b : Body) (rows : List (Option State)) (k i r q : ℕ) → FirstBreach w b rows k r → FirstBreach w b rows i q → (k ≡ i) × (r ≡ q)
@@ -113,67 +112,68 @@ same_first w b rows k i r q one two = go (one.first i q two.breach) (two.first k
     go (inr same) (inl gt) = let e = same.0 in absurd (omega (arith, gt, e))
     go (inr one) (inr two) = let a = one.1 in let c = two.1 in (one.0, omega (arith, a, c))
 
-pub one_refusal : (w : List Class) (b : Body) (file : List ℕ) (class : ClassTree) (method : MethodTree) (r q : Refusal) → IsRefusedBy w file class method b r → IsRefusedBy w file class method b q → r ≡ q
-one_refusal w b file class method r q h k =
+pub one_broken : (w : List Class) (b : Body) (x y : BrokenAt) → IsBrokenBy w b x → IsBrokenBy w b y → x ≡ y
+one_broken w b x y h k =
     let rows = one_least b k.rows h.rows k.least h.least in
-    let first : FirstBreach w b h.rows k.place k.rule = subst (λ (xs : List (Option State)). FirstBreach w b xs k.place k.rule) rows k.first in
-    let same = same_first w b h.rows h.place k.place h.rule k.rule h.first first in
+    let first : FirstBreach w b h.rows k.place y.rule = subst (λ (xs : List (Option State)). FirstBreach w b xs k.place y.rule) rows k.first in
+    let same = same_first w b h.rows h.place k.place x.rule y.rule h.first first in
     let place = same.0 in
-    let rule = same.1 in
     let left = h.first.breach.is_insn in
     let right = k.first.breach.is_insn in
     let both = ap (slice_get b.insns) place in
     let insn : h.first.breach.insn ≡ k.first.breach.insn = cc in
-    let offset = ap (λ (i : JInsn). i.at) insn in
-    h.is ∙ ap (λ n. refusal_in file class method (record { rule = n; offset = h.first.breach.insn.at })) rule ∙ ap (λ n. refusal_in file class method (record { rule = k.rule; offset = n })) offset ∙ sym k.is
+    let offset : x.offset ≡ y.offset = h.is ∙ ap (λ (i : JInsn). i.at) insn ∙ sym k.is in
+    let make : ℕ → ℕ → BrokenAt = λ r o. record { rule = r; offset = o } in
+    ap (λ r. make r x.offset) same.1 ∙ ap (λ o. make y.rule o) offset
 
-module _ (w : List Class) (file : List ℕ) (class : ClassTree) (method : MethodTree) (b : Body) where
-  pub inferred_of : (result : Result TypeTable Fault) → Answers w file class method b result → IfOk result (λ table. IsTypeTable w b table)
+module _ (w : List Class) (b : Body) where
+  pub inferred_of : (result : Result TypeTable InferError) → Answers w b result → IfOk result (λ table. IsTypeTable w b table)
   inferred_of (Ok table) h = h
   inferred_of (Err e) h = tt
 
-  pub refused_of : (result : Result TypeTable Fault) → Answers w file class method b result → IfErr result (λ e. IsRefused w file class method b e)
-  refused_of (Ok table) h = tt
-  refused_of (Err e) h = h
+  pub broken_of : (result : Result TypeTable InferError) → Answers w b result → IfErr result (IsBroken w b)
+  broken_of (Ok table) h = tt
+  broken_of (Err e) h = h
 
-  pub only_of : (result : Result TypeTable Fault) → Answers w file class method b result → (table : TypeTable) → IsTypeTable w b table → IsUnlessNoMemory result (Ok table)
+  pub only_of : (result : Result TypeTable InferError) → Answers w b result → (table : TypeTable) → IsTypeTable w b table → IsAnswer (Ok table) result
   only_of (Ok other) h table k = inl (ap Ok (one_table w b other table h k))
   only_of (Err e) (inl none) table k = inr (ap Err none)
-  only_of (Err e) (inr (r, is, told)) table k = absurd (not_both w b file class method table r k is)
+  only_of (Err e) (inr (x, is, told)) table k = absurd (not_both w b table x k is)
 
-  pub breaks_of : (result : Result TypeTable Fault) → Answers w file class method b result → (r : Refusal) → IsRefusedBy w file class method b r → IsUnlessNoMemory result (Err (faults.Refused r))
-  breaks_of (Ok table) h r k = absurd (not_both w b file class method table r h k)
-  breaks_of (Err e) (inl none) r k = inr (ap Err none)
-  breaks_of (Err e) (inr (q, is, told)) r k = inl (ap Err (told ∙ ap faults.Refused (one_refusal w b file class method q r is k)))
+  pub breaks_of : (result : Result TypeTable InferError) → Answers w b result → (x : BrokenAt) → IsBrokenBy w b x → IsAnswer (Err (errors.Broken x)) result
+  breaks_of (Ok table) h x k = absurd (not_both w b table x h k)
+  breaks_of (Err e) (inl none) x k = inr (ap Err none)
+  breaks_of (Err e) (inr (y, is, told)) x k = inl (ap Err (told ∙ ap errors.Broken (one_broken w b y x is k)))
 
 -- ---- the method
 
 -- the method that a code names is the one that is read
-pub answers_for : (w : List Class) (file : List ℕ) (files : Files) (code : MethodCode) (class : ClassTree) (method : MethodTree) (tree : CodeTree) (insns : List JInsn) (result : Result TypeTable Fault)
+pub answers_for : (w : List Class) (files : Files) (code : MethodCode) (class : ClassTree) (method : MethodTree) (tree : CodeTree) (insns : List JInsn) (result : Result TypeTable InferError)
     → class ≡ get_or files.classes code.class class → method ≡ get_or class.methods code.method method → method.code ≡ Some tree → insns ≡ code.insns
-    → Answers w file class method (body_of class method tree insns) result
-    → (c : ClassTree) (m : MethodTree) (t : CodeTree) → IsMethodOf files code c m t → Answers w file c m (body_of c m t code.insns) result
-answers_for w file files code class method tree insns result is_class is_method is_code is_insns h c m t of =
+    → Answers w (body_of class method tree insns) result
+    → (c : ClassTree) (m : MethodTree) (t : CodeTree) → IsMethodOf files code c m t → Answers w (body_of c m t code.insns) result
+answers_for w files code class method tree insns result is_class is_method is_code is_insns h c m t of =
     let same_class : class ≡ c = is_class ∙ get_or_from_slice_get files.classes code.class c class of.is_class in
     let methods : get_or class.methods code.method method ≡ get_or c.methods code.method method = ap (λ (k : ClassTree). get_or k.methods code.method method) same_class in
     let same_method : method ≡ m = is_method ∙ methods ∙ get_or_from_slice_get c.methods code.method m method of.is_method in
     let codes : Some tree ≡ Some t = sym is_code ∙ ap (λ (k : MethodTree). k.code) same_method ∙ of.is_code in
     let same_tree : tree ≡ t = cc in
-    subst (λ (k : ClassTree). Answers w file k m (body_of k m t code.insns) result) same_class
-    (subst (λ (k : MethodTree). Answers w file class k (body_of class k t code.insns) result) same_method
-    (subst (λ (k : CodeTree). Answers w file class method (body_of class method k code.insns) result) same_tree
-    (subst (λ (k : List JInsn). Answers w file class method (body_of class method tree k) result) is_insns h)))
+    subst (λ (k : ClassTree). Answers w (body_of k m t code.insns) result) same_class
+    (subst (λ (k : MethodTree). Answers w (body_of class k t code.insns) result) same_method
+    (subst (λ (k : CodeTree). Answers w (body_of class method k code.insns) result) same_tree
+    (subst (λ (k : List JInsn). Answers w (body_of class method tree k) result) is_insns h)))
 
 -- ---- what is judged
 
-pub judged_refused : (w : List Class) (file : List ℕ) (class : ClassTree) (method : MethodTree) (b : Body) (rows given : List (Option State)) (insns : List JInsn) (answer : Option FirstBroken) (f : FirstBroken) (d : JInsn) (refusal : Refusal)
-    → IsLeastTable b rows → insns ≡ b.insns → given ≡ rows → answer ≡ first_from w b 0 insns given → answer ≡ Some f → refusal ≡ refusal_in file class method (record { rule = f.rule; offset = (get_or insns f.place d).at })
-    → IsRefused w file class method b (faults.Refused refusal)
-judged_refused w file class method b rows given insns answer f d refusal least is_insns is_rows is_answer is_some told =
+pub judged_broken : (w : List Class) (b : Body) (rows given : List (Option State)) (insns : List JInsn) (answer : Option FirstBroken) (f : FirstBroken) (d : JInsn) (x : BrokenAt)
+    → IsLeastTable b rows → insns ≡ b.insns → given ≡ rows → answer ≡ first_from w b 0 insns given → answer ≡ Some f → x ≡ record { rule = f.rule; offset = (get_or insns f.place d).at }
+    → IsBroken w b (errors.Broken x)
+judged_broken w b rows given insns answer f d x least is_insns is_rows is_answer is_some told =
     let found : first_from w b 0 b.insns rows ≡ Some f = sym (ap (λ (xs : List (Option State)). first_from w b 0 b.insns xs) is_rows) ∙ sym (ap (λ (is : List JInsn). first_from w b 0 is given) is_insns) ∙ sym is_answer ∙ is_some in
     let first = first_breach w b rows f found in
     let same : get_or insns f.place d ≡ first.breach.insn = ap (λ (is : List JInsn). get_or is f.place d) is_insns ∙ get_or_from_slice_get b.insns f.place first.breach.insn d first.breach.is_insn in
-    inr (refusal, record { rows = rows; least = least; place = f.place; rule = f.rule; first = first; is = told ∙ ap (λ (i : JInsn). refusal_in file class method (record { rule = f.rule; offset = i.at })) same }, refl)
+    let this : IsBrokenBy w b (record { rule = f.rule; offset = (get_or insns f.place d).at }) = record { rows = rows; least = least; place = f.place; first = first; is = ap (λ (i : JInsn). i.at) same } in
+    inr (x, subst (IsBrokenBy w b) (sym told) this, refl)
 
 pub judged_fine : (w : List Class) (b : Body) (rows given : List (Option State)) (insns : List JInsn) (answer : Option FirstBroken) (frames : List (Option Frame))
     → IsLeastTable b rows → insns ≡ b.insns → given ≡ rows → answer ≡ first_from w b 0 insns given → answer ≡ None → frames ≡ frames_of rows → IsTypeTable w b (record { frames = frames })

@@ -7,4 +7,5 @@ pub mod Greater
 pub mod Heights
 pub mod Indexing
 pub mod Least
+pub mod Telling
 pub mod Typed

@@ -13,6 +13,8 @@ use Rattle.cjc_code.specs.declared.method_code.MethodCode.{MethodCode}
 use Rattle.cjc_fixpoint.specs.Tables.{HasRow, IsLeastClosed}
 use Rattle.cjc_world.specs.Classes.{Class}
 use Rattle.cjc_world.specs.Files.{Files}
+use Rattle.cjc_types.specs.declared.inference.InferError.{InferError}
+use Rattle.cjc_types.specs.declared.inference.InferError.TheVariants as errors
 use Rattle.cjc_types.specs.declared.state.Stack.TheVariants.{Cells}
 use Rattle.cjc_types.specs.declared.state.State.{State}
 use Rattle.cjc_types.specs.declared.table.Frame.{Frame}
@@ -76,20 +78,31 @@ pub record IsTypeTable (w : List Class) (b : Body) (table : TypeTable) : Type 0 
   pub least : IsLeastTable b (states_of table.frames)
   pub unbroken : (place rule : ℕ) → Breach w b (states_of table.frames) place rule → ⊥
 
--- The refusal is the first breach of the least table, at the offset of its instruction.
-pub record IsRefusedBy (w : List Class) (file : List ℕ) (class : ClassTree) (method : MethodTree) (b : Body) (r : Refusal) : Type 0 where
+-- The rule is that of the first breach of the least table, and the offset that of its instruction.
+pub record IsBrokenBy (w : List Class) (b : Body) (broken : BrokenAt) : Type 0 where
   pub rows : List (Option State)
   pub least : IsLeastTable b rows
   pub place : ℕ
-  pub rule : ℕ
-  pub first : FirstBreach w b rows place rule
-  pub is : r ≡ refusal_in file class method (record { rule = rule; offset = first.breach.insn.at })
+  pub first : FirstBreach w b rows place broken.rule
+  pub is : broken.offset ≡ first.breach.insn.at
+
+-- The error is the first breach, or that memory ran out.
+abbrev pub IsBroken : List Class → Body → InferError → Type 0
+IsBroken w b e = (e ≡ errors.NoMemory) ⊎ ((broken : BrokenAt) × IsBrokenBy w b broken × (e ≡ errors.Broken broken))
+
+-- The refusal is that of the first breach.
+abbrev pub IsRefusedBy : List Class → (file : List ℕ) → ClassTree → MethodTree → Body → Refusal → Type 0
+IsRefusedBy w file class method b r = (broken : BrokenAt) × IsBrokenBy w b broken × (r ≡ refusal_in file class method broken)
 
 -- The error is the refusal of the first breach, or that memory ran out.
 abbrev pub IsRefused : List Class → (file : List ℕ) → ClassTree → MethodTree → Body → Fault → Type 0
 IsRefused w file class method b e = (e ≡ faults.NoMemory) ⊎ ((r : Refusal) × IsRefusedBy w file class method b r × (e ≡ faults.Refused r))
 
--- A call answered the least table, or the refusal of its first breach.
-abbrev pub Answers : List Class → (file : List ℕ) → ClassTree → MethodTree → Body → Result TypeTable Fault → Type 0
-Answers w file class method b (Ok table) = IsTypeTable w b table
-Answers w file class method b (Err e) = IsRefused w file class method b e
+-- This is answered unless memory ran out.
+abbrev pub IsAnswer : (wanted result : Result TypeTable InferError) → Type 0
+IsAnswer wanted result = (result ≡ wanted) ⊎ (result ≡ Err errors.NoMemory)
+
+-- A call answered the least table, or its first breach.
+abbrev pub Answers : List Class → Body → Result TypeTable InferError → Type 0
+Answers w b (Ok table) = IsTypeTable w b table
+Answers w b (Err e) = IsBroken w b e

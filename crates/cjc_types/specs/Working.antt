@@ -9,3 +9,4 @@ pub mod Marking
 pub mod Onward
 pub mod MarkLaws
 pub mod RepeatLaws
+pub mod Told

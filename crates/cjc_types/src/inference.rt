@@ -4,7 +4,10 @@ ghost use Rattle.std.specs.Prelude.{◌≡◌, ◌<◌, ◌^◌, List, length, o
 ghost use Rattle.cjc_world.specs.Classes.{all_classes};
 ghost use Rattle.cjc_types.specs.Search.{row_rule as row_rule_of, first_from, cells_of as cells_of_stack, frame_of as frame_of_state, frames_of};
 ghost use Rattle.cjc_types.specs.Flow.{body_of};
-ghost use Rattle.cjc_types.specs.Tables.{Answers, IsLeastTable, IsMethodOf, IsOfPackage, IsRefused, IsRefusedBy, IsTypeTable, refusal_in};
+ghost use Rattle.cjc_types.specs.Tables.{Answers, IsAnswer, IsBroken, IsBrokenBy, IsLeastTable, IsMethodOf, IsOfPackage, IsRefused, IsRefusedBy, IsTypeTable, refusal_in};
+ghost use Rattle.cjc_types.specs.Working.Told.{ToldAs};
+ghost use Rattle.cjc_types.specs.declared.inference.InferError.TheVariants as errors;
+ghost use Rattle.cjc_bytes.specs.declared.breaks.BrokenAt.{BrokenAt as Wrong};
 ghost use Rattle.cjc_bytes.specs.Refused.{IsUnlessNoMemory};
 ghost use Rattle.cjc_bytes.specs.declared.fault.Fault.TheVariants as faults;
 ghost use Rattle.cjc_classfile.specs.Code.{CodeTree};
@@ -19,12 +22,31 @@ use crate::method::Method;
 use crate::rules;
 use crate::state::{Stack, State};
 use crate::table::{Frame, TypeTable};
-use cjc_bytes::{Bytes, Fault, NoMemory, Place, Refusal, Row, Rule};
+use cjc_bytes::{BrokenAt, Bytes, Fault, NoMemory, Place, Refusal, Row, Rule};
 use cjc_classfile::{ClassTree, Code, MethodTree};
 use cjc_code::{JInsn, MethodCode};
 use cjc_fixpoint::{all_marks, solve};
 use cjc_world::World;
 use std::alloc::Global;
+
+/// Why a method got no types.
+#[derive(Clone, Copy)]
+pub enum InferError {
+    /// Rule 501, 502 or 503, and the offset of the instruction from the start of the code, in bytes.
+    Broken(BrokenAt),
+    NoMemory,
+}
+
+impl From<NoMemory> for InferError {
+    ghost use Rattle.std.specs.Prelude.{◌≡◌};
+    ghost use Rattle.cjc_types.specs.declared.inference.InferError.TheVariants as errors;
+
+    ghost from_gives = { λ _ e. e ≡ errors.NoMemory };
+
+    fn from(_: NoMemory) -> InferError {
+        InferError::NoMemory
+    }
+}
 
 /// The first broken rule of a method.
 #[derive(Clone, Copy)]
@@ -113,26 +135,25 @@ fn frames(alloc: Global, rows: Vec<Option<State>>) -> Result<Row<Option<Frame>>,
     Ok(frames)
 }
 
-/// The refusal of a method by a rule at an offset in its code.
+/// The refusal of a method by a rule that is broken at an offset in its code.
 fn refused(
     alloc: Global,
     file: &[u8],
     class: &ClassTree<'_>,
     method: &MethodTree<'_>,
-    rule: u16,
-    offset: u32,
+    broken: BrokenAt,
 ) -> Result<Refusal, NoMemory>
-    ensures { IfOk result (λ r. r ≡ refusal_in file.now class.now method.now (record { rule = rule; offset = offset })) }
+    ensures { IfOk result (λ r. r ≡ refusal_in file.now class.now method.now broken) }
 {
     let mut member = Vec::from_slice(alloc, method.name.items())?;
     member.extend_from_slice(method.desc.items())?;
     Ok(Refusal {
-        rule: Rule(rule),
+        rule: Rule(broken.rule),
         place: Place {
             file: Bytes::copy_of(alloc, file)?,
             class: Bytes::copy_of(alloc, class.name.items())?,
             member: Row::of(member),
-            offset,
+            offset: broken.offset,
         },
     })
 }
@@ -140,22 +161,19 @@ fn refused(
 /// What the least table of a method gives: the table, or the first rule that it breaks.
 fn judged(
     alloc: Global,
-    file: &[u8],
     world: &World<'_>,
-    class: &ClassTree<'_>,
-    method: &MethodTree<'_>,
     body: &Method<'_>,
     rows: Vec<Option<State>>,
-) -> Result<TypeTable, Fault>
+) -> Result<TypeTable, InferError>
     requires { IsLeastTable body.now rows.items }
-    ensures { Answers (all_classes world.now) file.now class.now method.now body.now result }
+    ensures { Answers (all_classes world.now) body.now result }
 {
     let first = first_broken(alloc, world, body, body.insns, &rows)?;
     match first {
         Some(first) => {
             let offset = body.insns[first.place].at;
-            let refusal = refused(alloc, file, class, method, first.rule, offset)?;
-            Err(Fault::Refused(refusal))
+            let rule = first.rule;
+            Err(InferError::Broken(BrokenAt { rule, offset }))
         }
         None => {
             let frames = frames(alloc, rows)?;
@@ -167,15 +185,14 @@ fn judged(
 /// Inference for a method of a class with its code and its instructions.
 fn infer_code(
     alloc: Global,
-    file: &[u8],
     world: &World<'_>,
     class: &ClassTree<'_>,
     method: &MethodTree<'_>,
     tree: &Code<'_>,
     insns: &[JInsn],
-) -> Result<TypeTable, Fault>
+) -> Result<TypeTable, InferError>
     requires { length insns.now < 2 ^ 32 }
-    ensures { Answers (all_classes world.now) file.now class.now method.now (body_of class.now method.now tree.now insns.now) result }
+    ensures { Answers (all_classes world.now) (body_of class.now method.now tree.now insns.now) result }
 {
     let places = index(alloc, insns)?;
     let body = Method {
@@ -191,28 +208,66 @@ fn infer_code(
     let count = insns.len() as u32;
     let marks = all_marks(alloc, count)?;
     let table = solve(alloc, &body, count, &marks)?;
-    judged(
-        alloc,
-        file,
-        world,
-        class,
-        method,
-        &body,
-        table.rows.into_vec(),
-    )
+    judged(alloc, world, &body, table.rows.into_vec())
 }
 
 /// The types of a method: the least table that is closed under its instructions.
 ///
-/// The code is that of a method of the world, and its instructions are those that `decode` gives for it. `file` is the
-/// file of a refusal.
+/// The code is that of a method of the world, and its instructions are those that `decode` gives for it.
 ///
 /// # Errors
 ///
 /// The first broken rule of the method, in the order of its instructions: 501 where two ways to an instruction have
 /// stacks of different heights, 502 where an operand is of the wrong kind or class, 503 where the stack goes below empty
-/// or above `max_stack`. The place has the file, the class, the method's name and descriptor, and the offset of the
-/// instruction in bytes.
+/// or above `max_stack`; with the offset of the instruction in bytes.
+pub fn infer_method(
+    alloc: Global,
+    world: &World<'_>,
+    code: &MethodCode,
+) -> Result<TypeTable, InferError>
+    requires { IsOfPackage world.now code.now }
+
+    // What is inferred is the least table, in which no rule is broken; and where there is such a table it is inferred.
+    ensures inferred { (c : Class) (m : ClassMethod) (t : CodeTree) → IsMethodOf world.now code.now c m t
+        → IfOk result (λ table. IsTypeTable (all_classes world.now) (body_of c m t code.now.insns) table) }
+    ensures only { (c : Class) (m : ClassMethod) (t : CodeTree) → IsMethodOf world.now code.now c m t
+        → (table : Types) → IsTypeTable (all_classes world.now) (body_of c m t code.now.insns) table → IsAnswer (Ok table) result }
+
+    // A broken rule is the first of the least table; and where there is one it is answered.
+    ensures broken { (c : Class) (m : ClassMethod) (t : CodeTree) → IsMethodOf world.now code.now c m t
+        → IfErr result (IsBroken (all_classes world.now) (body_of c m t code.now.insns)) }
+    ensures breaks { (c : Class) (m : ClassMethod) (t : CodeTree) → IsMethodOf world.now code.now c m t
+        → (b : Wrong) → IsBrokenBy (all_classes world.now) (body_of c m t code.now.insns) b → IsAnswer (Err (errors.Broken b)) result }
+{
+    let class = &world.classes().items()[code.class as usize];
+    let method = &class.methods.items()[code.method as usize];
+    match &method.code {
+        Some(tree) => infer_code(alloc, world, class, method, tree, code.insns.items()),
+        None => Err(InferError::NoMemory),
+    }
+}
+
+/// An answer with a broken rule as the refusal of a method.
+fn told(
+    alloc: Global,
+    file: &[u8],
+    class: &ClassTree<'_>,
+    method: &MethodTree<'_>,
+    answer: Result<TypeTable, InferError>,
+) -> Result<TypeTable, Fault>
+    ensures { ToldAs file.now class.now method.now answer result }
+{
+    match answer {
+        Ok(table) => Ok(table),
+        Err(InferError::Broken(broken)) => {
+            Err(Fault::Refused(refused(alloc, file, class, method, broken)?))
+        }
+        Err(InferError::NoMemory) => Err(Fault::NoMemory),
+    }
+}
+
+/// As `infer_method`, with a broken rule as a refusal. Its place has the file, the class, the method's name and descriptor,
+/// and the offset of the instruction in bytes.
 pub fn infer(
     alloc: Global,
     file: &[u8],
@@ -235,10 +290,8 @@ pub fn infer(
         → (r : Told) → IsRefusedBy (all_classes world.now) file.now c m (body_of c m t code.now.insns) r
         → IsUnlessNoMemory result (Err (faults.Refused r)) }
 {
+    let answer = infer_method(alloc, world, code);
     let class = &world.classes().items()[code.class as usize];
     let method = &class.methods.items()[code.method as usize];
-    match &method.code {
-        Some(tree) => infer_code(alloc, file, world, class, method, tree, code.insns.items()),
-        None => Err(Fault::NoMemory),
-    }
+    told(alloc, file, class, method, answer)
 }

@@ -17,7 +17,7 @@ mod table;
 mod types;
 
 pub use cell::Cell;
-pub use inference::infer;
+pub use inference::{InferError, infer, infer_method};
 pub use laws::{cell_laws, code_laws, flow_laws, mark_laws, name_laws, table_laws};
 pub use state::{Stack, State};
 pub use table::{Frame, TypeTable};

@@ -1,9 +1,7 @@
 -- A place without a mark at which no range of a handler begins or ends repeats the place before, if the locals are the same.
-use Rattle.std.proofs.Common.{◌≡◌, ◌≢◌, ◌||◌, ◌&&◌, ◌==◌, ◌<◌, ◌≤◌, ◌+◌, ◌-◌, ◌⊎◌, ℕ, zero, suc, Bool, true, false, cond, nat_lt, nat_le, is_some, List, [], ◌∷◌, ◌++◌, map, filter_map, length, take, slice_get, slice_set, get_or, Option, Some, None, option_map, Contains, refl, sym, ◌∙◌, ap, subst, inl, inr, arith}
-use Rattle.std.specs.List.{range_with_len}
+use Rattle.std.proofs.Common.{◌≡◌, ◌≢◌, ◌||◌, ◌&&◌, ◌==◌, ◌<◌, ◌≤◌, ◌+◌, ◌-◌, ◌⊎◌, ℕ, suc, Bool, true, false, cond, nat_lt, nat_le, is_some, List, [], ◌∷◌, ◌++◌, map, filter_map, length, take, slice_get, slice_set, get_or, Option, Some, None, option_map, Contains, refl, sym, ◌∙◌, ap, subst, inl, inr, arith}
 use Rattle.std.proofs.lemmas.Bool.{eqb-true, eqb-false, leb-true, leb-false, ltb-true, ltb-false, cases_lt}
-use Rattle.std.proofs.lemmas.List.{length-set, get_or_past, get_or-set_same, get_or-set_other, length-map, take_more}
-use Rattle.std.proofs.lemmas.List.FromFn.{length-range_with_len, get_or-map-range_with_len}
+use Rattle.std.proofs.lemmas.List.{length-set, get_or-set_same, get_or-set_other, take_more}
 use Rattle.std.proofs.lemmas.List.Elements.{Contains-append_cases, Contains-append_right}
 use Rattle.std.proofs.lemmas.Option.{slice_get_within}
 use Rattle.cjc_classfile.specs.declared.tree.Catch.{Catch}
@@ -11,7 +9,7 @@ use Rattle.cjc_code.specs.declared.insn.JInsn.{JInsn}
 use Rattle.cjc_code.specs.declared.insn.JOp.{JOp}
 use Rattle.cjc_code.specs.declared.insn.JOp.TheVariants as jop
 use Rattle.cjc_fixpoint.specs.declared.flow.Edge.{Edge}
-use Rattle.cjc_fixpoint.specs.Kept.{handed, mark_of}
+use Rattle.cjc_fixpoint.specs.Kept.{mark_of}
 use Rattle.cjc_fixpoint.specs.Shortened.{IsRepeated, AreRepeats}
 use Rattle.cjc_fixpoint.specs.Working.Edges.{contains_cons}
 use Rattle.cjc_fixpoint.specs.Working.SegmentLaws.{contains_none, contains_kept, kept_from}

@@ -1,13 +1,13 @@
-use Rattle.std.proofs.Common.{ap}
+use Rattle.std.proofs.Common.{ap, refl}
 use Rattle.cjc_world.specs.Classes.{all_classes}
 use Rattle.cjc_types.specs.Flow.{Body}
-use Rattle.cjc_types.proofs.Least.{judged_refused, judged_fine}
+use Rattle.cjc_types.proofs.Least.{judged_broken, judged_fine}
 use Rattle.cjc_types.proofs.inference.judged.Goals as goal
 
-pub returns-in_ok-refusal-in-Some : goal.returns-in_ok-refusal-in-Some
-returns-in_ok-refusal-in-Some c =
-    judged_refused (all_classes c.args.world.now) c.args.file.now c.args.class.now c.args.method.now c.args.body.now c.args.rows.items c.deref.result.now c.body.inside.insns.now c.in_ok-first.first c.in-Some.first c.index-body-first.result c.in_ok-refusal-in-Some.refusal
-    c.requires (ap (λ (b : Body). b.insns) c.body.view_is) c.deref.ensures.value c.in_ok-first.ensures.first c.in-Some.is c.in_ok-refusal-in-Some.ensures
+pub returns-in-Some : goal.returns-in-Some
+returns-in-Some c =
+    judged_broken (all_classes c.args.world.now) c.args.body.now c.args.rows.items c.deref.result.now c.body.inside.insns.now c.in_ok-first.first c.in-Some.first c.index-body-first.result _
+    c.requires (ap (λ (b : Body). b.insns) c.body.view_is) c.deref.ensures.value c.in_ok-first.ensures.first c.in-Some.is refl
 
 pub returns-in_ok-frames-in-None : goal.returns-in_ok-frames-in-None
 returns-in_ok-frames-in-None c =
