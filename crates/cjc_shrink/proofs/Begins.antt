@@ -35,6 +35,24 @@ type_shown l (Object class slots) = refl
 pub thing_shown : (l : Named) (heap : Heap) {things : List Thing} (k : ℕ) (thing : HeapObject (List ℕ) MemberId) → things ≡ map (shown l) heap → slice_get heap k ≡ Some thing → slice_get things k ≡ Some (shown l thing)
 thing_shown l heap k thing same is = ap (λ h. slice_get h k) same ∙ get_map (shown l) heap k ∙ ap (option_as (shown l)) is
 
+-- The frames that begin with arguments that agree.
+pub frames_begin : (heap : Heap) (narrowed : Method → Start NMethod) (params : List Kind) → OnBoth params → {callee : Method} {args words : List Value} → IsNarrowed narrowed (length params) callee → Stacks heap params args words → Frames heap [] (first_locals callee params) (frame_for_call callee args) (narrow.entered (narrowed callee) words)
+frames_begin heap narrowed params plain {callee = callee} {args = args} {words = words} is passed =
+    let long = both_long plain passed in
+    let further = callee.max_locals - length params in
+    let whole = (let n = narrowed callee in n.nargs + n.max_locals) in
+    let e = is.nargs in let h = is.max_locals in let k = long.1 in
+    let size : whole ≡ length words + further = omega arith in
+    let narrow_ones : narrow.locals_of (let n = narrowed callee in n.nargs) (let n = narrowed callee in n.max_locals) words ≡ map (λ v. Some v) words ++ replicate further None =
+    ap (λ n. take n (map (λ v. Some v) words ++ replicate whole None)) size ∙ filled words further whole (omega arith) in
+    let named_ones : map (λ v. Some v) args ++ replicate (callee.max_locals - length args) None ≡ map (λ v. Some v) args ++ replicate further None =
+    ap (λ n. map (λ v. Some v) args ++ replicate (callee.max_locals - n) None) long.0 in
+    record {
+      stack = bottom;
+      locals = subst (λ x. Locals heap (first_locals callee params) x (narrow.locals_of (let n = narrowed callee in n.nargs) (let n = narrowed callee in n.max_locals) words)) (sym named_ones)
+          (subst (Locals heap (first_locals callee params) (map (λ v. Some v) args ++ replicate further None)) (sym narrow_ones) (first further plain passed));
+    }
+
 module _ (by : Linked) (l : Named) (narrowed : Method → Start NMethod) (params ks : List Kind) (next : ℕ) (f : Frame) (outer : List Frame) (s : State) (g : NFrame) (others : List NFrame) (t : NState) (plain : OnBoth params) where
   abbrev heap : Heap
   heap = let m = t.memory in m.heap
@@ -44,21 +62,7 @@ module _ (by : Linked) (l : Named) (narrowed : Method → Start NMethod) (params
 
   -- the frames that begin
   entered_agree : {callee : Method} {args words : List Value} → IsNarrowed narrowed (length params) callee → Stacks (let m = t.memory in m.heap) params args words → Frames (let m = t.memory in m.heap) [] (first_locals callee params) (frame_for_call callee args) (narrow.entered (narrowed callee) words)
-  entered_agree {callee = callee} {args = args} {words = words} is passed =
-      let long = both_long plain passed in
-      let further = callee.max_locals - length params in
-      let whole = (let n = narrowed callee in n.nargs + n.max_locals) in
-      let e = is.nargs in let h = is.max_locals in let k = long.1 in
-      let size : whole ≡ length words + further = omega arith in
-      let narrow_ones : narrow.locals_of (let n = narrowed callee in n.nargs) (let n = narrowed callee in n.max_locals) words ≡ map (λ v. Some v) words ++ replicate further None =
-      ap (λ n. take n (map (λ v. Some v) words ++ replicate whole None)) size ∙ filled words further whole (omega arith) in
-      let named_ones : map (λ v. Some v) args ++ replicate (callee.max_locals - length args) None ≡ map (λ v. Some v) args ++ replicate further None =
-      ap (λ n. map (λ v. Some v) args ++ replicate (callee.max_locals - n) None) long.0 in
-      record {
-        stack = bottom;
-        locals = subst (λ x. Locals heap (first_locals callee params) x (narrow.locals_of (let n = narrowed callee in n.nargs) (let n = narrowed callee in n.max_locals) words)) (sym named_ones)
-            (subst (Locals heap (first_locals callee params) (map (λ v. Some v) args ++ replicate further None)) (sym narrow_ones) (first further plain passed));
-      }
+  entered_agree is passed = frames_begin (let m = t.memory in m.heap) narrowed params plain is passed
 
   -- what is reached begins
   pub reach_both : {callee : Method} {args words vs ws : List Value} (result : Option Sort) (on : Bool) → IsNarrowed narrowed (length params) callee → Stacks (let m = t.memory in m.heap) params args words → Stacks (let m = t.memory in m.heap) ks vs ws

@@ -26,3 +26,4 @@ pub mod Callees
 pub mod Results
 pub mod Replies
 pub mod Imports
+pub mod Entries

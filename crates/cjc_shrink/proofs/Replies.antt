@@ -24,7 +24,7 @@ use Rattle.cjc_bytecode.proofs.Natural.{get_map}
 use Rattle.cjc_ncode.specs.ByLabel.{Named, by_label}
 use Rattle.cjc_by_name.specs.Linked.{Linked}
 use Rattle.cjc_by_name.specs.Machine.{Frame, State, heap_of, with_heap, room, offset, report, object_fits, is_of, heap_after_act, after_act, after_acts, after_raise, after_reply, after_result, after_answer}
-use Rattle.cjc_shrink.specs.Relation.{Kind, Range, Heap, number, null, object, Stacks, Locals, shown}
+use Rattle.cjc_shrink.specs.Relation.{Kind, Range, Heap, Agrees, number, null, object, Stacks, Locals, shown}
 use Rattle.cjc_shrink.specs.Rows.{HasRoom, kind_of, is_word_sort}
 use Rattle.cjc_shrink.specs.Jumps.{Results, no_result, result as result_of}
 use Rattle.cjc_shrink.specs.Calls.{NFrame, NState, NTurn}
@@ -93,7 +93,7 @@ module _ (by : Linked) (l : Named) (heap : Heap) (things : List Thing) (same : t
   object_told : (kind : Shape (List ℕ)) → AsksAlike by l kind → (k : ℕ) → object_fits by things k kind ≡ narrow.object_fits (by_label l) heap k kind
   object_told kind asks k = ap (λ o. is_of by o (shape_name kind)) (ap (λ h. slice_get h k) same ∙ get_map (shown l) heap k) ∙ thing_told kind asks (slice_get heap k)
 
-  value_told : (sort : Sort) (v : Value) → ((kind : Shape (List ℕ)) → sort ≡ Reference kind → AsksAlike by l kind) → fits (object_fits by things) sort v ≡ fits (narrow.object_fits (by_label l) heap) sort v
+  pub value_told : (sort : Sort) (v : Value) → ((kind : Shape (List ℕ)) → sort ≡ Reference kind → AsksAlike by l kind) → fits (object_fits by things) sort v ≡ fits (narrow.object_fits (by_label l) heap) sort v
   value_told (Reference kind) (Obj k) asks = object_told kind (asks kind refl) k
   value_told (Reference kind) Null asks = refl
   value_told (Reference kind) (Num z) asks = refl
@@ -121,14 +121,14 @@ module _ (by : Linked) (l : Named) (heap : Heap) (things : List Thing) (same : t
 
 -- ---- a result that fits agrees
 
-both_so : (a b : Bool) → (a && b) ≡ true → (a ≡ true) × (b ≡ true)
+pub both_so : (a b : Bool) → (a && b) ≡ true → (a ≡ true) × (b ≡ true)
 both_so true b e = (refl, e)
 both_so false b e = cc
 
 above_if : (a b : ℤ) → int_le a b ≡ true → a ≤ℤ b
 above_if a b e = grind (arith, ints, e)
 
-held_if : (low high z : ℤ) → lies_in low high z ≡ true → Holds (span low high) z
+pub held_if : (low high z : ℤ) → lies_in low high z ≡ true → Holds (span low high) z
 held_if low high z e = let p = both_so (int_le low z) (int_le z high) e in record { above = above_if low z p.0; below = above_if z high p.1 }
 
 word_agrees : (heap : Heap) (low high z : ℤ) → negsuc 32767 ≤ℤ low → high ≤ℤ pos 32767 → lies_in low high z ≡ true → Results heap (Range (span low high) ∷ []) (Some (Num z)) (Num z ∷ [])
@@ -138,14 +138,14 @@ word_agrees heap low high z a b e =
 
 module _ (by : Linked) (l : Named) (heap : Heap) where
   -- a reference to an array or object of the type
-  reference_agrees : (kind : Shape (List ℕ)) → AsksAlike by l kind → (k : ℕ) → narrow.object_fits (by_label l) heap k kind ≡ true → Results heap (kind_of l (Reference kind) ∷ []) (Some (Obj k)) (Obj k ∷ [])
+  pub object_agrees : (kind : Shape (List ℕ)) → AsksAlike by l kind → (k : ℕ) → narrow.object_fits (by_label l) heap k kind ≡ true → Agrees heap (kind_of l (Reference kind)) (Obj k) (Obj k)
   unfolding by_label
-  reference_agrees kind asks k e = by_thing (slice_get heap k) refl (shape_of (by_label l) kind) refl e
+  object_agrees kind asks k e = by_thing (slice_get heap k) refl (shape_of (by_label l) kind) refl e
     where
-      by_thing : (o : Option (HeapObject (List ℕ) MemberId)) → slice_get heap k ≡ o → (p : Option (Shape (List ℕ))) → shape_of (by_label l) kind ≡ p → narrow.thing_fits (by_label l) o p ≡ true → Results heap (kind_of l (Reference kind) ∷ []) (Some (Obj k)) (Obj k ∷ [])
+      by_thing : (o : Option (HeapObject (List ℕ) MemberId)) → slice_get heap k ≡ o → (p : Option (Shape (List ℕ))) → shape_of (by_label l) kind ≡ p → narrow.thing_fits (by_label l) o p ≡ true → Agrees heap (kind_of l (Reference kind)) (Obj k) (Obj k)
       by_thing None is p named fit = cc
       by_thing (Some thing) is None named fit = cc
-      by_thing (Some thing) is (Some other) named fit = result_of (object thing is (ap (l.is_of (shape thing)) (sym (asks.same other named)) ∙ fit))
+      by_thing (Some thing) is (Some other) named fit = object thing is (ap (l.is_of (shape thing)) (sym (asks.same other named)) ∙ fit)
 
   pub result_agrees : (result : Option Sort) (v : Option Value) → ((sort : Sort) → result ≡ Some sort → is_word_sort sort ≡ true) → ((kind : Shape (List ℕ)) → result ≡ Some (Reference kind) → AsksAlike by l kind) → result_fits (narrow.object_fits (by_label l) heap) result v ≡ true → Results heap (result_kinds l result) v (result_words result v)
   result_agrees None None word asks e = no_result
@@ -164,7 +164,7 @@ module _ (by : Linked) (l : Named) (heap : Heap) where
   result_agrees (Some NoValue) (Some v) word asks e = let f = word NoValue refl in cc
   result_agrees (Some (Reference kind)) (Some (Num z)) word asks e = cc
   result_agrees (Some (Reference kind)) (Some Null) word asks e = result_of null
-  result_agrees (Some (Reference kind)) (Some (Obj k)) word asks e = reference_agrees kind (asks kind refl) k e
+  result_agrees (Some (Reference kind)) (Some (Obj k)) word asks e = result_of (object_agrees kind (asks kind refl) k e)
 
 -- ---- replies
 

@@ -11,3 +11,4 @@ pub mod Callees
 pub mod Results
 pub mod Acts
 pub mod Replies
+pub mod Entries

@@ -13,15 +13,16 @@ ghost use Rattle.cjc_code.specs.declared.insn.JInsn.{JInsn};
 ghost use Rattle.cjc_code.specs.declared.insn.JOp.TheVariants as jop;
 ghost use Rattle.cjc_script.specs.Sorts.{Booleans, Bytes, Shorts, Signature, Shape, OfClass, OfNumbers, OfReferences, shape_name, field_sort};
 ghost use Rattle.cjc_bytecode.specs.Effects.{Invoke, Toss, Raise, Leave, HeapObject, shape};
-ghost use Rattle.cjc_bytecode.specs.Machine.{Start, caught, made};
+ghost use Rattle.cjc_bytecode.specs.Machine.{Start, caught, made, begins as narrow_begins};
 ghost use Rattle.cjc_script.specs.declared.value.Value.{Value};
+ghost use Rattle.cjc_script.specs.declared.script.Entry.{Entry};
 ghost use Rattle.cjc_ncode.specs.declared.narrow.NMethod.{NMethod};
 ghost use Rattle.cjc_ncode.specs.Written.{Resolution, place_in, catches_at};
 ghost use Rattle.cjc_ncode.specs.ByLabel.{Callee, Named, by_label, handler as narrow_handler};
 ghost use Rattle.cjc_by_name.specs.Linked.{Method, Linked};
 ghost use Rattle.cjc_by_name.specs.Effects.{Fault, exception_class};
 ghost use Rattle.cjc_by_name.specs.Effects as effects;
-ghost use Rattle.cjc_by_name.specs.Machine.{Frame, State, room, holder_of, handler, after_throw, after_effect};
+ghost use Rattle.cjc_by_name.specs.Machine.{Frame, State, room, holder_of, handler, after_throw, after_effect, begins};
 ghost use Rattle.cjc_shrink.specs.Relation.{Kind, OnBoth, Range, Refers, boolean_range, Heap, Stacks, Locals, AllWider, Stores};
 ghost use Rattle.cjc_shrink.specs.Rows.{narrow_fault, HasRoom, RowAgrees, RowOnLocals, IsNotWritten, FieldIsThere, kind_of};
 ghost use Rattle.cjc_shrink.specs.Objects.{IsMade, IsClassThere, IsTypeThere};
@@ -32,6 +33,8 @@ ghost use Rattle.cjc_shrink.specs.Switches.{targets_of, TwoAgree};
 ghost use Rattle.cjc_shrink.specs.Callees.{Names, CallIsWritten};
 ghost use Rattle.cjc_shrink.specs.Results.{Resumes, NotesResult, AreShort};
 ghost use Rattle.cjc_shrink.specs.Replies.{StatesAgree, result_kinds, IsStaticImport, IsObjectImport, AnswersAlike, ImportAgrees};
+ghost use Rattle.cjc_shrink.specs.Acts.{ActsAlike};
+ghost use Rattle.cjc_shrink.specs.Entries.{IsEntry, entry_kinds, EntryAgrees};
 ghost use Rattle.cjc_shrink.specs.Throws.{nheap, HandleAlike, Unwinds, Raises, IsRaised};
 ghost use Rattle.cjc_shrink.specs.Calls.{NFrame, NState, Frames, CallAgrees, IsStaticCall, IsObjectCall, IsWrittenAt, HandlesAlike, CatchAgrees};
 
@@ -127,6 +130,13 @@ pub fn fields_are_written_alike()
 pub fn static_fields_are_met_alike()
     ensures getstatic { (by : Linked) (l : Named) (r : Resolution) (m : Method) (named : MemberId) → CellIsThere by r m named → RowOnCells by l r m (jop.Static false named) (r.field named) [] (kind_of l (field_sort named.desc) ∷ []) }
     ensures putstatic { (by : Linked) (l : Named) (r : Resolution) (m : Method) (named : MemberId) (k : Kind) → CellIsThere by r m named → MayBePut l (field_sort named.desc) k → RowOnCells by l r m (jop.Static true named) (r.field named) (k ∷ []) [] }
+{}
+
+/// Where no frame is active the next entry of a script begins alike, after its acts: a static method that it calls, or the one that is
+/// selected on the array or object that it sends to, with arguments that are the same on both sides; or an act, the method or an
+/// argument does not fit, and both runs are over. Its parameters are one word each, and one act changes both heaps alike.
+pub fn entries_begin_alike()
+    ensures { (by : Linked) (l : Named) (narrowed : Method → Start NMethod) (types : Signature) (within : Shape (List ℕ) → Bool) (e : Entry) (entries : List Entry) → ActsAlike by l → IsEntry by l narrowed e.method types within → (s : State) (t : NState) → StatesAgree l s t → EntryAgrees l narrowed (entry_kinds e.virtual_call l within types) e entries (begins by [] (e ∷ entries) s) (narrow_begins (by_label l) [] (e ∷ entries) t) }
 {}
 
 /// A call of a static method, and one on a receiver that each of its types selects a method of the package for: the method

@@ -1,0 +1,51 @@
+-- When an entry of a script begins alike.
+use Rattle.std.specs.Prelude.{◌≡◌, ℕ, List, [], ◌∷◌, length, map, Option, Some, None, option_map, Bool, true, false, if◌then◌else◌}
+use Rattle.cjc_bytes.specs.declared.fault.MemberId.{MemberId}
+use Rattle.cjc_script.specs.declared.value.Value.{Value}
+use Rattle.cjc_script.specs.declared.script.Entry.{Entry}
+use Rattle.cjc_script.specs.declared.report.Outcome.TheVariants.{Unfit}
+use Rattle.cjc_script.specs.Sorts.{Shape, Sort, Reference, Signature, shape_name, signature_of}
+use Rattle.cjc_bytecode.specs.Runs.{Move, On, Over}
+use Rattle.cjc_bytecode.specs.Machine.{Start, Next, Ended}
+use Rattle.cjc_bytecode.specs.Machine as narrow
+use Rattle.cjc_ncode.specs.declared.narrow.NMethod.{NMethod}
+use Rattle.cjc_ncode.specs.ByLabel.{Named}
+use Rattle.cjc_by_name.specs.Linked.{Method, Linked}
+use Rattle.cjc_by_name.specs.Machine.{State, frame_for_call, report}
+use Rattle.cjc_shrink.specs.Relation.{Kind, Refers}
+use Rattle.cjc_shrink.specs.Rows.{kind_of, is_word_sort}
+use Rattle.cjc_shrink.specs.Calls.{NState, NTurn, Frames, first_locals, IsNarrowed}
+use Rattle.cjc_shrink.specs.Throws.{nheap}
+use Rattle.cjc_shrink.specs.Acts.{ActsAlike}
+use Rattle.cjc_shrink.specs.Replies.{StatesAgree, AsksAlike}
+
+-- what parameters are in the locals
+abbrev pub kinds_of : Named → List Sort → List Kind
+kinds_of l types = map (kind_of l) types
+
+-- The parameters are one word each, and what is of their types is told alike.
+pub data AreGiven (by : Linked) (l : Named) : List Sort → Type 0 where
+  no_parameter : AreGiven by l []
+  a_parameter : {type : Sort} {types : List Sort} → is_word_sort type ≡ true → ((kind : Shape (List ℕ)) → type ≡ Reference kind → AsksAlike by l kind) → AreGiven by l types → AreGiven by l (type ∷ types)
+
+-- A member that a script calls or sends: both sides find the same methods of the package.
+pub record IsEntry (by : Linked) (l : Named) (narrowed : Method → Start NMethod) (id : MemberId) (types : Signature) (within : Shape (List ℕ) → Bool) : Type 0 where
+  pub has_types : signature_of id.desc ≡ Some types
+  pub given : AreGiven by l types.params
+  pub called : l.called id ≡ option_map narrowed (by.entry id)
+  pub sent : (kind : Shape (List ℕ)) → l.sent kind id ≡ option_map narrowed (by.sent (shape_name kind) id)
+  pub receives : (kind : Shape (List ℕ)) (m : Method) → by.sent (shape_name kind) id ≡ Some m → within kind ≡ true
+  pub called_narrowed : (m : Method) → by.entry id ≡ Some m → IsNarrowed narrowed (length types.params) m
+  pub sent_narrowed : (kind : Shape (List ℕ)) (m : Method) → by.sent (shape_name kind) id ≡ Some m → IsNarrowed narrowed (length (Refers within ∷ kinds_of l types.params)) m
+
+-- what an entry passes
+abbrev pub entry_kinds : (virtual_call : Bool) → Named → (within : Shape (List ℕ) → Bool) → Signature → List Kind
+entry_kinds true l within types = Refers within ∷ kinds_of l types.params
+entry_kinds false l within types = kinds_of l types.params
+
+-- Both machines begin the entry's method after the same acts, with arguments that agree; or both are over, since an act, the method
+-- or an argument does not fit.
+pub data EntryAgrees (l : Named) (narrowed : Method → Start NMethod) (params : List Kind) (e : Entry) (entries : List Entry) : Move State → NTurn → Type 0 where
+  begins : (s : State) (t : NState) (m : Method) (words : List Value) → StatesAgree l (record s { entries = entries }) (record t { entries = entries }) → Frames (nheap t) [] (first_locals m params) (frame_for_call m e.args) (narrow.entered (narrowed m) words)
+      → EntryAgrees l narrowed params e entries (On (record s { frames = frame_for_call m e.args ∷ []; entries = entries })) (Next (record t { frames = narrow.entered (narrowed m) words ∷ []; entries = entries }))
+  unfit : {s : State} {t : NState} → StatesAgree l s t → EntryAgrees l narrowed params e entries (Over (report (Unfit e.number) s)) (Ended (Unfit e.number) t)
