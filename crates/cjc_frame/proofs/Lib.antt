@@ -1,0 +1,4 @@
+pub mod Conditions
+pub mod Cuts
+pub mod Piles
+pub mod Shifts

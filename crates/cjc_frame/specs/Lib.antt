@@ -1,0 +1,3 @@
+pub mod Calculations
+pub mod Deeds
+pub mod Places
