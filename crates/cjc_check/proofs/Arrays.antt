@@ -14,9 +14,37 @@ bytes_fit (a ∷ arrays) =
     let b = sum_by-cons (λ (x : ArrayInit). length x.values) a arrays in
     omega (arith, h, s, b)
 
-pub two_each : (xs : List ℕ) → sum_by (λ x. 2) xs ≡ 2 * length xs
+pub two_each : {A : Type 0} (xs : List A) → sum_by (λ x. 2) xs ≡ 2 * length xs
 two_each [] = omega arith
-two_each (x ∷ xs) =
+two_each {A} (x ∷ xs) =
     let h = two_each xs in
-    let s = sum_by-cons (λ (x : ℕ). 2) x xs in
+    let s = sum_by-cons (λ (y : A). 2) x xs in
+    omega (arith, h, s)
+
+pub four_each : {A : Type 0} (xs : List A) → sum_by (λ x. 4) xs ≡ 4 * length xs
+four_each [] = omega arith
+four_each {A} (x ∷ xs) =
+    let h = four_each xs in
+    let s = sum_by-cons (λ (y : A). 4) x xs in
+    omega (arith, h, s)
+
+pub seven_each : {A : Type 0} (xs : List A) → sum_by (λ x. 7) xs ≡ 7 * length xs
+seven_each [] = omega arith
+seven_each {A} (x ∷ xs) =
+    let h = seven_each xs in
+    let s = sum_by-cons (λ (y : A). 7) x xs in
+    omega (arith, h, s)
+
+pub eight_each : {A : Type 0} (xs : List A) → sum_by (λ x. 8) xs ≡ 8 * length xs
+eight_each [] = omega arith
+eight_each {A} (x ∷ xs) =
+    let h = eight_each xs in
+    let s = sum_by-cons (λ (y : A). 8) x xs in
+    omega (arith, h, s)
+
+pub twelve_each : {A : Type 0} (xs : List A) → sum_by (λ x. 12) xs ≡ 12 * length xs
+twelve_each [] = omega arith
+twelve_each {A} (x ∷ xs) =
+    let h = twelve_each xs in
+    let s = sum_by-cons (λ (y : A). 12) x xs in
     omega (arith, h, s)

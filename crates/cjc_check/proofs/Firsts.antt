@@ -15,7 +15,7 @@ up_to_trans a b c p q = grind (arith, nat_tests)
 not_up_to_trans : (a b c : Spot) → is_up_to a b ≡ false → is_up_to b c ≡ false → is_up_to a c ≡ false
 not_up_to_trans a b c p q = grind (arith, nat_tests)
 
-either : {P : Type 0} → (t : Bool) → (t ≡ true → P) → (t ≡ false → P) → P
+pub either : {P : Type 0} → (t : Bool) → (t ≡ true → P) → (t ≡ false → P) → P
 either true p q = p refl
 either false p q = q refl
 

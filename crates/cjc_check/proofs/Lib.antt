@@ -1,5 +1,11 @@
 pub mod Firsts
 pub mod Arrays
+pub mod Ascents
 pub mod Beside
+pub mod Indexed
+pub mod MethodStarts
+pub mod Nibbles
+pub mod Numbered
 pub mod Starts
+pub mod TokenPlaces
 pub mod Stops

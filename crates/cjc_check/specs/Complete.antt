@@ -160,3 +160,15 @@ pub record IsSmall (cap : CapTree) : Type 0 where
   pub locations : 3 + size_of locations_size cap.locations < 2 ^ 32
   pub export : 3 + size_of export_size cap.export < 2 ^ 32
   pub descriptor : 3 + size_of descriptor_size cap.descriptor < 2 ^ 32
+
+-- the same of components of which only Applet and Export may be absent
+pub record AreSmall (c : Complete) : Type 0 where
+  pub applet : 3 + size_of applets_size c.applet < 2 ^ 32
+  pub import : 3 + import_size c.import < 2 ^ 32
+  pub pool : 3 + pool_size c.pool < 2 ^ 32
+  pub class : 3 + class_info_size c.class < 2 ^ 32
+  pub method : 3 + method_size c.method < 2 ^ 32
+  pub statics : 3 + statics_size c.statics < 2 ^ 32
+  pub locations : 3 + locations_size c.locations < 2 ^ 32
+  pub export : 3 + size_of export_size c.export < 2 ^ 32
+  pub descriptor : 3 + descriptor_size c.descriptor < 2 ^ 32

@@ -15,4 +15,5 @@ pub mod Statics
 pub mod Exports
 pub mod Described
 pub mod Consistent
+pub mod Working
 pub mod Example

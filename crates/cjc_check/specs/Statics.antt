@@ -14,10 +14,14 @@ abbrev pub applets_of : Option Applet → List AppletEntry
 applets_of None = []
 applets_of (Some a) = a.applets
 
+-- an applet that begins at this offset
+abbrev pub install_spot : Complete → (at : ℕ) → AppletEntry → List Spot
+install_spot c at a = unless (is_static_start c a.install_method) (in_info 3 (at + 1 + length a.aid))
+
 -- 715. The offsets of install methods are starts of static methods. Broken is the offset, behind the AID and its length.
 abbrev pub install_spots : Complete → List Spot
 install_spots c =
-    along applet_size (λ at a. unless (is_static_start c a.install_method) (in_info 3 (at + 1 + length a.aid))) 1 (applets_of c.applet)
+    along applet_size (install_spot c) 1 (applets_of c.applet)
 
 -- ---- 716
 

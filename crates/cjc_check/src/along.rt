@@ -4,7 +4,7 @@
 ghost use Rattle.std.specs.Prelude.{◌≡◌, ℕ, ◌+◌, ◌<◌, ◌^◌, ◌==◌, List, IfOk, sum_by};
 ghost use Rattle.std.specs.List.{list_any};
 ghost use Rattle.std.specs.List.Sorted.{IsNonDecreasing};
-ghost use Rattle.cjc_check.specs.Spots.{along, beside, first, starts};
+ghost use Rattle.cjc_check.specs.Spots.{along, beside, first, numbered, starts};
 ghost use Rattle.cjc_check.specs.declared.spot.Spot.{Spot as Place};
 
 use crate::spot::{Spot, earlier};
@@ -92,6 +92,38 @@ pub(crate) fn first_beside<T: Item, U, C: Comparison<T, U>>(
             return least;
         }
         least = earlier(least, test.first_between(at, item, &others[i]));
+        at += item.size();
+    }
+    least
+}
+
+/// A test of items of one kind by their numbers.
+pub(crate) trait Numbered<T: Item> {
+    ghost broken: { Self → ℕ → ℕ → T → List Place };
+
+    ghost fits: { Self → Type 0 };
+
+    /// The first place where the item of a number fails that begins at an offset.
+    fn first_at_number(&self, number: usize, at: u32, item: &T) -> Option<Spot>
+        requires ready { fits self.now }
+        requires small { 3 + at + T.bytes item.now < 2 ^ 32 }
+        ensures { result ≡ first (broken self.now number at item.now) };
+}
+
+/// The first place where one of several items fails, which have the numbers from 0 on and the first of which begins at an offset.
+pub(crate) fn first_numbered<T: Item, C: Numbered<T>>(
+    test: &C,
+    from: u32,
+    items: &[T],
+) -> Option<Spot>
+    requires ready { C.fits test.now }
+    requires small { 3 + from + sum_by T.bytes items.now < 2 ^ 32 }
+    ensures { result ≡ first (numbered T.bytes (C.broken test.now) 0 from items.now) }
+{
+    let mut least = None;
+    let mut at = from;
+    for (i, item) in items.iter().enumerate() {
+        least = earlier(least, test.first_at_number(i, at, item));
         at += item.size();
     }
     least

@@ -3,14 +3,22 @@
 #![tactic(auto)]
 
 mod along;
+mod described;
 mod directory;
 mod handlers;
 mod imports;
+mod install;
 mod laws;
 mod listed;
+mod methods;
+mod names;
+mod parts;
+mod refs;
 mod sizes;
 mod spot;
 mod statics;
+mod supers;
+mod tokens;
 mod worked;
 
 pub use directory::directory_spot;

@@ -2,13 +2,16 @@
 //! tests of all sentences use it. It knows no sentence.
 
 ghost use Rattle.std.specs.Prelude.{◌≡◌, ◌+◌, ◌*◌, ◌<◌, ◌^◌, length, sum_by};
+ghost use Rattle.cjc_check.specs.Classes.{first_class};
+ghost use Rattle.cjc_check.specs.ClassRefs.{pool_count_at, types_begin};
 ghost use Rattle.cjc_check.specs.Complete.{applet_size, package_size, interface_size, map_size, class_size, array_size, exported_size, described_size, type_size, header_size, applets_size, import_size, pool_size, class_info_size, method_size, statics_size, locations_size, export_size, descriptor_size, size_of, size_items, IsSmall};
 
 use crate::along::{Item, total};
 use cjc_capread::{
-    Applet, AppletEntry, ArrayInit, CapTree, ClassDescriptor, ClassEntry, ClassInfo, ConstantPool,
-    Descriptor, Export, ExportedClass, Header, ImplementedInterface, Import, ImportedPackage,
-    InterfaceEntry, Method, ReferenceLocation, StaticField, TypeDescriptor,
+    Applet, AppletEntry, ArrayInit, CapTree, ClassDescriptor, ClassEntry, ClassInfo, ClassRef,
+    ConstantPool, Descriptor, Export, ExportedClass, FieldDescriptor, Header, ImplementedInterface,
+    Import, ImportedPackage, InterfaceEntry, Method, MethodDescriptor, PoolEntry,
+    ReferenceLocation, StaticField, TypeDescriptor,
 };
 
 impl Item for AppletEntry {
@@ -95,6 +98,62 @@ impl Item for u64 {
     fn size(&self) -> u32 {
         2
     }
+}
+
+impl Item for ClassRef {
+    ghost bytes = { λ x. 2 };
+
+    fn size(&self) -> u32 {
+        2
+    }
+}
+
+impl Item for PoolEntry {
+    ghost bytes = { λ x. 4 };
+
+    fn size(&self) -> u32 {
+        4
+    }
+}
+
+impl Item for FieldDescriptor {
+    ghost bytes = { λ x. 7 };
+
+    fn size(&self) -> u32 {
+        7
+    }
+}
+
+impl Item for MethodDescriptor {
+    ghost bytes = { λ x. 12 };
+
+    fn size(&self) -> u32 {
+        12
+    }
+}
+
+/// Where the classes of Class begin, behind its interfaces.
+pub(crate) fn first_class(class: &ClassInfo) -> u32
+    requires { class_info_size class.now < 2 ^ 32 }
+    ensures { result ≡ first_class class.now }
+{
+    2 + total(class.interfaces.items())
+}
+
+/// Where the number of pool entries stands in Descriptor, behind its classes.
+pub(crate) fn pool_count_at(descriptor: &Descriptor) -> u32
+    requires { descriptor_size descriptor.now < 2 ^ 32 }
+    ensures { result ≡ pool_count_at descriptor.now }
+{
+    1 + total(descriptor.classes.items())
+}
+
+/// Where the types of Descriptor begin, behind an offset for each pool entry.
+pub(crate) fn types_begin(descriptor: &Descriptor) -> u32
+    requires { descriptor_size descriptor.now < 2 ^ 32 }
+    ensures { result ≡ types_begin descriptor.now }
+{
+    pool_count_at(descriptor) + 2 + 2 * descriptor.pool_types.items().len() as u32
 }
 
 /// The bytes of Header.

@@ -1,0 +1,5 @@
+pub mod Parts
+pub mod Indexed
+pub mod Nibbles
+pub mod MethodStarts
+pub mod Tokens
