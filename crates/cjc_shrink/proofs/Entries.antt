@@ -1,17 +1,16 @@
 -- Entries of scripts begin alike.
-use Rattle.std.proofs.Common.{◌≡◌, ℕ, suc, ◌+◌, ◌-◌, refl, sym, ap, subst, ◌∙◌, arith, Bool, true, false, List, [], ◌∷◌, ◌++◌, length, drop, ℤ, pos, negsuc}
+use Rattle.std.proofs.Common.{◌≡◌, ℕ, suc, refl, sym, ap, subst, ◌∙◌, arith, Bool, true, false, List, [], ◌∷◌, length, drop, ℤ, pos, negsuc}
 use Rattle.std.specs.Prelude.{Option, Some, None, option_map, map, slice_get, ◌&&◌, ◌≤ℤ◌, if◌then◌else◌}
 use Rattle.std.proofs.lemmas.Int.{ints}
 use Rattle.cjc_bytes.specs.declared.fault.MemberId.{MemberId}
 use Rattle.cjc_words.proofs.Words.{low_word_same}
-use Rattle.cjc_range.specs.Span.{Span, span, Holds}
+use Rattle.cjc_range.specs.Span.{span}
 use Rattle.cjc_script.specs.declared.value.Value.{Value}
 use Rattle.cjc_script.specs.declared.value.Value.TheVariants.{Num, Null, Obj}
 use Rattle.cjc_script.specs.declared.script.Entry.{Entry}
-use Rattle.cjc_script.specs.declared.report.Outcome.TheVariants.{Unfit}
 use Rattle.cjc_script.specs.declared.report.Thing.{Thing}
 use Rattle.cjc_script.specs.Sorts.{Shape, Sort, Boolean, Byte, Short, Int, Reference, NoValue, Signature, shape_name, signature_of, fits, all_fit, lies_in}
-use Rattle.cjc_bytecode.specs.Runs.{Move, On, Over}
+use Rattle.cjc_bytecode.specs.Runs.{Move}
 use Rattle.cjc_bytecode.specs.Arguments.{value_words, both_words, words_of, first_and}
 use Rattle.cjc_bytecode.specs.Effects.{HeapObject, shape}
 use Rattle.cjc_bytecode.specs.Machine.{Start, Next, Ended, shape_of}
@@ -23,11 +22,11 @@ use Rattle.cjc_ncode.specs.ByLabel.{Named, by_label}
 use Rattle.cjc_by_name.specs.Linked.{Method, Linked}
 use Rattle.cjc_by_name.specs.Machine.{State, heap_of, frame_for_call, report, object_fits, entry_method, args_fit, entry_begins, sent_to, sent_on, after_acts}
 use Rattle.cjc_by_name.specs.Machine as named
-use Rattle.cjc_shrink.specs.Relation.{OnBoth, no_cell, a_range, a_reference as both_reference, Kind, Range, Refers, Heap, Agrees, number, null, object, Stacks, bottom, cell, shown, Stores}
+use Rattle.cjc_shrink.specs.Relation.{OnBoth, no_cell, a_range, a_reference as both_reference, Kind, Range, Refers, Heap, Agrees, number, null, object, Stacks, bottom, cell, shown}
 use Rattle.cjc_shrink.specs.Rows.{kind_of, is_word_sort}
 use Rattle.cjc_shrink.specs.Calls.{NState, NTurn, Frames, first_locals, IsNarrowed}
 use Rattle.cjc_shrink.specs.Throws.{nheap}
-use Rattle.cjc_shrink.specs.Acts.{Keeps, ActsAlike}
+use Rattle.cjc_shrink.specs.Acts.{ActsAlike}
 use Rattle.cjc_shrink.specs.Replies.{StatesAgree, AsksAlike}
 use Rattle.cjc_shrink.specs.Entries.{kinds_of, AreGiven, no_parameter, a_parameter, IsEntry, entry_kinds, EntryAgrees, begins, unfit}
 use Rattle.cjc_shrink.proofs.Begins.{type_shown, frames_begin}

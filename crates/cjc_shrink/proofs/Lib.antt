@@ -27,3 +27,5 @@ pub mod Results
 pub mod Replies
 pub mod Imports
 pub mod Entries
+pub mod Types
+pub mod Turns

@@ -39,7 +39,7 @@ use Rattle.cjc_shrink.proofs.Throws.{handle_kept, raised}
 
 -- ---- heaps in turn
 
-keeps_itself : (heap : Heap) → Keeps heap heap
+pub keeps_itself : (heap : Heap) → Keeps heap heap
 keeps_itself heap k thing is = record { thing = thing; is = is; type = refl }
 
 keeps_through : (a b c : Heap) → Keeps a b → Keeps b c → Keeps a c

@@ -1,5 +1,5 @@
 -- When an entry of a script begins alike.
-use Rattle.std.specs.Prelude.{◌≡◌, ℕ, List, [], ◌∷◌, length, map, Option, Some, None, option_map, Bool, true, false, if◌then◌else◌}
+use Rattle.std.specs.Prelude.{◌≡◌, ℕ, List, [], ◌∷◌, length, map, Some, option_map, Bool, true, false}
 use Rattle.cjc_bytes.specs.declared.fault.MemberId.{MemberId}
 use Rattle.cjc_script.specs.declared.value.Value.{Value}
 use Rattle.cjc_script.specs.declared.script.Entry.{Entry}
@@ -16,7 +16,6 @@ use Rattle.cjc_shrink.specs.Relation.{Kind, Refers}
 use Rattle.cjc_shrink.specs.Rows.{kind_of, is_word_sort}
 use Rattle.cjc_shrink.specs.Calls.{NState, NTurn, Frames, first_locals, IsNarrowed}
 use Rattle.cjc_shrink.specs.Throws.{nheap}
-use Rattle.cjc_shrink.specs.Acts.{ActsAlike}
 use Rattle.cjc_shrink.specs.Replies.{StatesAgree, AsksAlike}
 
 -- what parameters are in the locals

@@ -12,3 +12,5 @@ pub mod Results
 pub mod Acts
 pub mod Replies
 pub mod Entries
+pub mod Types
+pub mod Turns

@@ -3,7 +3,7 @@
 //! whoever proves that whole runs agree. It knows no tokens and no components, and not how a table was made.
 #![tactic(auto)]
 
-ghost use Rattle.std.specs.Prelude.{◌≡◌, ◌<◌, length, slice_set, ◌∷◌, [], ◌++◌, reverse, option_map, slice_get, Option, Some, false, true, Bool, List, ℕ, ℤ, pos};
+ghost use Rattle.std.specs.Prelude.{◌≡◌, ◌<◌, ◌+◌, length, slice_set, ◌∷◌, [], ◌++◌, reverse, option_map, slice_get, Option, Some, false, true, Bool, List, ℕ, ℤ, pos};
 ghost use Rattle.cjc_bytes.specs.declared.fault.MemberId.{MemberId};
 ghost use Rattle.cjc_range.specs.Span.{Span, span, Holds, Within, IsWord, short_range};
 ghost use Rattle.cjc_range.specs.Rows.{add_row, sub_row, mul_row, neg_row, div_row, rem_row, shl_row, shr_row, ushr_row, and_row, or_row, to_byte_row, to_short_row};
@@ -13,18 +13,20 @@ ghost use Rattle.cjc_code.specs.declared.insn.JInsn.{JInsn};
 ghost use Rattle.cjc_code.specs.declared.insn.JOp.TheVariants as jop;
 ghost use Rattle.cjc_script.specs.Sorts.{Booleans, Bytes, Shorts, Signature, Shape, OfClass, OfNumbers, OfReferences, shape_name, field_sort};
 ghost use Rattle.cjc_bytecode.specs.Effects.{Invoke, Toss, Raise, Leave, HeapObject, shape};
-ghost use Rattle.cjc_bytecode.specs.Machine.{Start, caught, made, begins as narrow_begins};
+ghost use Rattle.cjc_bytecode.specs.Effects as narrow;
+ghost use Rattle.cjc_bytecode.specs.Machine.{Start, caught, made, begins as narrow_begins, step as narrow_step};
 ghost use Rattle.cjc_script.specs.declared.value.Value.{Value};
 ghost use Rattle.cjc_script.specs.declared.script.Entry.{Entry};
+ghost use Rattle.cjc_ncode.specs.declared.narrow.NInsn.{NInsn};
 ghost use Rattle.cjc_ncode.specs.declared.narrow.NMethod.{NMethod};
 ghost use Rattle.cjc_ncode.specs.Written.{Resolution, place_in, catches_at};
-ghost use Rattle.cjc_ncode.specs.ByLabel.{Callee, Named, by_label, handler as narrow_handler};
+ghost use Rattle.cjc_ncode.specs.ByLabel.{Callee, Named, Resolved, by_label, classes, operation, handler as narrow_handler};
 ghost use Rattle.cjc_by_name.specs.Linked.{Method, Linked};
 ghost use Rattle.cjc_by_name.specs.Effects.{Fault, exception_class};
 ghost use Rattle.cjc_by_name.specs.Effects as effects;
-ghost use Rattle.cjc_by_name.specs.Machine.{Frame, State, room, holder_of, handler, after_throw, after_effect, begins};
-ghost use Rattle.cjc_shrink.specs.Relation.{Kind, OnBoth, Range, Refers, boolean_range, Heap, Stacks, Locals, AllWider, Stores};
-ghost use Rattle.cjc_shrink.specs.Rows.{narrow_fault, HasRoom, RowAgrees, RowOnLocals, IsNotWritten, FieldIsThere, kind_of};
+ghost use Rattle.cjc_by_name.specs.Machine.{Frame, State, room, holder_of, handler, after_throw, after_effect, begins, step};
+ghost use Rattle.cjc_shrink.specs.Relation.{Kind, OnBoth, Range, Refers, boolean_range, Heap, NMemory, Stacks, Locals, AllWider, Stores};
+ghost use Rattle.cjc_shrink.specs.Rows.{narrow_fault, HasRoom, Same, RowAgrees, RowOnLocals, IsNotWritten, FieldIsThere, kind_of};
 ghost use Rattle.cjc_shrink.specs.Objects.{IsMade, IsClassThere, IsTypeThere};
 ghost use Rattle.cjc_shrink.specs.Elements.{index_range, IsBytes, IsShorts, IsReferences, AreAll, ElementsLie, ItemsPass, KeepsAlike};
 ghost use Rattle.cjc_shrink.specs.Cells.{CellIsThere, MayBePut, RowOnCells};
@@ -35,6 +37,8 @@ ghost use Rattle.cjc_shrink.specs.Results.{Resumes, NotesResult, AreShort};
 ghost use Rattle.cjc_shrink.specs.Replies.{StatesAgree, result_kinds, IsStaticImport, IsObjectImport, AnswersAlike, ImportAgrees};
 ghost use Rattle.cjc_shrink.specs.Acts.{ActsAlike};
 ghost use Rattle.cjc_shrink.specs.Entries.{IsEntry, entry_kinds, EntryAgrees};
+ghost use Rattle.cjc_shrink.specs.Types.{TypesStay};
+ghost use Rattle.cjc_shrink.specs.Turns.{TurnAgrees};
 ghost use Rattle.cjc_shrink.specs.Throws.{nheap, HandleAlike, Unwinds, Raises, IsRaised};
 ghost use Rattle.cjc_shrink.specs.Calls.{NFrame, NState, Frames, CallAgrees, IsStaticCall, IsObjectCall, IsWrittenAt, HandlesAlike, CatchAgrees};
 
@@ -239,6 +243,17 @@ pub fn objects_are_made_alike()
 pub fn types_are_asked_alike()
     ensures checkcast { (by : Linked) (l : Named) (r : Resolution) (m : Method) (type : List ℕ) (there : IsTypeThere by l m type) (within after : Shape (List ℕ) → Bool) → ((kind : Shape (List ℕ)) → within kind ≡ true → l.is_of kind there.kind ≡ true → after kind ≡ true) → RowAgrees by l r m (jop.CheckCast type) (Refers within ∷ []) (Refers after ∷ []) }
     ensures instanceof { (by : Linked) (l : Named) (r : Resolution) (m : Method) (type : List ℕ) → IsTypeThere by l m type → (within : Shape (List ℕ) → Bool) → RowAgrees by l r m (jop.InstanceOf type) (Refers within ∷ []) (Range boolean_range ∷ []) }
+{}
+
+/// No narrow instruction changes the type of an array or object that is there.
+pub fn types_stay()
+    ensures { (l : Named) (room next : ℕ) (words : List (Option Value)) (memory : NMemory) (op : Resolved) (stack : List Value) → TypesStay memory.heap (narrow.effect (classes l) op room next words memory stack) }
+{}
+
+/// A row of an instruction that is no athrow makes one turn of both machines: in frames at that instruction and at the one that is
+/// written for it both go on with what the row says, or raise the same exception, and spend one instruction.
+pub fn rows_make_turns()
+    ensures { (by : Linked) (l : Named) (ks ls : List Kind) (f : Frame) (outer : List Frame) (s : State) (g : NFrame) (others : List NFrame) (t : NState) → Stores l s.store t.memory → ((fault : Fault) → IsRaised l fault) → ((fault : Fault) → HandleAlike by l (nheap t) (OfClass (exception_class fault)) (f ∷ outer) (g ∷ others)) → (i : JInsn) (insn : NInsn) → slice_get (let m = f.method in m.insns) f.at ≡ Some i → slice_get (let m = g.code in m.insns) g.at ≡ Some insn → ((object : ℕ) → effects.effect by f.method f.at f.locals s.store i.op f.stack ≡ effects.Toss object → ⊥) → Same l ks ls (f.at + 1) (g.at + 1) (effects.effect by f.method f.at f.locals s.store i.op f.stack) (narrow.effect (classes l) (operation insn) (let m = g.code in m.max_stack) (g.at + 1) g.locals t.memory g.stack) → TurnAgrees by l ks ls (f.at + 1) (g.at + 1) f outer s g others t (step by (f ∷ outer) s) (narrow_step (by_label l) (g ∷ others) t) }
 {}
 
 /// Stacks and locals that agree by some kinds agree by wider ones, as a join of states gives them.
