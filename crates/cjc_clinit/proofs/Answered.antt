@@ -1,8 +1,7 @@
 -- What is answered of what is broken.
-use Rattle.std.proofs.Common.{◌≡◌, refl, subst, List, [], ◌∷◌, inl, inr, Option, Some, None}
-use Rattle.std.specs.Prelude.{◌⊎◌, option_map, IfNone}
+use Rattle.std.proofs.Common.{◌≡◌, subst, List, [], inl, inr, Option, Some, None}
+use Rattle.std.specs.Prelude.{option_map, IfNone}
 use Rattle.cjc_bytes.specs.declared.fault.Fault.{Fault}
-use Rattle.cjc_bytes.specs.declared.fault.Fault.TheVariants as faults
 use Rattle.cjc_bytes.specs.Breaks.{Break, Among, IsFirstOf, IsFirstRefusal}
 use Rattle.cjc_code.specs.declared.method_code.MethodCode.{MethodCode}
 use Rattle.cjc_world.specs.Files.{Files}

@@ -12,7 +12,7 @@ use Rattle.cjc_world.specs.declared.image.StaticImage.{StaticImage}
 use Rattle.cjc_world.specs.declared.image.ValueCell.{ValueCell}
 use Rattle.cjc_world.specs.Files.{Files}
 use Rattle.cjc_clinit.specs.declared.stage.Held.{Held}
-use Rattle.cjc_clinit.specs.Initialiser.{Initialises, Put, nothing_in, ops_of}
+use Rattle.cjc_clinit.specs.Initialiser.{nothing_in}
 use Rattle.cjc_clinit.specs.Image.{AreInitialised, IsImage, arrays_of, empty, field_id, fields_in, held_in, image_of, initialised, joined, of_classes, of_fields, of_start, start_of}
 use Rattle.cjc_clinit.specs.Image.AreInitialised.{none, one, other}
 use Rattle.cjc_clinit.specs.Working.Reading.{Puts, State, after_class, after_code, after_codes, after_initialiser, and_then, ended, puts, read, with_read}

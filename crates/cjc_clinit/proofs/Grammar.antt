@@ -1,12 +1,11 @@
 -- Reading follows the grammar: what was read so far of a statement, and what may stand behind it.
-use Rattle.std.proofs.Common.{◌≡◌, ◌∙◌, refl, sym, ap, subst, ℕ, ◌+◌, ◌<◌, ◌≤◌, List, [], ◌∷◌, ◌++◌, length, append_assoc, append-nil, Bool, true, false, inl, inr, arith, rules}
+use Rattle.std.proofs.Common.{◌≡◌, ◌∙◌, refl, sym, ap, subst, ℕ, ◌<◌, ◌≤◌, List, [], ◌∷◌, ◌++◌, length, append_assoc, append-nil, Bool, true, false, arith}
 use Rattle.std.proofs.lemmas.Bool.Decides.{nat_tests}
-use Rattle.std.specs.Prelude.{◌⊎◌, ◌==◌, ◌&&◌, if◌then◌else◌, Option, Some, None, Result, Ok, Err, option_and_then, option_map, map, nat_lt, nat_le, replicate, slice_set, ℤ, pos, negsuc}
+use Rattle.std.specs.Prelude.{◌==◌, ◌&&◌, if◌then◌else◌, Option, Some, None, option_map, nat_lt, nat_le, replicate, slice_set, ℤ, pos, negsuc}
 use Rattle.cjc_bytes.specs.declared.fault.MemberId.{MemberId}
 use Rattle.cjc_bytes.specs.declared.names.Kind.{Kind}
 use Rattle.cjc_bytes.specs.declared.names.Kind.TheVariants as kinds
 use Rattle.cjc_classfile.specs.declared.tree.ClassTree.{ClassTree}
-use Rattle.cjc_code.specs.declared.insn.JInsn.{JInsn}
 use Rattle.cjc_code.specs.declared.insn.JOp.{JOp}
 use Rattle.cjc_code.specs.declared.insn.JOp.TheVariants as jop
 use Rattle.cjc_world.specs.declared.image.ArrayCell.{ArrayCell}
@@ -15,12 +14,12 @@ use Rattle.cjc_clinit.specs.declared.stage.Held.{Held}
 use Rattle.cjc_clinit.specs.declared.stage.Stage.{Stage}
 use Rattle.cjc_clinit.specs.declared.stage.Stage.TheVariants as stages
 use Rattle.cjc_clinit.specs.Fields.{Contents, ANumber, ANull, AnArray, fits, held_by}
-use Rattle.cjc_clinit.specs.Initialiser.{dup, return, element_kind, store, most_items, place_for, Stores, Makes, Put, Initialises, IsBeginning, ops_of}
+use Rattle.cjc_clinit.specs.Initialiser.{dup, return, element_kind, store, most_items, place_for, Stores, Makes, Put, Initialises, IsBeginning}
 use Rattle.cjc_clinit.specs.Initialiser.Stores.{none, one}
 use Rattle.cjc_clinit.specs.Initialiser.Makes.{of_number, of_null, of_array}
 use Rattle.cjc_clinit.specs.Image.{own_field, array_in, arrays_of}
-use Rattle.cjc_clinit.specs.Working.Reading.{State, state, stage_if, index_in, after_number, after_null, after_return, after_stack, after_store, after_newarray, new_array, count_in, stage_after, contents_of, state_with, after_put, after_static, state_after, read, is_ended, ended}
-use Rattle.cjc_clinit.proofs.Runs.{run, run-cons, run-append, run-both, bound, read-ok, run-ok}
+use Rattle.cjc_clinit.specs.Working.Reading.{State, state, stage_if, index_in, after_number, after_null, after_return, after_stack, after_store, after_newarray, new_array, count_in, stage_after, contents_of, state_with, after_put, after_static, state_after, is_ended, ended}
+use Rattle.cjc_clinit.proofs.Runs.{run, run-cons, run-append, run-both, bound}
 
 -- ---- stores and arrays, one store more
 

@@ -6,3 +6,4 @@ pub mod Settled
 pub mod Told
 pub mod Effects
 pub mod Answered
+pub mod OneImage

@@ -1,15 +1,13 @@
 -- What the grammar settles: code is an initialiser or wrong at one offset, and its effect is one.
-use Rattle.std.proofs.Common.{◌≡◌, ◌∙◌, refl, sym, ap, subst, ℕ, List, [], ◌∷◌, ◌++◌, inl, inr, Bool, true, false}
-use Rattle.std.proofs.lemmas.List.{append_cancel_left}
-use Rattle.std.specs.Prelude.{◌⊎◌, Option, Some, None, Result, Ok, Err}
+use Rattle.std.proofs.Common.{◌≡◌, ◌∙◌, refl, sym, ap, ℕ, List, [], ◌++◌, inl, inr}
+use Rattle.std.specs.Prelude.{◌⊎◌, Some, Result, Ok, Err}
 use Rattle.cjc_classfile.specs.declared.tree.ClassTree.{ClassTree}
 use Rattle.cjc_code.specs.declared.insn.JInsn.{JInsn}
 use Rattle.cjc_code.specs.declared.insn.JOp.{JOp}
-use Rattle.cjc_world.specs.declared.image.ArrayCell.{ArrayCell}
 use Rattle.cjc_world.specs.Files.{Files}
 use Rattle.cjc_clinit.specs.declared.stage.Held.{Held}
 use Rattle.cjc_clinit.specs.declared.stage.Stage.TheVariants as stages
-use Rattle.cjc_clinit.specs.Initialiser.{Initialises, IsBeginning, IsInitialiser, IsWrongAt, Put, ops_of}
+use Rattle.cjc_clinit.specs.Initialiser.{Initialises, IsBeginning, IsInitialiser, IsWrongAt, Put}
 use Rattle.cjc_clinit.specs.Image.{arrays_of}
 use Rattle.cjc_clinit.specs.Working.Reading.{State, state, read, ended}
 use Rattle.cjc_clinit.proofs.Runs.{run, run-append, bound}

@@ -1,19 +1,18 @@
 -- The list of what is broken is of what the rule speaks of.
-use Rattle.std.proofs.Common.{◌≡◌, ◌∙◌, refl, sym, ap, subst, ℕ, zero, suc, ◌+◌, ◌<◌, List, [], ◌∷◌, ◌++◌, inl, inr, ⊎_elim, arith, Bool, true, false}
-use Rattle.std.specs.Prelude.{◌⊎◌, Option, Some, None, Result, Ok, Err, slice_get, if◌then◌else◌, IfNone}
-use Rattle.cjc_bytes.specs.Breaks.{Break, Spot, Among, foremost, after, IsFirstOf, broken_at, at, each_from, each}
+use Rattle.std.proofs.Common.{◌≡◌, ◌∙◌, refl, sym, ap, subst, ℕ, zero, suc, ◌+◌, List, [], ◌∷◌, ◌++◌, ⊎_elim, arith, Bool, true, false}
+use Rattle.std.specs.Prelude.{Option, Some, None, Result, Ok, Err, slice_get, if◌then◌else◌}
+use Rattle.cjc_bytes.specs.Breaks.{Break, Spot, Among, foremost, IsFirstOf, broken_at, at, each_from, each}
 use Rattle.cjc_bytes.specs.Order.{FilePlace, file_of}
 use Rattle.cjc_bytes.proofs.Firsts.{among_one, among_left, among_right, among_either}
 use Rattle.cjc_classfile.specs.declared.tree.ClassTree.{ClassTree}
 use Rattle.cjc_classfile.specs.declared.tree.MethodTree.{MethodTree}
 use Rattle.cjc_code.specs.declared.method_code.MethodCode.{MethodCode}
-use Rattle.cjc_subset.specs.Places.{at_class, at_method, of_class, of_code, of_method}
+use Rattle.cjc_subset.specs.Places.{at_class, at_method, of_class, of_method}
 use Rattle.cjc_world.specs.Files.{Files}
-use Rattle.cjc_clinit.specs.declared.stage.Stage.TheVariants as stages
-use Rattle.cjc_clinit.specs.Initialiser.{IsInitialiser, IsWrongAt, is_initialiser, nothing_in}
-use Rattle.cjc_clinit.specs.Image.{arrays_of, class_where, if_initialiser, initialised}
+use Rattle.cjc_clinit.specs.Initialiser.{is_initialiser}
+use Rattle.cjc_clinit.specs.Image.{class_where, if_initialiser, initialised}
 use Rattle.cjc_clinit.specs.Rules.{AreBreaks, BreaksClass, BreaksCode, BreaksImage, is_wrong_class}
-use Rattle.cjc_clinit.specs.Working.Reading.{Puts, State, after_class, after_code, after_initialiser, breaks_at, class_breaks, code_breaks, ended, image_breaks, offset_break, puts, read, state, with_read, wrong_in}
+use Rattle.cjc_clinit.specs.Working.Reading.{Puts, State, after_class, after_code, after_initialiser, breaks_at, class_breaks, code_breaks, ended, image_breaks, offset_break, puts, read, with_read, wrong_in}
 use Rattle.cjc_clinit.proofs.Wrong.{start, wrong-so, ended-so, initialiser-reads, wrong-reads}
 
 none-among : (b : Break) → Among b [] → ⊥

@@ -1,16 +1,16 @@
 -- Where reading ends is where code is wrong, and code that is read to its end is an initialiser.
 use Rattle.std.proofs.Common.{◌≡◌, ◌∙◌, refl, sym, ap, subst, ℕ, List, [], ◌∷◌, ◌++◌, Bool, true, false}
-use Rattle.std.specs.Prelude.{Option, Some, None, Result, Ok, Err, map, option_and_then, if◌then◌else◌}
+use Rattle.std.specs.Prelude.{Option, Some, None, Result, Ok, Err, if◌then◌else◌}
 use Rattle.cjc_classfile.specs.declared.tree.ClassTree.{ClassTree}
 use Rattle.cjc_code.specs.declared.insn.JInsn.{JInsn}
 use Rattle.cjc_code.specs.declared.insn.JOp.{JOp}
 use Rattle.cjc_world.specs.declared.image.ArrayCell.{ArrayCell}
 use Rattle.cjc_world.specs.Files.{Files}
 use Rattle.cjc_clinit.specs.declared.stage.Stage.TheVariants as stages
-use Rattle.cjc_clinit.specs.Initialiser.{IsBeginning, IsInitialiser, IsWrongAt, nothing_in, op_of, ops_of}
+use Rattle.cjc_clinit.specs.Initialiser.{IsBeginning, IsInitialiser, IsWrongAt, nothing_in, ops_of}
 use Rattle.cjc_clinit.specs.Image.{arrays_of}
 use Rattle.cjc_clinit.specs.Working.Reading.{State, state, state_after, read, is_ended, ended}
-use Rattle.cjc_clinit.proofs.Runs.{run, run-append, run-cons, run-both, bound, read-ok, run-ok, read-append, stopped, Stop}
+use Rattle.cjc_clinit.proofs.Runs.{run, run-cons, run-both, bound, read-ok, run-ok, read-append, stopped, Stop}
 use Rattle.cjc_clinit.proofs.Grammar.{Rest, follows, begins-so, initialises-run, beginning-runs}
 
 ops-append : (xs ys : List JInsn) → ops_of (xs ++ ys) ≡ ops_of xs ++ ops_of ys

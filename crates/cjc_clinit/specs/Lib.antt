@@ -3,3 +3,4 @@ pub mod Initialiser
 pub mod Image
 pub mod Rules
 pub mod Working
+pub mod Worked

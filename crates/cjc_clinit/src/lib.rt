@@ -10,6 +10,6 @@ mod stage;
 mod stages;
 mod static_image;
 
-pub use laws::initialisers;
+pub use laws::{images, initialisers, refusals};
 pub use stage::{Held, Stage, Start};
 pub use static_image::{first_broken, image};

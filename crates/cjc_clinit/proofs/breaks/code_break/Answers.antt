@@ -1,5 +1,5 @@
 use Rattle.std.proofs.Common.{◌≡◌, ◌∙◌, sym, ap, subst, List, ℕ}
-use Rattle.std.specs.Prelude.{Option, Some, None, Ok, Err, IfNone, option_map}
+use Rattle.std.specs.Prelude.{Option, Err, option_map}
 use Rattle.cjc_bytes.specs.Breaks.{Break, IsFirstOf}
 use Rattle.cjc_bytes.specs.Told.{break_of}
 use Rattle.cjc_clinit.specs.Working.Reading.{after_code, puts, puts_as}

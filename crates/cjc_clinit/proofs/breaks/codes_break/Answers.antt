@@ -1,6 +1,6 @@
-use Rattle.std.proofs.Common.{◌≡◌, ◌∙◌, refl, sym, ap, subst, List, ℕ, take, drop, length, ◌+◌}
-use Rattle.std.specs.Prelude.{Option, Some, None, Ok, Err, IfNone, option_map}
-use Rattle.cjc_bytes.specs.Breaks.{Break, IsFirstOf, each}
+use Rattle.std.proofs.Common.{◌≡◌, ◌∙◌, refl, sym, take, drop}
+use Rattle.std.specs.Prelude.{Ok, option_map}
+use Rattle.cjc_bytes.specs.Breaks.{each}
 use Rattle.cjc_bytes.specs.Told.{break_of}
 use Rattle.cjc_bytes.proofs.Firsts.{each_none, each_more, each_all}
 use Rattle.cjc_code.specs.declared.method_code.MethodCode.{MethodCode}

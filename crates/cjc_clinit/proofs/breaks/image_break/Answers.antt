@@ -1,5 +1,5 @@
-use Rattle.std.proofs.Common.{◌≡◌, refl, List}
-use Rattle.std.specs.Prelude.{Ok, option_map}
+use Rattle.std.proofs.Common.{◌≡◌}
+use Rattle.std.specs.Prelude.{Ok}
 use Rattle.cjc_bytes.specs.Breaks.{each}
 use Rattle.cjc_bytes.specs.Order.{file_of}
 use Rattle.cjc_bytes.specs.Told.{break_of}

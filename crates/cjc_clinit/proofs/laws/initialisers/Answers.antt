@@ -1,5 +1,4 @@
-use Rattle.std.proofs.Common.{◌≡◌, ◌∙◌, refl, sym, ap, inl, inr, Result, Ok, Err, ℕ}
-use Rattle.cjc_clinit.specs.Image.{arrays_of}
+use Rattle.cjc_clinit.proofs.OneImage.{one-image}
 use Rattle.cjc_clinit.proofs.Settled.{either-way, not-both, one-offset, one-effect, whole, fronts}
 use Rattle.cjc_clinit.proofs.laws.initialisers.Goals as goal
 
@@ -14,6 +13,9 @@ returns-clause-one_offset c = one-offset
 
 pub returns-clause-one_effect : goal.returns-clause-one_effect
 returns-clause-one_effect c = one-effect
+
+pub returns-clause-one_image : goal.returns-clause-one_image
+returns-clause-one_image c = one-image
 
 pub returns-clause-whole : goal.returns-clause-whole
 returns-clause-whole c = whole

@@ -1,9 +1,7 @@
-use Rattle.std.proofs.Common.{◌≡◌, ◌∙◌, ap, List, subst}
+use Rattle.std.proofs.Common.{◌≡◌, ◌∙◌, ap, List}
 use Rattle.std.specs.Prelude.{Result, Ok, Err, IfOk}
 use Rattle.cjc_classfile.specs.declared.tree.ClassTree.{ClassTree}
-use Rattle.cjc_code.specs.declared.method_code.MethodCode.{MethodCode}
 use Rattle.cjc_world.specs.declared.image.StaticImage.{StaticImage}
-use Rattle.cjc_world.specs.Files.{Files}
 use Rattle.cjc_clinit.specs.Image.{IsImage, image_of}
 use Rattle.cjc_clinit.proofs.Effects.{image-so}
 use Rattle.cjc_clinit.proofs.static_image.image_after.Goals as goal
