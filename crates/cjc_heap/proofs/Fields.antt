@@ -1,0 +1,56 @@
+-- The fields of an object by their places.
+use Rattle.std.proofs.Common.{◌≡◌, ℕ, zero, suc, ◌<◌, refl, ap, ◌∙◌, sym, arith, List, [], ◌∷◌, length, map, Bool, true, false}
+use Rattle.std.proofs.lemmas.List.{length-map}
+use Rattle.std.specs.Prelude.{Option, Some, None, option_map, option_and_then, slice_get, slice_set, if◌then◌else◌}
+use Rattle.cjc_bytes.specs.declared.fault.MemberId.{MemberId}
+use Rattle.cjc_script.specs.declared.value.Value.{Value}
+use Rattle.cjc_script.specs.declared.report.FieldValue.{FieldValue}
+use Rattle.cjc_by_name.specs.Effects.{is_same_field, value_in, values_with}
+use Rattle.cjc_heap.specs.Objects.{fields_with, place_in}
+
+one_further : {A : Type 0} (v : A) (vs : List A) (p : Option ℕ) → option_and_then (slice_get (v ∷ vs)) (option_map suc p) ≡ option_and_then (slice_get vs) p
+one_further v vs None = refl
+one_further v vs (Some n) = refl
+
+value_by : (t : Bool) (v : Value) (vs : List Value) (rest : Option Value) (p : Option ℕ) → rest ≡ option_and_then (slice_get vs) p → (if t then Some v else rest) ≡ option_and_then (slice_get (v ∷ vs)) (if t then Some 0 else option_map suc p)
+value_by true v vs rest p e = refl
+value_by false v vs rest p e = e ∙ sym (one_further v vs p)
+
+-- what a field holds, by its place
+pub value_place : (fs : List FieldValue) (vs : List Value) (id : MemberId) → length vs ≡ length fs → value_in (fields_with fs vs) id ≡ option_and_then (slice_get vs) (place_in fs id)
+value_place [] vs id e = refl
+value_place (f ∷ fs) [] id e = absurd (omega (arith, e))
+value_place (f ∷ fs) (v ∷ vs) id e = value_by (is_same_field f.field id) v vs (value_in (fields_with fs vs) id) (place_in fs id) (value_place fs vs id (omega (arith, e)))
+
+-- a place is one of the fields
+pub place_below : (fs : List FieldValue) (id : MemberId) (p : ℕ) → place_in fs id ≡ Some p → p < length fs
+place_below [] id p e = absurd (cc e)
+place_below (f ∷ fs) id p e = place_by (is_same_field f.field id) (place_in fs id) (λ q h. place_below fs id q h) e
+  where
+    place_by : (t : Bool) (o : Option ℕ) → ((q : ℕ) → o ≡ Some q → q < length fs) → (if t then Some 0 else option_map suc o) ≡ Some p → p < length (f ∷ fs)
+    place_by true o below h = let z : 0 ≡ p = cc h in omega (arith, z)
+    place_by false None below h = absurd (cc h)
+    place_by false (Some q) below h = let z : suc q ≡ p = cc h in let b = below q refl in omega (arith, z, b)
+
+-- fields with another value in one, by its place
+pub put_place : (fs : List FieldValue) (vs : List Value) (id : MemberId) (v : Value) (p : ℕ) → length vs ≡ length fs → place_in fs id ≡ Some p → values_with (fields_with fs vs) id v ≡ fields_with fs (slice_set vs p v)
+put_place [] vs id v p e h = absurd (cc h)
+put_place (f ∷ fs) [] id v p e h = absurd (omega (arith, e))
+put_place (f ∷ fs) (w ∷ vs) id v p e h = put_by (is_same_field f.field id) (place_in fs id) (λ q k. put_place fs vs id v q (omega (arith, e)) k) h
+  where
+    put_by : (t : Bool) (o : Option ℕ) → ((q : ℕ) → o ≡ Some q → values_with (fields_with fs vs) id v ≡ fields_with fs (slice_set vs q v)) → (if t then Some 0 else option_map suc o) ≡ Some p → (if t then record f { value = v } ∷ fields_with fs vs else record f { value = w } ∷ values_with (fields_with fs vs) id v) ≡ fields_with (f ∷ fs) (slice_set (w ∷ vs) p v)
+    put_by true o rest k = let z : 0 ≡ p = cc k in ap (λ n. fields_with (f ∷ fs) (slice_set (w ∷ vs) n v)) z
+    put_by false None rest k = absurd (cc k)
+    put_by false (Some q) rest k = let z : suc q ≡ p = cc k in ap (λ more. record f { value = w } ∷ more) (rest q refl) ∙ ap (λ n. fields_with (f ∷ fs) (slice_set (w ∷ vs) n v)) z
+
+-- fields with what they hold
+pub fields_own : (fs : List FieldValue) (vs : List Value) → vs ≡ map (λ f. f.value) fs → fields_with fs vs ≡ fs
+fields_own fs vs e = ap (λ more. fields_with fs more) e ∙ own fs
+  where
+    own : (gs : List FieldValue) → fields_with gs (map (λ f. f.value) gs) ≡ gs
+    own [] = refl
+    own (g ∷ gs) = ap (λ more. g ∷ more) (own gs)
+
+-- a value for each field
+pub as_many : (fs : List FieldValue) (vs : List Value) → vs ≡ map (λ f. f.value) fs → length vs ≡ length fs
+as_many fs vs e = ap length e ∙ length-map fs (λ f. f.value)

@@ -1,0 +1,7 @@
+use Rattle.std.proofs.Common.{◌≡◌, ◌+◌, drop}
+use Rattle.std.specs.Prelude.{option_map}
+use Rattle.cjc_heap.specs.Objects
+use Rattle.cjc_heap.proofs.object.place_in.Given as goal
+
+abbrev pub invariant-loop-i : goal.invariant-loop-i
+invariant-loop-i l = Objects.place_in l.fields l.id ≡ option_map (λ n. l.i + n) (Objects.place_in (drop l.i l.fields) l.id)

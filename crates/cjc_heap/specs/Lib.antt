@@ -1,0 +1,4 @@
+pub mod Names
+pub mod Kinds
+pub mod Objects
+pub mod Looks

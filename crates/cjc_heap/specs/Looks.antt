@@ -1,0 +1,44 @@
+-- What instructions look up and change in the heap, by the definition's steps.
+use Rattle.std.specs.Prelude.{ℕ, ℤ, List, [], Option, Some, None, slice_get}
+use Rattle.cjc_bytes.specs.declared.fault.MemberId.{MemberId}
+use Rattle.cjc_script.specs.declared.value.Value.{Value}
+use Rattle.cjc_script.specs.declared.report.Thing.{Thing}
+use Rattle.cjc_script.specs.Sorts.{shape_named}
+use Rattle.cjc_by_name.specs.Effects
+use Rattle.cjc_by_name.specs.Effects.{Effect, Moves, type_of, thing_at, array_in, object_in, only_if, serves, item_at, with_some, value_in}
+use Rattle.cjc_frame.specs.Deeds.{fault_of}
+use Rattle.cjc_heap.specs.declared.halt.Halt.{Halt}
+use Rattle.cjc_heap.specs.declared.halt.Halt.TheVariants.{Raise, Stick}
+use Rattle.cjc_heap.specs.Objects.{items_in}
+
+-- an exception of the machine's own, or nothing that applies
+abbrev pub halted : Halt → Effect
+halted (Raise e) = Effects.Raise (fault_of e)
+halted Stick = Effects.Stick
+
+-- the name of a type, and none where nothing is
+abbrev pub name_if : Option Thing → List ℕ
+name_if None = []
+name_if (Some thing) = type_of thing
+
+-- the name of the type of an array or object
+abbrev pub name_at : List Thing → ℕ → List ℕ
+name_at heap k = name_if (slice_get heap k)
+
+-- elements, and none where nothing is
+abbrev pub items_if : Option Thing → List Value
+items_if None = []
+items_if (Some thing) = items_in thing
+
+-- the elements of an array
+abbrev pub items_at : List Thing → ℕ → List Value
+items_at heap k = items_if (slice_get heap k)
+
+-- the element at an index of the array of a reference: the array's number, descriptor and elements, the element's place and value
+abbrev pub element_at : Moves → List Thing → Value → ℤ → (ℕ → List ℕ → List Value → ℕ → Value → Effect) → Effect
+element_at moves heap r i go =
+    thing_at heap r (λ k thing. array_in thing (λ desc items. only_if (serves moves (shape_named desc)) (item_at items i (go k desc items))))
+
+-- what a field of the object of a reference holds
+abbrev pub field_at : List Thing → Value → MemberId → (Value → Effect) → Effect
+field_at heap r id go = thing_at heap r (λ k thing. object_in thing (λ class fields. with_some (value_in fields id) go))

@@ -1,0 +1,15 @@
+//! The heap of class files' machine: arrays and objects in order of creation, and what instructions read and write of them,
+//! against the definition that cjc_by_name gives. Of cjc_frame it has the exceptions. Knows no classes and no look-ups.
+#![tactic(auto)]
+
+mod halt;
+mod heap;
+mod kind;
+mod object;
+mod type_name;
+
+pub use halt::Halt;
+pub use heap::{Heap, HeapElement};
+pub use kind::{ArrayKind, Element, Moves, kind_of};
+pub use object::HeapObject;
+pub use type_name::TypeName;

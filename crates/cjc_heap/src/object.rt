@@ -1,0 +1,208 @@
+//! One array or object of the heap.
+
+ghost use Rattle.std.specs.Prelude.{◌≡◌, ◌<◌, ◌^◌, ℕ, List, length, slice_get, slice_set, Some, None, true, false, IfOk, IfSome, MatchOption, if◌then◌else◌, map, replicate};
+ghost use Rattle.cjc_script.specs.declared.report.Thing.{Thing};
+ghost use Rattle.cjc_script.specs.declared.report.Thing.TheVariants as things;
+ghost use Rattle.cjc_script.specs.declared.value.Value.{Value};
+ghost use Rattle.cjc_script.specs.Sorts.{shape_named};
+ghost use Rattle.cjc_by_name.specs.Effects.{Effect, type_of, is_same_field, object_in, with_some, value_in};
+ghost use Rattle.cjc_by_name.specs.Effects;
+ghost use Rattle.cjc_heap.specs.Kinds.{shape_of};
+ghost use Rattle.cjc_heap.specs.Objects.{fields_with, items_in, place_in};
+
+use crate::kind::ArrayKind;
+use crate::type_name::TypeName;
+use cjc_bytes::{MemberId, NoMemory};
+use cjc_script::{FieldValue, Value};
+use std::alloc::Global;
+use std::marker::Model;
+
+#[derive(Drop)]
+enum Body<'a> {
+    Array {
+        desc: TypeName<'a>,
+        kind: ArrayKind,
+        items: Vec<Value>,
+    },
+    // Its fields and what they hold at first are those of every object of its class.
+    Object {
+        class: &'a [u8],
+        fresh: &'a [FieldValue],
+        values: Vec<Value>,
+    },
+}
+
+/// An array of fewer than 2^31 elements, or an object.
+#[derive(Drop)]
+pub struct HeapObject<'a> {
+    body: Body<'a>,
+}
+
+impl<'a> Model for HeapObject<'a> {
+    ghost use Rattle.cjc_script.specs.declared.report.Thing.{Thing};
+
+    ghost Value = { Thing };
+
+    ghost use Rattle.cjc_heap.specs.Objects.{thing_of, IsSound};
+
+    ghost view = { λ o. thing_of o.body };
+
+    ghost invariant = { λ o. IsSound o.body };
+}
+
+/// Whether two fields are the same: by class, name and descriptor.
+pub fn is_same_field(a: &MemberId, b: &MemberId) -> bool
+    ensures { result ≡ is_same_field a.now b.now }
+{
+    a.class.items() == b.class.items()
+        && (a.name.items() == b.name.items() && a.desc.items() == b.desc.items())
+}
+
+// The place of a field among those of an object.
+fn place_in(fields: &[FieldValue], id: &MemberId) -> Option<usize>
+    ensures { result ≡ place_in fields.now id.now }
+{
+    for (i, field) in fields.iter().enumerate() {
+        if is_same_field(&field.field, id) {
+            return Some(i);
+        }
+    }
+    None
+}
+
+fn value_in_place(values: &[Value], place: usize) -> Option<Value>
+    ensures { result ≡ slice_get values.now place }
+{
+    values.get(place).copied()
+}
+
+// What the field holds that is this one, by its place.
+fn value_at(fields: &[FieldValue], values: &[Value], id: &MemberId) -> Option<Value>
+    requires { length values.now ≡ length fields.now }
+    ensures { result ≡ value_in (fields_with fields.now values.now) id.now }
+{
+    match place_in(fields, id) {
+        Some(place) => value_in_place(values, place),
+        None => None,
+    }
+}
+
+impl<'a> HeapObject<'a> {
+    /// Its class, or an array's descriptor.
+    pub fn type_name(&self) -> &[u8]
+        ensures { result.now ≡ type_of self.now }
+    {
+        match &self.body {
+            Body::Array { desc, .. } => desc.bytes(),
+            Body::Object { class, .. } => class,
+        }
+    }
+
+    /// What an array holds.
+    pub fn items(&self) -> Option<(ArrayKind, &[Value])>
+        ensures array { IfSome result (λ p. self.now ≡ things.Array (type_of self.now) p.1.now) }
+        ensures kind { IfSome result (λ p. shape_named (type_of self.now) ≡ shape_of p.0 (type_of self.now)) }
+        ensures few { IfSome result (λ p. length p.1.now < 2 ^ 31) }
+        ensures object { result ≡ None → (go : List ℕ → List Value → Effect) → Effects.array_in self.now go ≡ Effects.Stick }
+    {
+        match &self.body {
+            Body::Array { kind, items, .. } => Some((*kind, items.as_slice())),
+            Body::Object { .. } => None,
+        }
+    }
+
+    /// Replaces an element.
+    pub fn set_item(&mut self, place: usize, value: Value)
+        requires { place < length (items_in self.old) }
+        ensures { self.new ≡ things.Array (type_of self.old) (slice_set (items_in self.old) place value) }
+    {
+        if let Body::Array { items, .. } = &mut self.body {
+            items[place] = value;
+        }
+    }
+
+    /// What a field of an object holds.
+    pub fn field(&self, id: &MemberId) -> Option<Value>
+        ensures { MatchOption result
+            ((go : Value → Effect) → object_in self.now (λ class fields. with_some (value_in fields id.now) go) ≡ Effects.Stick)
+            (λ v. (go : Value → Effect) → object_in self.now (λ class fields. with_some (value_in fields id.now) go) ≡ go v) }
+    {
+        match &self.body {
+            Body::Array { .. } => None,
+            Body::Object { fresh, values, .. } => match value_at(fresh, values.as_slice(), id) {
+                Some(value) => Some(value),
+                None => None,
+            },
+        }
+    }
+}
+
+/// So many of a value.
+fn copies(alloc: Global, count: usize, value: Value) -> Result<Vec<Value>, NoMemory>
+    ensures { IfOk result (λ items. items.items ≡ replicate count value) }
+{
+    let mut items = Vec::new(alloc);
+    for i in 0..count {
+        items.push(value)?;
+    }
+    Ok(items)
+}
+
+// What the fields of an object hold at first.
+fn first_values(alloc: Global, fresh: &[FieldValue]) -> Result<Vec<Value>, NoMemory>
+    ensures { IfOk result (λ values. values.items ≡ map (λ f. f.value) fresh.now) }
+{
+    let mut values = Vec::new(alloc);
+    for field in fresh {
+        values.push(field.value)?;
+    }
+    Ok(values)
+}
+
+// The same, as the fields of an object that has them.
+#[tactic(auto, using(crate::proofs::Fields::fields_own, crate::proofs::Fields::as_many))]
+fn fresh_values(alloc: Global, fresh: &[FieldValue]) -> Result<Vec<Value>, NoMemory>
+    ensures fields { IfOk result (λ values. fields_with fresh.now values.items ≡ fresh.now) }
+    ensures len { IfOk result (λ values. length values.items ≡ length fresh.now) }
+{
+    let values = first_values(alloc, fresh)?;
+    Ok(values)
+}
+
+impl<'a> HeapObject<'a> {
+    /// An array of so many of a value.
+    pub fn array(
+        alloc: Global,
+        desc: TypeName<'a>,
+        kind: ArrayKind,
+        count: usize,
+        value: Value,
+    ) -> Result<HeapObject<'a>, NoMemory>
+        requires kind { shape_named desc ≡ shape_of kind desc }
+        requires few { count < 2 ^ 31 }
+        ensures { IfOk result (λ o. o ≡ things.Array desc.entry (replicate count value)) }
+    {
+        let items = copies(alloc, count, value)?;
+        Ok(HeapObject {
+            body: Body::Array { desc, kind, items },
+        })
+    }
+
+    /// An object of a class, with the fields of each of its objects.
+    pub fn object(
+        alloc: Global,
+        class: &'a [u8],
+        fresh: &'a [FieldValue],
+    ) -> Result<HeapObject<'a>, NoMemory>
+        ensures { IfOk result (λ o. o ≡ things.Object class.now fresh.now) }
+    {
+        let values = fresh_values(alloc, fresh)?;
+        Ok(HeapObject {
+            body: Body::Object {
+                class,
+                fresh,
+                values,
+            },
+        })
+    }
+}
