@@ -29,3 +29,4 @@ pub mod Imports
 pub mod Entries
 pub mod Types
 pub mod Turns
+pub mod Paths

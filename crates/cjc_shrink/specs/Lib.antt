@@ -14,3 +14,4 @@ pub mod Replies
 pub mod Entries
 pub mod Types
 pub mod Turns
+pub mod Paths

@@ -26,12 +26,12 @@ ghost use Rattle.cjc_by_name.specs.Effects.{Fault, exception_class};
 ghost use Rattle.cjc_by_name.specs.Effects as effects;
 ghost use Rattle.cjc_by_name.specs.Machine.{Frame, State, room, holder_of, handler, after_throw, after_effect, begins, step};
 ghost use Rattle.cjc_shrink.specs.Relation.{Kind, OnBoth, Range, Refers, boolean_range, Heap, NMemory, Stacks, Locals, AllWider, Stores};
-ghost use Rattle.cjc_shrink.specs.Rows.{narrow_fault, HasRoom, Same, RowAgrees, RowOnLocals, IsNotWritten, FieldIsThere, kind_of};
+ghost use Rattle.cjc_shrink.specs.Rows.{narrow_fault, NEffect, GoesOn, HasRoom, Same, RowAgrees, RowOnLocals, IsNotWritten, FieldIsThere, kind_of};
 ghost use Rattle.cjc_shrink.specs.Objects.{IsMade, IsClassThere, IsTypeThere};
 ghost use Rattle.cjc_shrink.specs.Elements.{index_range, IsBytes, IsShorts, IsReferences, AreAll, ElementsLie, ItemsPass, KeepsAlike};
 ghost use Rattle.cjc_shrink.specs.Cells.{CellIsThere, MayBePut, RowOnCells};
-ghost use Rattle.cjc_shrink.specs.Jumps.{JumpAgrees, ReturnAgrees, Results};
-ghost use Rattle.cjc_shrink.specs.Switches.{targets_of, TwoAgree};
+ghost use Rattle.cjc_shrink.specs.Jumps.{Jumps, JumpAgrees, ReturnAgrees, Results};
+ghost use Rattle.cjc_shrink.specs.Switches.{targets_of, JumpsInTwo, TwoAgree};
 ghost use Rattle.cjc_shrink.specs.Callees.{Names, CallIsWritten};
 ghost use Rattle.cjc_shrink.specs.Results.{Resumes, NotesResult, AreShort};
 ghost use Rattle.cjc_shrink.specs.Replies.{StatesAgree, result_kinds, IsStaticImport, IsObjectImport, AnswersAlike, ImportAgrees};
@@ -39,6 +39,7 @@ ghost use Rattle.cjc_shrink.specs.Acts.{ActsAlike};
 ghost use Rattle.cjc_shrink.specs.Entries.{IsEntry, entry_kinds, EntryAgrees};
 ghost use Rattle.cjc_shrink.specs.Types.{TypesStay};
 ghost use Rattle.cjc_shrink.specs.Turns.{TurnAgrees};
+ghost use Rattle.cjc_shrink.specs.Paths.{JumpTurn, SilentTurn, TwoTurns, TurnsAre};
 ghost use Rattle.cjc_shrink.specs.Throws.{nheap, HandleAlike, Unwinds, Raises, IsRaised};
 ghost use Rattle.cjc_shrink.specs.Calls.{NFrame, NState, Frames, CallAgrees, IsStaticCall, IsObjectCall, IsWrittenAt, HandlesAlike, CatchAgrees};
 
@@ -254,6 +255,16 @@ pub fn types_stay()
 /// written for it both go on with what the row says, or raise the same exception, and spend one instruction.
 pub fn rows_make_turns()
     ensures { (by : Linked) (l : Named) (ks ls : List Kind) (f : Frame) (outer : List Frame) (s : State) (g : NFrame) (others : List NFrame) (t : NState) → Stores l s.store t.memory → ((fault : Fault) → IsRaised l fault) → ((fault : Fault) → HandleAlike by l (nheap t) (OfClass (exception_class fault)) (f ∷ outer) (g ∷ others)) → (i : JInsn) (insn : NInsn) → slice_get (let m = f.method in m.insns) f.at ≡ Some i → slice_get (let m = g.code in m.insns) g.at ≡ Some insn → ((object : ℕ) → effects.effect by f.method f.at f.locals s.store i.op f.stack ≡ effects.Toss object → ⊥) → Same l ks ls (f.at + 1) (g.at + 1) (effects.effect by f.method f.at f.locals s.store i.op f.stack) (narrow.effect (classes l) (operation insn) (let m = g.code in m.max_stack) (g.at + 1) g.locals t.memory g.stack) → TurnAgrees by l ks ls (f.at + 1) (g.at + 1) f outer s g others t (step by (f ∷ outer) s) (narrow_step (by_label l) (g ∷ others) t) }
+{}
+
+/// A jump makes one turn of both machines, and an instruction for which nothing is written one turn of the machine by name alone. A
+/// switch for which two instructions are written makes one turn of the machine by name and two of narrow code. A turn of any
+/// other instruction is what it asks.
+pub fn jumps_make_turns()
+    ensures jumps { (by : Linked) (l : Named) (ks ls : List Kind) (offsets : List ℕ) (narrow_place : ℕ → ℕ) (f : Frame) (outer : List Frame) (s : State) (g : NFrame) (others : List NFrame) (t : NState) (i : JInsn) (insn : NInsn) → slice_get (let m = f.method in m.insns) f.at ≡ Some i → slice_get (let m = g.code in m.insns) g.at ≡ Some insn → Jumps l ks ls offsets (effects.place (let m = f.method in m.insns)) narrow_place (f.at + 1) (g.at + 1) (effects.effect by f.method f.at f.locals s.store i.op f.stack) (narrow.effect (classes l) (operation insn) (let m = g.code in m.max_stack) (g.at + 1) g.locals t.memory g.stack) → JumpTurn l ks ls offsets narrow_place f outer s g others t (step by (f ∷ outer) s) (narrow_step (by_label l) (g ∷ others) t) }
+    ensures silent { (by : Linked) (ks : List Kind) (f : Frame) (outer : List Frame) (s : State) (g : NFrame) (t : NState) (i : JInsn) → slice_get (let m = f.method in m.insns) f.at ≡ Some i → GoesOn by f.method i.op f.at f.locals s.store t.memory ks f.stack g.stack → SilentTurn by ks f outer s g t }
+    ensures two { (by : Linked) (l : Named) (ks ls : List Kind) (offsets : List ℕ) (narrow_place : ℕ → ℕ) (f : Frame) (outer : List Frame) (s : State) (g : NFrame) (others : List NFrame) (t : NState) (i : JInsn) (first second : NInsn) → slice_get (let m = f.method in m.insns) f.at ≡ Some i → slice_get (let m = g.code in m.insns) g.at ≡ Some first → slice_get (let m = g.code in m.insns) (g.at + 1) ≡ Some second → JumpsInTwo l ks ls offsets (effects.place (let m = f.method in m.insns)) narrow_place (f.at + 1) (g.at + 1) (g.at + 1 + 1) (let m = g.code in m.max_stack) first second g.locals t.memory g.stack (effects.effect by f.method f.at f.locals s.store i.op f.stack) → TwoTurns by l ks ls offsets narrow_place f outer s g others t }
+    ensures other { (by : Linked) (l : Named) (f : Frame) (outer : List Frame) (s : State) (g : NFrame) (others : List NFrame) (t : NState) (i : JInsn) (insn : NInsn) → slice_get (let m = f.method in m.insns) f.at ≡ Some i → slice_get (let m = g.code in m.insns) g.at ≡ Some insn → (effect : effects.Effect) (effect' : NEffect) → effects.effect by f.method f.at f.locals s.store i.op f.stack ≡ effect → narrow.effect (classes l) (operation insn) (let m = g.code in m.max_stack) (g.at + 1) g.locals t.memory g.stack ≡ effect' → TurnsAre by l f outer s g others t effect effect' }
 {}
 
 /// Stacks and locals that agree by some kinds agree by wider ones, as a join of states gives them.
