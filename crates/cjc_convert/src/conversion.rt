@@ -153,6 +153,7 @@ pub fn convert(alloc: Global, list: &List, files: &Row<Bytes>) -> Result<Convert
 {
     let groups = [
         Group::Unsupported,
+        Group::Initialisers,
         Group::Limits,
         Group::Tokens,
         Group::Types,

@@ -17,7 +17,8 @@ use Rattle.cjc_world.specs.Files.{Files}
 use Rattle.cjc_world.specs.Rules.{at_class, at_member, told, when, class_rules, member_rules, members, members_before, members_from, class_breaks, classes_breaks, class_file_breaks, export_file_breaks, breaks_from, breaks}
 use Rattle.cjc_bytes.specs.Breaks.{Break, Among, IsFirst, Spot, broken_at, list_spot}
 use Rattle.cjc_judge.specs.Spelt.{FileTree, of_class, of_export, SpellsTree, SpellTrees, classes_of}
-use Rattle.cjc_judge.specs.Rules.{FileBreach, no_class_file, no_instructions, no_export_file, file_rank, BreaksFile, files_spelt, AreWorld, BreaksWorld, BreaksNames, BreaksForeign, BreaksSubset, BreaksAnyType, BreaksTypes, BreaksTokens, BreaksGroup, AnyBreaks, foreign_breaks, settings_of, Breach, of_file, of_world, of_names, of_group, OnLevels, on_first, on_second, has_applets, IsFirstRefused, IsFirstBroken}
+use Rattle.cjc_clinit.specs.Rules.{BreaksImage, of_class, of_code}
+use Rattle.cjc_judge.specs.Rules.{FileBreach, no_class_file, no_instructions, no_export_file, file_rank, BreaksFile, files_spelt, AreWorld, BreaksWorld, BreaksNames, BreaksForeign, BreaksSubset, BreaksAnyType, BreaksTypes, BreaksTokens, BreaksInitialisers, BreaksGroup, AnyBreaks, foreign_breaks, settings_of, Breach, of_file, of_world, of_names, of_group, OnLevels, on_first, on_second, has_applets, IsFirstRefused, IsFirstBroken}
 use Rattle.cjc_judge.specs.declared.groups.Group.{Group}
 use Rattle.cjc_judge.specs.declared.groups.Group.TheVariants as groups
 use Rattle.cjc_judge.specs.Working.Groups.{WorldBreaks}
@@ -183,10 +184,15 @@ tokens_family list files b (trees, world, among) = (tokens_fourth (has_applets l
 types_family : (list : ListTree) (files : List (List ℕ)) (b : Break) → BreaksTypes list files b → b.rank.family ≡ 5
 types_family list files b (trees, world, (i, code, at, h)) = type_fifth (files_spelt list trees) code b h
 
+initialisers_family : (list : ListTree) (files : List (List ℕ)) (b : Break) → BreaksInitialisers list files b → b.rank.family ≡ 3
+initialisers_family list files b (trees, world, of_class n c is h) = ap (λ (b : Break). b.rank.family) h.is
+initialisers_family list files b (trees, world, of_code i code at h) = ap (λ (b : Break). b.rank.family) h.is
+
 -- the groups behind names are of the third hundred or a later one: one line a group
 pub late_family : (list : ListTree) (files : List (List ℕ)) (g : Group) (b : Break) → BreaksGroup list files g b → 3 ≤ b.rank.family
 late_family list files groups.Unsupported b h = let three = foreign_family list files b h in omega (arith, three)
 late_family list files groups.Language b h = (subset_family list files b h.0).0
+late_family list files groups.Initialisers b h = let three = initialisers_family list files b h in omega (arith, three)
 late_family list files groups.Limits b h = (subset_family list files b h).0
 late_family list files groups.Tokens b h = let four = tokens_family list files b h in omega (arith, four)
 late_family list files groups.Types b h = let five = types_family list files b h in omega (arith, five)
@@ -307,6 +313,7 @@ module _ (list : ListTree) (files : List (List ℕ)) (tested : List Group) (tree
       to_world : (g : Group) (a : Break) → BreaksGroup list files g a → Here g a
       to_world groups.Unsupported a (us, spelt, among) = subst (λ (ts : List FileTree). Among a (foreign_breaks (files_spelt list ts) (all_foreigns (classes_of ts)))) (spelt_once us spelt) among
       to_world groups.Language a h = (of_checks a h.0, h.1)
+      to_world groups.Initialisers a (us, world, h) = subst (λ (ts : List FileTree). BreaksImage (files_spelt list ts) (all_codes (classes_of ts)) a) (spelt_once us world.0) h
       to_world groups.Limits a h = of_checks a h
       to_world groups.Tokens a (us, world, among) = subst (λ (ts : List FileTree). Among a (tested_breaks (has_applets list) (files_spelt list ts))) (spelt_once us world.0) among
       to_world groups.Types a (us, world, h) = subst (λ (ts : List FileTree). BreaksAnyType (files_spelt list ts) (all_codes (classes_of ts)) a) (spelt_once us world.0) h
@@ -314,6 +321,7 @@ module _ (list : ListTree) (files : List (List ℕ)) (tested : List Group) (tree
       from_world : (g : Group) (a : Break) → Here g a → BreaksGroup list files g a
       from_world groups.Unsupported a i = (trees, all_spell list.lines files trees all, i)
       from_world groups.Language a h = ((trees, are_world, h.0), h.1)
+      from_world groups.Initialisers a h = (trees, are_world, h)
       from_world groups.Limits a i = (trees, are_world, i)
       from_world groups.Tokens a i = (trees, are_world, i)
       from_world groups.Types a h = (trees, are_world, h)

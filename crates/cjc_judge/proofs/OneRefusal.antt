@@ -20,7 +20,7 @@ use Rattle.cjc_judge.specs.declared.groups.Group.TheVariants as groups
 use Rattle.cjc_judge.proofs.Firsts.{file_family, world_family, names_family, late_family, one_spelling}
 use Rattle.cjc_judge.proofs.Places.{IsTold, place_at, class_files}
 use Rattle.cjc_judge.proofs.ToldWorld.{world_told}
-use Rattle.cjc_judge.proofs.ToldRules.{names_told, foreigns_told, checks_told, tokens_told, type_told}
+use Rattle.cjc_judge.proofs.ToldRules.{image_told, names_told, foreigns_told, checks_told, tokens_told, type_told}
 
 -- ---- the rules of one file
 
@@ -93,6 +93,8 @@ module _ (list : ListTree) (files : List (List ℕ)) where
       (trees, spelt, (foreigns_told list.name (files_spelt list trees) (class_lines list.lines files trees spelt) (all_foreigns (classes_of trees))).holds b among)
   group_spelt groups.Language b ((trees, world, among), third) =
       (trees, world.0, (checks_told list.name (files_spelt list trees) (class_lines list.lines files trees world.0) (all_codes (classes_of trees)) (settings_of list)).holds b among)
+  group_spelt groups.Initialisers b (trees, world, h) =
+      (trees, world.0, image_told list.name (files_spelt list trees) (class_lines list.lines files trees world.0) (all_codes (classes_of trees)) b h)
   group_spelt groups.Limits b (trees, world, among) =
       (trees, world.0, (checks_told list.name (files_spelt list trees) (class_lines list.lines files trees world.0) (all_codes (classes_of trees)) (settings_of list)).holds b among)
   group_spelt groups.Tokens b (trees, world, among) =

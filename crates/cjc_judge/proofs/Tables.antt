@@ -74,6 +74,7 @@ all_tables world codes i tables low h = subst (λ (cs : List MethodCode). AreTab
 left : (world : Files) (codes : List MethodCode) (g : Group) (old new : List TypeTable) → LeavesTables g world codes old new → AreTables world codes old → AreTables world codes new
 left world codes groups.Unsupported old new e h = subst (AreTables world codes) (sym e) h
 left world codes groups.Language old new e h = subst (AreTables world codes) (sym e) h
+left world codes groups.Initialisers old new e h = subst (AreTables world codes) (sym e) h
 left world codes groups.Limits old new e h = subst (AreTables world codes) (sym e) h
 left world codes groups.Tokens old new e h = subst (AreTables world codes) (sym e) h
 left world codes groups.Types old new e h = e

@@ -19,6 +19,7 @@ use Rattle.cjc_tokens.specs.Rules.{breaks_from, breaks_where, has_high_token, is
 use Rattle.cjc_world.specs.Classes.{Class, all_classes, declared, imported}
 use Rattle.cjc_world.specs.Exported.{is_exported}
 use Rattle.cjc_world.specs.Files.{Files}
+use Rattle.cjc_clinit.specs.Rules.{BreaksImage, of_class, of_code}
 use Rattle.cjc_judge.specs.declared.reading.Foreign.{Foreign}
 use Rattle.cjc_judge.specs.Rules.{foreign_break, foreign_breaks, BreaksType}
 use Rattle.cjc_judge.proofs.Each.{Each, each_none, each_more, each_append, each_at, each_of, each_code}
@@ -176,6 +177,13 @@ module _ (list : List ℕ) (files : Files) (counted : length files.classes ≡ c
       by : (few : Bool) → Each Told (if few then breaks_from (all_classes files) applets files.lines 0 files.classes else [])
       by true = high (all_classes files) applets 0 files.classes (λ i c is. ap (slice_get files.classes) (let e : 0 + i ≡ i = omega arith in e) ∙ is)
       by false = each_none Told
+
+  -- 308
+  pub image_told : (codes : List MethodCode) (b : Break) → BreaksImage files codes b → Told b
+  image_told codes b (of_class number c is h) = subst Told (sym h.is) (told_at_class list files number c (file_of files.lines number) (there number c is) 308)
+  image_told codes b (of_code i code at h) =
+      subst Told (sym h.is)
+      (told_at_method list files code.class h.class (file_of files.lines code.class) (there code.class h.class h.is_class) code.method h.method h.is_method h.offset 308)
 
   -- 501 to 503
   pub type_told : (code : MethodCode) (b : Break) → BreaksType files code b → Told b

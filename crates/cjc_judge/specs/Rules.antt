@@ -26,6 +26,7 @@ use Rattle.cjc_bytes.specs.declared.order.FileKey.TheVariants as keys
 use Rattle.cjc_bytes.specs.Order.{Rank, NotAfter, file_number, file_of}
 use Rattle.cjc_subset.specs.Names.{name_breaks}
 use Rattle.cjc_subset.specs.Checks.{check_breaks}
+use Rattle.cjc_clinit.specs.Rules.{BreaksImage}
 use Rattle.cjc_tokens.specs.Rules.{tested_breaks}
 use Rattle.cjc_subset.specs.Places.{at_method, of_code}
 use Rattle.cjc_types.specs.Flow.{body_of}
@@ -135,6 +136,10 @@ IsOfThirdHundred b = b.rank.family ≡ 3
 abbrev pub BreaksLanguage : ListTree → List (List ℕ) → Break → Type 0
 BreaksLanguage list files b = BreaksSubset list files b × IsOfThirdHundred b
 
+-- 308
+abbrev pub BreaksInitialisers : ListTree → List (List ℕ) → Break → Type 0
+BreaksInitialisers list files b = (trees : List FileTree) × AreWorld list files trees × BreaksImage (files_spelt list trees) (all_codes (classes_of trees)) b
+
 -- some one of these breaks a rule
 abbrev pub AnyBreaks : {A : Type 0} → (A → Break → Type 0) → List A → Break → Type 0
 AnyBreaks {A} Breaks xs b = (i : ℕ) × (x : A) × (slice_get xs i ≡ Some x) × Breaks x b
@@ -164,6 +169,7 @@ BreaksTypes list files b = (trees : List FileTree) × AreWorld list files trees 
 abbrev pub BreaksGroup : ListTree → List (List ℕ) → Group → Break → Type 0
 BreaksGroup list files groups.Unsupported b = BreaksForeign list files b
 BreaksGroup list files groups.Language b = BreaksLanguage list files b
+BreaksGroup list files groups.Initialisers b = BreaksInitialisers list files b
 BreaksGroup list files groups.Limits b = BreaksSubset list files b
 BreaksGroup list files groups.Tokens b = BreaksTokens list files b
 BreaksGroup list files groups.Types b = BreaksTypes list files b

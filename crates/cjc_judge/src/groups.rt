@@ -9,6 +9,8 @@ pub enum Group {
     Unsupported,
     /// 301, 302, 304 to 307, 309 and 310: the language of the card.
     Language,
+    /// 308: initialisers and first values of static fields.
+    Initialisers,
     /// 401 to 409, and with them those of the language.
     Limits,
     /// 413: the tokens of classes and members.

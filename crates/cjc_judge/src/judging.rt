@@ -184,6 +184,7 @@ fn group_break<'w>(
             let broken = first_broken(alloc, list.name.items(), world, codes, settings)?;
             Ok(of_third_hundred(broken))
         }
+        Group::Initialisers => cjc_clinit::first_broken(alloc, world, codes),
         Group::Limits => first_broken(alloc, list.name.items(), world, codes, settings),
         Group::Tokens => tokens_break(alloc, world, settings),
         Group::Types => {

@@ -3,6 +3,7 @@ use Rattle.std.specs.Prelude.{◌≡◌, ℕ, ◌<◌, List, [], ◌∷◌, ◌+
 use Rattle.cjc_code.specs.declared.method_code.MethodCode.{MethodCode}
 use Rattle.cjc_list.specs.Listed.{ListTree}
 use Rattle.cjc_subset.specs.Checks.{check_breaks}
+use Rattle.cjc_clinit.specs.Rules.{BreaksImage}
 use Rattle.cjc_types.specs.declared.table.TypeTable.{TypeTable}
 use Rattle.cjc_tokens.specs.Rules.{tested_breaks}
 use Rattle.cjc_world.specs.Files.{Files}
@@ -17,6 +18,7 @@ use Rattle.cjc_judge.specs.Rules.{foreign_breaks, settings_of, has_applets, IsOf
 abbrev pub WorldBreaks : ListTree → Files → List MethodCode → List Foreign → Group → Break → Type 0
 WorldBreaks list world codes foreigns groups.Unsupported b = Among b (foreign_breaks world foreigns)
 WorldBreaks list world codes foreigns groups.Language b = Among b (check_breaks list.name world codes (settings_of list)) × IsOfThirdHundred b
+WorldBreaks list world codes foreigns groups.Initialisers b = BreaksImage world codes b
 WorldBreaks list world codes foreigns groups.Limits b = Among b (check_breaks list.name world codes (settings_of list))
 WorldBreaks list world codes foreigns groups.Tokens b = Among b (tested_breaks (has_applets list) world)
 WorldBreaks list world codes foreigns groups.Types b = BreaksAnyType world codes b
@@ -33,6 +35,7 @@ PutsTable world code old new = (table : TypeTable) × (new ≡ old ++ table ∷ 
 abbrev pub LeavesTables : Group → Files → List MethodCode → (old new : List TypeTable) → Type 0
 LeavesTables groups.Unsupported world codes old new = new ≡ old
 LeavesTables groups.Language world codes old new = new ≡ old
+LeavesTables groups.Initialisers world codes old new = new ≡ old
 LeavesTables groups.Limits world codes old new = new ≡ old
 LeavesTables groups.Tokens world codes old new = new ≡ old
 LeavesTables groups.Types world codes old new = AreTables world codes new

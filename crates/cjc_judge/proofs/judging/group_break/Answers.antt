@@ -12,6 +12,9 @@ returns-in_ok-broken-in-Language-clause-first c =
     let checks = rw (c.items.ensures, c.requires.settings) at c.in_ok-broken-in-Language.ensures in
     rw c.in-Language.is (c.of_third_hundred.ensures _ checks (λ b i. ((checks_language c.args.list.now.name c.args.world.now c.args.codes.now _).holds b i).0))
 
+pub returns-in-Initialisers-clause-first : goal.returns-in-Initialisers-clause-first
+returns-in-Initialisers-clause-first c = rw c.in-Initialisers.is c.first_broken-in-Initialisers.ensures
+
 pub returns-in-Limits-clause-first : goal.returns-in-Limits-clause-first
 returns-in-Limits-clause-first c = rw c.in-Limits.is (if_list break_of _ c.first_broken-in-Limits.result (rw (c.items-in-Limits.ensures, c.requires.settings) at c.first_broken-in-Limits.ensures))
 
