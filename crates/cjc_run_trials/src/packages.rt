@@ -89,6 +89,20 @@ pub(crate) const NO_I2S: [u8; 103] = [
     0, 0,
 ];
 
+/// A public class p/T with an initialiser whose code is 00 B1: nop, return.
+pub(crate) const INITIALISER: [u8; 107] = [
+    0xCA, 0xFE, 0xBA, 0xBE, 0, 0, 0, 0x34, 0, 8, // up to the count
+    1, 0, 3, b'p', b'/', b'T', 7, 0, 1, // p/T
+    1, 0, 16, b'j', b'a', b'v', b'a', b'/', b'l', b'a', b'n', b'g', b'/', b'O', b'b', b'j', b'e',
+    b'c', b't', 7, 0, 3, // java/lang/Object
+    1, 0, 8, b'<', b'c', b'l', b'i', b'n', b'i', b't', b'>', 1, 0, 3, b'(', b')', b'V', 1, 0, 4,
+    b'C', b'o', b'd', b'e', // names
+    0, 0x21, 0, 2, 0, 4, 0, 0, 0, 0, // the class
+    0, 1, 0, 8, 0, 5, 0, 6, 0, 1, // <clinit>
+    0, 7, 0, 0, 0, 14, 0, 0, 0, 0, 0, 0, 0, 2, 0, 0xB1, 0, 0, 0, 0, // its code
+    0, 0,
+];
+
 /// Header.cap of the example.
 pub(crate) const HEADER: [u8; 20] = [
     0x01, 0x00, 0x11, 0xDE, 0xCA, 0xFF, 0xED, 0x02, 0x02, 0x02, 0x00, 0x01, 0x05, 0xA0, 0x00, 0x00,

@@ -1,6 +1,8 @@
 //! Whole runs over files in memory: what is printed, what stands after, and how each ends.
 
-use crate::packages::{CLASS, CLASSES, EXPORT_FILE, FILES, IMPORT, LANG, LIST, NO_I2S, of_methods};
+use crate::packages::{
+    CLASS, CLASSES, EXPORT_FILE, FILES, IMPORT, INITIALISER, LANG, LIST, NO_I2S, of_methods,
+};
 use cjc_bytes::{Bytes, NoMemory, Row};
 use cjc_run::{run, status_line};
 use cjc_shelf::{MemShelf, MemSink};
@@ -247,7 +249,10 @@ fn refuses_by_the_world(rt: HostRuntime) -> Result<(), Fail> {
     let mut high = CLASS;
     high[93] = 0x04;
     high[95] = 0x04;
-    let cases: [(&[u8], &[u8], &str); 11] = [
+    // a nop in the initialiser, which is synchronized
+    let mut both = INITIALISER;
+    both[78] = 0x28;
+    let cases: [(&[u8], &[u8], &str); 13] = [
         (TWICE, &CLASS, "refused 202 U.class p/T - 0\n"),
         (NO_LANG, &CLASS, "refused 207 list - - 0\n"),
         (TWO_LANG, &CLASS, "refused 202 lang.exp - - 0\n"),
@@ -259,6 +264,12 @@ fn refuses_by_the_world(rt: HostRuntime) -> Result<(), Fail> {
         (LIST, &late, "refused 303 T.class p/T f(S)S 2\n"),
         (LIST, &nulls, "refused 502 T.class p/T f(S)S 4\n"),
         (LIST, &high, "refused 503 T.class p/T f(S)S 2\n"),
+        (
+            LIST,
+            &INITIALISER,
+            "refused 308 T.class p/T <clinit>()V 0\n",
+        ),
+        (LIST, &both, "refused 304 T.class p/T <clinit>()V 0\n"),
     ];
     for (list, class, want) in cases {
         assert!(rt; is_refused(rt.alloc(), list, &LANG, class, want)?, "{want}");
