@@ -3,6 +3,7 @@ pub mod Arrays
 pub mod Ascents
 pub mod Beside
 pub mod Indexed
+pub mod Leaving
 pub mod MethodStarts
 pub mod Nibbles
 pub mod Numbered

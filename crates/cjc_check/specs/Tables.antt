@@ -33,11 +33,18 @@ is_public_entry c x entry = if entry == 0xFFFF then leaves (reverse (classes_at 
 abbrev pub is_package_entry : Complete → ℕ → Bool
 is_package_entry c entry = not (entry == 0xFFFF) && is_method_start c entry
 
+-- an entry of a table that stands at this offset
+abbrev pub public_spot : Complete → ClassEntry → (at entry : ℕ) → List Spot
+public_spot c x at entry = unless (is_public_entry c x entry) (in_info 6 at)
+
+abbrev pub package_spot : Complete → (at entry : ℕ) → List Spot
+package_spot c at entry = unless (is_package_entry c entry) (in_info 6 at)
+
 -- the tables of a class that begins at this offset
 abbrev pub in_tables : Complete → (at : ℕ) → ClassEntry → List Spot
 in_tables c at x =
-    along (λ e. 2) (λ at e. unless (is_public_entry c x e) (in_info 6 at)) (at + 10) x.public_methods
-    ++ along (λ e. 2) (λ at e. unless (is_package_entry c e) (in_info 6 at)) (at + 10 + 2 * length x.public_methods) x.package_methods
+    along (λ e. 2) (public_spot c x) (at + 10) x.public_methods
+    ++ along (λ e. 2) (package_spot c) (at + 10 + 2 * length x.public_methods) x.package_methods
 
 -- 706. The entries of tables are method starts. 0xFFFF stands in public tables alone, and only where some superclass is imported.
 -- Broken is the entry.

@@ -3,3 +3,4 @@ pub mod Indexed
 pub mod Nibbles
 pub mod MethodStarts
 pub mod Tokens
+pub mod Leaving

@@ -18,6 +18,7 @@ mod sizes;
 mod spot;
 mod statics;
 mod supers;
+mod tables;
 mod tokens;
 mod worked;
 
