@@ -1,0 +1,28 @@
+//! A pool for methods that name nothing.
+
+ghost use Rattle.std.specs.Prelude.{[], None};
+
+use cjc_bytes::MemberId;
+use cjc_emit::PoolLookup;
+use cjc_ncode::PoolKey;
+
+/// A pool without entries.
+pub(crate) struct NoEntries;
+
+impl PoolLookup for NoEntries {
+    ghost pool_keys = { λ _. [] };
+
+    ghost method_token = { λ _ _. None };
+
+    fn index(&self, _key: &PoolKey) -> Option<u16> {
+        None
+    }
+
+    fn class_index(&self, _class: &[u8]) -> Option<u16> {
+        None
+    }
+
+    fn interface_token(&self, _method: &MemberId) -> Option<u8> {
+        None
+    }
+}
