@@ -3,7 +3,9 @@
 #![tactic(auto)]
 
 mod conversion;
+mod laws;
 
 pub use cjc_capwrite::CapFiles;
 pub use cjc_list::{List, read_list};
 pub use conversion::{Converted, convert};
+pub use laws::one_answer;
