@@ -30,3 +30,4 @@ pub mod Entries
 pub mod Types
 pub mod Turns
 pub mod Paths
+pub mod Tosses

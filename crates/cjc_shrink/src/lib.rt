@@ -18,11 +18,12 @@ ghost use Rattle.cjc_bytecode.specs.Machine.{Start, caught, made, begins as narr
 ghost use Rattle.cjc_script.specs.declared.value.Value.{Value};
 ghost use Rattle.cjc_script.specs.declared.script.Entry.{Entry};
 ghost use Rattle.cjc_ncode.specs.declared.narrow.NInsn.{NInsn};
+ghost use Rattle.cjc_ncode.specs.declared.narrow.NInsn.TheVariants as insns;
 ghost use Rattle.cjc_ncode.specs.declared.narrow.NMethod.{NMethod};
 ghost use Rattle.cjc_ncode.specs.Written.{Resolution, place_in, catches_at};
 ghost use Rattle.cjc_ncode.specs.ByLabel.{Callee, Named, Resolved, by_label, classes, operation, handler as narrow_handler};
 ghost use Rattle.cjc_by_name.specs.Linked.{Method, Linked};
-ghost use Rattle.cjc_by_name.specs.Effects.{Fault, exception_class};
+ghost use Rattle.cjc_by_name.specs.Effects.{Fault, NullPointer, exception_class};
 ghost use Rattle.cjc_by_name.specs.Effects as effects;
 ghost use Rattle.cjc_by_name.specs.Machine.{Frame, State, room, holder_of, handler, after_throw, after_effect, begins, step};
 ghost use Rattle.cjc_shrink.specs.Relation.{Kind, OnBoth, Range, Refers, boolean_range, Heap, NMemory, Stacks, Locals, AllWider, Stores};
@@ -40,6 +41,7 @@ ghost use Rattle.cjc_shrink.specs.Entries.{IsEntry, entry_kinds, EntryAgrees};
 ghost use Rattle.cjc_shrink.specs.Types.{TypesStay};
 ghost use Rattle.cjc_shrink.specs.Turns.{TurnAgrees};
 ghost use Rattle.cjc_shrink.specs.Paths.{JumpTurn, SilentTurn, TwoTurns, TurnsAre};
+ghost use Rattle.cjc_shrink.specs.Tosses.{ThrowTurn};
 ghost use Rattle.cjc_shrink.specs.Throws.{nheap, HandleAlike, Unwinds, Raises, IsRaised};
 ghost use Rattle.cjc_shrink.specs.Calls.{NFrame, NState, Frames, CallAgrees, IsStaticCall, IsObjectCall, IsWrittenAt, HandlesAlike, CatchAgrees};
 
@@ -265,6 +267,11 @@ pub fn jumps_make_turns()
     ensures silent { (by : Linked) (ks : List Kind) (f : Frame) (outer : List Frame) (s : State) (g : NFrame) (t : NState) (i : JInsn) → slice_get (let m = f.method in m.insns) f.at ≡ Some i → GoesOn by f.method i.op f.at f.locals s.store t.memory ks f.stack g.stack → SilentTurn by ks f outer s g t }
     ensures two { (by : Linked) (l : Named) (ks ls : List Kind) (offsets : List ℕ) (narrow_place : ℕ → ℕ) (f : Frame) (outer : List Frame) (s : State) (g : NFrame) (others : List NFrame) (t : NState) (i : JInsn) (first second : NInsn) → slice_get (let m = f.method in m.insns) f.at ≡ Some i → slice_get (let m = g.code in m.insns) g.at ≡ Some first → slice_get (let m = g.code in m.insns) (g.at + 1) ≡ Some second → JumpsInTwo l ks ls offsets (effects.place (let m = f.method in m.insns)) narrow_place (f.at + 1) (g.at + 1) (g.at + 1 + 1) (let m = g.code in m.max_stack) first second g.locals t.memory g.stack (effects.effect by f.method f.at f.locals s.store i.op f.stack) → TwoTurns by l ks ls offsets narrow_place f outer s g others t }
     ensures other { (by : Linked) (l : Named) (f : Frame) (outer : List Frame) (s : State) (g : NFrame) (others : List NFrame) (t : NState) (i : JInsn) (insn : NInsn) → slice_get (let m = f.method in m.insns) f.at ≡ Some i → slice_get (let m = g.code in m.insns) g.at ≡ Some insn → (effect : effects.Effect) (effect' : NEffect) → effects.effect by f.method f.at f.locals s.store i.op f.stack ≡ effect → narrow.effect (classes l) (operation insn) (let m = g.code in m.max_stack) (g.at + 1) g.locals t.memory g.stack ≡ effect' → TurnsAre by l f outer s g others t effect effect' }
+{}
+
+/// An athrow makes one turn of both machines: the object goes outwards alike, and null raises.
+pub fn throws_make_turns()
+    ensures { (by : Linked) (l : Named) (within : Shape (List ℕ) → Bool) (ks : List Kind) (f : Frame) (outer : List Frame) (s : State) (g : NFrame) (others : List NFrame) (t : NState) → Stores l s.store t.memory → IsRaised l NullPointer → HandleAlike by l (nheap t) (OfClass (exception_class NullPointer)) (f ∷ outer) (g ∷ others) → ((thing : HeapObject (List ℕ) MemberId) → within (shape thing) ≡ true → HandleAlike by l (nheap t) (shape thing) (f ∷ outer) (g ∷ others)) → (i : JInsn) → i.op ≡ jop.Throw → slice_get (let m = f.method in m.insns) f.at ≡ Some i → slice_get (let m = g.code in m.insns) g.at ≡ Some (insns.Op 0x93) → Stacks (nheap t) (Refers within ∷ ks) f.stack g.stack → ThrowTurn by l within f outer s g others t (step by (f ∷ outer) s) (narrow_step (by_label l) (g ∷ others) t) }
 {}
 
 /// Stacks and locals that agree by some kinds agree by wider ones, as a join of states gives them.
