@@ -4,3 +4,4 @@ pub mod Nibbles
 pub mod MethodStarts
 pub mod Tokens
 pub mod Leaving
+pub mod Linked

@@ -9,6 +9,7 @@ mod handlers;
 mod imports;
 mod install;
 mod laws;
+mod linked;
 mod listed;
 mod methods;
 mod names;

@@ -26,6 +26,7 @@ pub(crate) enum Want {
 }
 
 /// The classes of the package and of the export files.
+#[derive(Drop)]
 pub(crate) struct Names<'a> {
     pub(crate) parts: &'a Parts<'a>,
     pub(crate) exports: &'a [ExportTree],
