@@ -1,23 +1,23 @@
 //! Reports with every kind of line.
 
-use cjc_bytes::{Bytes, MemberId, Row};
+use cjc_bytes::{Bytes, MemberId, NoMemory, Row};
 use cjc_script::{FieldValue, Note, Outcome, Report, Thing, Value};
 use cjc_script_text::print;
 use std::alloc::Global;
 use std::test::*;
 
 /// These bytes.
-fn bytes(alloc: Global, text: &[u8]) -> Result<Bytes, Fail> {
-    Ok(Bytes::copy_of(alloc, text).ok().ok_or("memory")?)
+fn bytes(alloc: Global, text: &[u8]) -> Result<Bytes, NoMemory> {
+    Bytes::copy_of(alloc, text)
 }
 
 /// These values.
-fn values(alloc: Global, items: &[Value]) -> Result<Row<Value>, Fail> {
+fn values(alloc: Global, items: &[Value]) -> Result<Row<Value>, NoMemory> {
     Ok(Row::of(Vec::from_slice(alloc, items)?))
 }
 
 /// A member by its class, name and descriptor.
-fn member(alloc: Global, class: &[u8], name: &[u8], desc: &[u8]) -> Result<MemberId, Fail> {
+fn member(alloc: Global, class: &[u8], name: &[u8], desc: &[u8]) -> Result<MemberId, NoMemory> {
     Ok(MemberId {
         class: bytes(alloc, class)?,
         name: bytes(alloc, name)?,
@@ -26,7 +26,7 @@ fn member(alloc: Global, class: &[u8], name: &[u8], desc: &[u8]) -> Result<Membe
 }
 
 /// The balance of a wallet.
-fn balance(alloc: Global, value: Value) -> Result<FieldValue, Fail> {
+fn balance(alloc: Global, value: Value) -> Result<FieldValue, NoMemory> {
     Ok(FieldValue {
         field: member(alloc, b"p/Wallet", b"balance", b"S")?,
         value,
@@ -34,71 +34,45 @@ fn balance(alloc: Global, value: Value) -> Result<FieldValue, Fail> {
 }
 
 /// A note of each kind.
-fn notes(alloc: Global) -> Result<Row<Note>, Fail> {
+fn notes(alloc: Global) -> Result<Row<Note>, NoMemory> {
     let mut notes = Row::new(alloc);
     let callee = member(alloc, b"q/A", b"a", b"(S)S")?;
     let args = values(alloc, &[Value::Obj(0), Value::Num(-1)])?;
-    notes
-        .push(Note::Event { callee, args })
-        .ok()
-        .ok_or("memory")?;
-    notes.push(Note::Result(None)).ok().ok_or("memory")?;
-    notes
-        .push(Note::Result(Some(Value::Num(-32768))))
-        .ok()
-        .ok_or("memory")?;
-    notes
-        .push(Note::Result(Some(Value::Null)))
-        .ok()
-        .ok_or("memory")?;
+    notes.push(Note::Event { callee, args })?;
+    notes.push(Note::Result(None))?;
+    notes.push(Note::Result(Some(Value::Num(-32768))))?;
+    notes.push(Note::Result(Some(Value::Null)))?;
     let class = bytes(alloc, b"p/E")?;
-    notes
-        .push(Note::Thrown {
-            class,
-            object: 4294967295,
-        })
-        .ok()
-        .ok_or("memory")?;
+    notes.push(Note::Thrown {
+        class,
+        object: 4294967295,
+    })?;
     Ok(notes)
 }
 
 /// An array, an empty one, an object with fields and one without.
-fn heap(alloc: Global) -> Result<Row<Thing>, Fail> {
+fn heap(alloc: Global) -> Result<Row<Thing>, NoMemory> {
     let mut heap = Row::new(alloc);
     let items = values(alloc, &[Value::Num(0), Value::Num(64), Value::Num(-128)])?;
     heap.push(Thing::Array {
         desc: bytes(alloc, b"[B")?,
         items,
-    })
-    .ok()
-    .ok_or("memory")?;
+    })?;
     heap.push(Thing::Array {
         desc: bytes(alloc, b"[Lp/A;")?,
         items: Row::new(alloc),
-    })
-    .ok()
-    .ok_or("memory")?;
+    })?;
     let mut fields = Row::new(alloc);
-    fields
-        .push(balance(alloc, Value::Num(30))?)
-        .ok()
-        .ok_or("memory")?;
-    fields
-        .push(balance(alloc, Value::Obj(1))?)
-        .ok()
-        .ok_or("memory")?;
+    fields.push(balance(alloc, Value::Num(30))?)?;
+    fields.push(balance(alloc, Value::Obj(1))?)?;
     heap.push(Thing::Object {
         class: bytes(alloc, b"p/Wallet")?,
         fields,
-    })
-    .ok()
-    .ok_or("memory")?;
+    })?;
     heap.push(Thing::Object {
         class: bytes(alloc, b"q/A")?,
         fields: Row::new(alloc),
-    })
-    .ok()
-    .ok_or("memory")?;
+    })?;
     Ok(heap)
 }
 
@@ -120,14 +94,8 @@ done
 fn every_kind_of_line(rt: HostRuntime) -> Result<(), Fail> {
     let alloc = rt.alloc();
     let mut statics = Row::new(alloc);
-    statics
-        .push(balance(alloc, Value::Num(7))?)
-        .ok()
-        .ok_or("memory")?;
-    statics
-        .push(balance(alloc, Value::Null)?)
-        .ok()
-        .ok_or("memory")?;
+    statics.push(balance(alloc, Value::Num(7))?)?;
+    statics.push(balance(alloc, Value::Null)?)?;
     let report = Report {
         notes: notes(alloc)?,
         statics,
@@ -135,13 +103,13 @@ fn every_kind_of_line(rt: HostRuntime) -> Result<(), Fail> {
         outcome: Outcome::Done,
         spent: 5,
     };
-    let text = print(alloc, &report).ok().ok_or("memory")?;
+    let text = print(alloc, &report)?;
     assert_eq!(rt; text.items(), TEXT.as_bytes());
     Ok(())
 }
 
 /// The text of a report of an outcome alone.
-fn ended(alloc: Global, outcome: Outcome) -> Result<Bytes, Fail> {
+fn ended(alloc: Global, outcome: Outcome) -> Result<Bytes, NoMemory> {
     let report = Report {
         notes: Row::new(alloc),
         statics: Row::new(alloc),
@@ -149,7 +117,7 @@ fn ended(alloc: Global, outcome: Outcome) -> Result<Bytes, Fail> {
         outcome,
         spent: 0,
     };
-    Ok(print(alloc, &report).ok().ok_or("memory")?)
+    print(alloc, &report)
 }
 
 #[test]
