@@ -1,6 +1,6 @@
 //! Whether a method can be laid out. Called before a method that was built here is laid out.
 
-ghost use Rattle.std.specs.Prelude.{◌≡◌, ℕ, ◌+◌, ◌*◌, ◌≤◌, true, length, IfSome};
+ghost use Rattle.std.specs.Prelude.{◌≡◌, ◌+◌, ◌≤◌, true, IfSome};
 ghost use Rattle.cjc_capread.specs.Opcodes.{form, op_info};
 ghost use Rattle.cjc_layout.specs.Sizes.{AllLead, CasesLead, Leads, insn_size, size_by, widest_size};
 ghost use Rattle.cjc_layout.specs.Handlers.{AllLie, Lies};
