@@ -1,0 +1,62 @@
+//! Loads of array elements (Java Virtual Machine Specification, 6.5).
+
+ghost use Rattle.std.specs.Prelude.{◌≡◌, ◌<◌, length, Some, IfOk};
+ghost use Rattle.cjc_by_name.specs.Effects.{after_array_load, loads, load_of};
+ghost use Rattle.cjc_frame.specs.Deeds.{FollowsOn};
+ghost use Rattle.cjc_heap.specs.Kinds.{effect_moves};
+
+use crate::deeds::deed_of;
+use cjc_bytes::NoMemory;
+use cjc_frame::number::byte_of;
+use cjc_frame::{Activation, Deed};
+use cjc_heap::{Heap, Moves};
+use cjc_script::Value;
+
+// What a load gives of an element.
+fn load_of(moves: Moves, value: Value) -> Value
+    ensures { result ≡ load_of (effect_moves moves) value }
+{
+    match (moves, value) {
+        (Moves::Byte, Value::Num(z)) => Value::Num(byte_of(z)),
+        _ => value,
+    }
+}
+
+/// An element is pushed.
+pub fn load_element<'a>(
+    frame: &mut Activation<'a>,
+    heap: &Heap<'a>,
+    moves: Moves,
+) -> Result<Deed<'a>, NoMemory>
+    requires { frame.old.at < length frame.old.method.insns }
+    ensures { IfOk result (λ deed. FollowsOn (λ l m at locals store. after_array_load l m at locals store (Some (effect_moves moves))) deed frame.old frame.new heap.now heap.now) }
+{
+    let Some((reference, index)) = frame.value_and_number() else {
+        return Ok(Deed::Stick);
+    };
+    match heap.element_at(moves, reference, index) {
+        Ok(element) => {
+            frame.put(2, load_of(moves, element.value))?;
+            Ok(Deed::Go)
+        }
+        Err(halt) => Ok(deed_of(halt)),
+    }
+}
+
+/// iaload, aaload, baload, saload, by opcode.
+pub fn array_load<'a>(
+    frame: &mut Activation<'a>,
+    heap: &Heap<'a>,
+    op: u8,
+) -> Result<Deed<'a>, NoMemory>
+    requires { frame.old.at < length frame.old.method.insns }
+    ensures { IfOk result (λ deed. FollowsOn (λ l m at locals store. after_array_load l m at locals store (loads op)) deed frame.old frame.new heap.now heap.now) }
+{
+    match op {
+        0x2E => load_element(frame, heap, Moves::Int),
+        0x32 => load_element(frame, heap, Moves::Reference),
+        0x33 => load_element(frame, heap, Moves::Byte),
+        0x35 => load_element(frame, heap, Moves::Short),
+        _ => Ok(Deed::Stick),
+    }
+}

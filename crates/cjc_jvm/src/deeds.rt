@@ -1,0 +1,20 @@
+//! What an instruction does that the heap has stopped.
+
+ghost use Rattle.std.specs.Prelude.{◌≡◌};
+ghost use Rattle.cjc_by_name.specs.Machine.{Frame};
+ghost use Rattle.cjc_by_name.specs.Effects.{Store};
+ghost use Rattle.cjc_frame.specs.Deeds.{effect_done, Keeps};
+ghost use Rattle.cjc_heap.specs.Looks.{halted};
+
+use cjc_frame::Deed;
+use cjc_heap::Halt;
+
+/// It raises an exception, or nothing applies.
+pub fn deed_of<'a>(halt: Halt) -> Deed<'a>
+    ensures { (f : Frame) (store : Store) → (effect_done result f store ≡ halted halt) × Keeps result f f store store }
+{
+    match halt {
+        Halt::Raise(exception) => Deed::Raise(exception),
+        Halt::Stick => Deed::Stick,
+    }
+}
