@@ -1,7 +1,7 @@
-//! Loads of array elements (Java Virtual Machine Specification, 6.5).
+//! Loads of array elements, and arraylength (Java Virtual Machine Specification, 6.5).
 
-ghost use Rattle.std.specs.Prelude.{◌≡◌, ◌<◌, length, Some, IfOk};
-ghost use Rattle.cjc_by_name.specs.Effects.{after_array_load, loads, load_of};
+ghost use Rattle.std.specs.Prelude.{◌≡◌, ◌<◌, ◌^◌, pos, length, Some, IfOk};
+ghost use Rattle.cjc_by_name.specs.Effects.{after_array_load, with_length, loads, load_of};
 ghost use Rattle.cjc_frame.specs.Deeds.{FollowsOn};
 ghost use Rattle.cjc_heap.specs.Kinds.{effect_moves};
 
@@ -58,5 +58,30 @@ pub fn array_load<'a>(
         0x33 => load_element(frame, heap, Moves::Byte),
         0x35 => load_element(frame, heap, Moves::Short),
         _ => Ok(Deed::Stick),
+    }
+}
+
+// How many elements there are.
+fn count_of(items: &[Value]) -> i32
+    requires { length items.now < 2 ^ 31 }
+    ensures { result ≡ pos (length items.now) }
+{
+    items.len() as i32
+}
+
+/// arraylength.
+pub fn array_length<'a>(frame: &mut Activation<'a>, heap: &Heap<'a>) -> Result<Deed<'a>, NoMemory>
+    requires { frame.old.at < length frame.old.method.insns }
+    ensures { IfOk result (λ deed. FollowsOn (λ l m at locals store. with_length l m at locals store) deed frame.old frame.new heap.now heap.now) }
+{
+    let Some(reference) = frame.value() else {
+        return Ok(Deed::Stick);
+    };
+    match heap.array_at(reference) {
+        Ok((_, _, items)) => {
+            frame.put(1, Value::Num(count_of(items)))?;
+            Ok(Deed::Go)
+        }
+        Err(halt) => Ok(deed_of(halt)),
     }
 }

@@ -6,6 +6,6 @@ mod arrays;
 mod deeds;
 mod fields;
 
-pub use arrays::{array_load, load_element};
+pub use arrays::{array_length, array_load, load_element};
 pub use deeds::deed_of;
 pub use fields::get_field;
