@@ -1,10 +1,8 @@
 -- The classes in the nibbles of a type, part by part.
-use Rattle.std.proofs.Common.{◌≡◌, ℕ, ◌+◌, ◌*◌, ◌/◌, ◌<◌, ◌≤◌, ◌==◌, Bool, true, false, List, [], ◌∷◌, ◌++◌, length, get_or, drop, refl, sym, ap, ◌∙◌, arith, Option, length-drop}
-use Rattle.std.specs.Prelude.{◌||◌, not, if◌then◌else◌}
+use Rattle.std.proofs.Common.{◌≡◌, ℕ, ◌+◌, ◌/◌, ◌<◌, ◌≤◌, Bool, List, [], ◌∷◌, ◌++◌, length, get_or, drop, refl, sym, ap, ◌∙◌, arith, Option, length-drop}
 use Rattle.std.proofs.Math.Seq.{drop-drop}
 use Rattle.cjc_capread.specs.declared.tree.ClassRef.{ClassRef}
-use Rattle.cjc_capread.specs.Parts.{class_of}
-use Rattle.cjc_check.specs.Spots.{Spot, earlier, first, in_info, unless}
+use Rattle.cjc_check.specs.Spots.{Spot, earlier, first}
 use Rattle.cjc_check.specs.ClassRefs.{in_nibbles}
 use Rattle.cjc_check.specs.Working.Nibbles.{names_class, nibble_width, in_front}
 use Rattle.cjc_check.proofs.Firsts.{either, earlier_none, earlier_assoc, first_append}

@@ -1,5 +1,5 @@
 -- Items with their numbers, in a loop.
-use Rattle.std.proofs.Common.{◌≡◌, ℕ, ◌+◌, ◌<◌, ◌≤◌, List, [], ◌∷◌, ◌++◌, length, get_or, drop, refl, sym, ap, ◌∙◌, Option}
+use Rattle.std.proofs.Common.{◌≡◌, ℕ, ◌+◌, ◌<◌, ◌≤◌, List, ◌∷◌, length, get_or, drop, sym, ap, ◌∙◌, Option}
 use Rattle.std.proofs.lemmas.List.{drop_more, drop_all}
 use Rattle.cjc_check.specs.Spots.{Spot, numbered, earlier, first}
 use Rattle.cjc_check.proofs.Firsts.{earlier_none, earlier_assoc, first_append}

@@ -1,4 +1,4 @@
-use Rattle.std.proofs.Common.{◌≡◌, ◌+◌, ◌*◌, drop, length}
+use Rattle.std.proofs.Common.{◌≡◌, ◌+◌, ◌*◌, drop}
 use Rattle.cjc_check.specs.Described.{methods_ascend}
 use Rattle.cjc_check.specs.Spots.{earlier, first}
 use Rattle.cjc_check.proofs.described.methods_ascend.Given as goal

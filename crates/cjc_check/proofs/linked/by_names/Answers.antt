@@ -1,4 +1,4 @@
-use Rattle.std.proofs.Common.{◌≡◌, ℕ, List, Bool, ap, sym, ◌∙◌, subst, ◌==◌, length}
+use Rattle.std.proofs.Common.{ℕ, List, Bool, ap, sym, ◌∙◌, subst, ◌==◌, length}
 use Rattle.std.specs.List.{list_any}
 use Rattle.std.specs.List.Sorted.{IsNonDecreasing}
 use Rattle.cjc_check.specs.Working.Leaving.{IsLeaving}

@@ -1,4 +1,4 @@
-use Rattle.std.proofs.Common.{◌≡◌, ◌<◌, ◌+◌, List, [], ◌∷◌, Bool, ap, sym, ◌∙◌, arith, length, get_or, length-append}
+use Rattle.std.proofs.Common.{◌≡◌, ◌<◌, ◌+◌, List, [], ◌∷◌, Bool, ap, ◌∙◌, arith, length, get_or, length-append}
 use Rattle.cjc_capread.specs.declared.tree.ClassEntry.{ClassEntry}
 use Rattle.cjc_check.specs.Working.Leaving.{leaves_among}
 use Rattle.cjc_check.proofs.Leaving.{leaving_more}

@@ -1,4 +1,4 @@
-use Rattle.std.proofs.Common.{◌≡◌, List, Option, ℕ, ap, ◌∙◌, length, length-set}
+use Rattle.std.proofs.Common.{◌∙◌, length-set}
 use Rattle.cjc_check.proofs.TokenPlaces.{places_more, places_all}
 use Rattle.cjc_check.proofs.tokens.places_of.Goals as goal
 
