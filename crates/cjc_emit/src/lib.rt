@@ -1,6 +1,6 @@
 //! The bytes of methods: headers, instructions, and the places of their indices into the constant pool (Java Card
-//! Virtual Machine Specification 2.2.2, sections 6.9.2 and 6.12). So far headers, definitions and laws. It knows no
-//! class file, and not how a layout was chosen.
+//! Virtual Machine Specification 2.2.2, sections 6.9.2 and 6.12). It knows no class file, and not how a layout was
+//! chosen.
 #![tactic(auto)]
 
 ghost use Rattle.std.specs.Prelude.{◌≡◌, ◌∷◌, [], ◌++◌, ℕ, Bool, false, List, Some, drop, slice_get};
