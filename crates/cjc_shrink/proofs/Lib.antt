@@ -31,3 +31,4 @@ pub mod Types
 pub mod Turns
 pub mod Paths
 pub mod Tosses
+pub mod Whole

@@ -27,7 +27,7 @@ use Rattle.cjc_shrink.proofs.Handlers.{caught}
 use Rattle.cjc_shrink.proofs.Keeps.{locals_kept, grown_keeps, get_last, grown_stores}
 
 -- a type has one name on both sides
-name_same : (l : Named) (kind : Shape (List ℕ)) → narrow.type_name (by_label l) kind ≡ shape_name kind
+pub name_same : (l : Named) (kind : Shape (List ℕ)) → narrow.type_name (by_label l) kind ≡ shape_name kind
 unfolding by_label
 name_same l (OfClass class) = refl
 name_same l (OfNumbers element) = refl

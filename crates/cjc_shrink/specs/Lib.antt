@@ -16,3 +16,5 @@ pub mod Types
 pub mod Turns
 pub mod Paths
 pub mod Tosses
+pub mod Tables
+pub mod Runs

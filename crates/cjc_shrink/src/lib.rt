@@ -14,18 +14,20 @@ ghost use Rattle.cjc_code.specs.declared.insn.JOp.TheVariants as jop;
 ghost use Rattle.cjc_script.specs.Sorts.{Booleans, Bytes, Shorts, Signature, Shape, OfClass, OfNumbers, OfReferences, shape_name, field_sort};
 ghost use Rattle.cjc_bytecode.specs.Effects.{Invoke, Toss, Raise, Leave, HeapObject, shape};
 ghost use Rattle.cjc_bytecode.specs.Effects as narrow;
+ghost use Rattle.cjc_bytecode.specs.Runs.{Agree};
 ghost use Rattle.cjc_bytecode.specs.Machine.{Start, caught, made, begins as narrow_begins, step as narrow_step};
 ghost use Rattle.cjc_script.specs.declared.value.Value.{Value};
 ghost use Rattle.cjc_script.specs.declared.script.Entry.{Entry};
+ghost use Rattle.cjc_script.specs.declared.script.Script.{Script};
 ghost use Rattle.cjc_ncode.specs.declared.narrow.NInsn.{NInsn};
 ghost use Rattle.cjc_ncode.specs.declared.narrow.NInsn.TheVariants as insns;
 ghost use Rattle.cjc_ncode.specs.declared.narrow.NMethod.{NMethod};
 ghost use Rattle.cjc_ncode.specs.Written.{Resolution, place_in, catches_at};
-ghost use Rattle.cjc_ncode.specs.ByLabel.{Callee, Named, Resolved, by_label, classes, operation, handler as narrow_handler};
+ghost use Rattle.cjc_ncode.specs.ByLabel.{Callee, Named, Resolved, by_label, classes, operation, handler as narrow_handler, run as narrow_run};
 ghost use Rattle.cjc_by_name.specs.Linked.{Method, Linked};
 ghost use Rattle.cjc_by_name.specs.Effects.{Fault, NullPointer, exception_class};
 ghost use Rattle.cjc_by_name.specs.Effects as effects;
-ghost use Rattle.cjc_by_name.specs.Machine.{Frame, State, room, holder_of, handler, after_throw, after_effect, begins, step};
+ghost use Rattle.cjc_by_name.specs.Machine.{Frame, State, room, holder_of, handler, after_throw, after_effect, begins, step, run};
 ghost use Rattle.cjc_shrink.specs.Relation.{Kind, OnBoth, Range, Refers, boolean_range, Heap, NMemory, Stacks, Locals, AllWider, Stores};
 ghost use Rattle.cjc_shrink.specs.Rows.{narrow_fault, NEffect, GoesOn, HasRoom, Same, RowAgrees, RowOnLocals, IsNotWritten, FieldIsThere, kind_of};
 ghost use Rattle.cjc_shrink.specs.Objects.{IsMade, IsClassThere, IsTypeThere};
@@ -42,6 +44,8 @@ ghost use Rattle.cjc_shrink.specs.Types.{TypesStay};
 ghost use Rattle.cjc_shrink.specs.Turns.{TurnAgrees};
 ghost use Rattle.cjc_shrink.specs.Paths.{JumpTurn, SilentTurn, TwoTurns, TurnsAre};
 ghost use Rattle.cjc_shrink.specs.Tosses.{ThrowTurn};
+ghost use Rattle.cjc_shrink.specs.Tables.{Table};
+ghost use Rattle.cjc_shrink.specs.Runs.{IsFine};
 ghost use Rattle.cjc_shrink.specs.Throws.{nheap, HandleAlike, Unwinds, Raises, IsRaised};
 ghost use Rattle.cjc_shrink.specs.Calls.{NFrame, NState, Frames, CallAgrees, IsStaticCall, IsObjectCall, IsWrittenAt, HandlesAlike, CatchAgrees};
 
@@ -278,4 +282,11 @@ pub fn throws_make_turns()
 pub fn wider_kinds_hold()
     ensures stacks { (heap : Heap) (ks js : List Kind) (vs ws : List Value) → AllWider ks js → Stacks heap ks vs ws → Stacks heap js vs ws }
     ensures locals { (heap : Heap) (ks js : List Kind) (vs ws : List (Option Value)) → AllWider ks js → Locals heap ks vs ws → Locals heap js vs ws }
+{}
+
+/// Whole runs agree, of every script, by a table of what is known at each place whose rules are kept: of the notes of any two runs one
+/// begins with the other; where the run by name of n instructions is not Running, the narrow run of at least 2n ends alike; where the
+/// narrow run of n is not Running, the run by name of at least 65,536 (n + 1) ends alike; and neither is ever stuck.
+pub fn whole_runs_agree()
+    ensures { (by : Linked) (l : Named) (table : Table) → IsFine by l table → (script : Script) → Agree 2 (λ n. run by script n) (λ n. narrow_run l script n) }
 {}
