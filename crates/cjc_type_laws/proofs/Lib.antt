@@ -1,3 +1,9 @@
 pub mod Shapes
 pub mod Standing
 pub mod Lowered
+pub mod Results
+pub mod Spelt
+pub mod Chains
+pub mod Rows
+pub mod Named
+pub mod Uncut
