@@ -53,32 +53,32 @@ frames_begin heap narrowed params plain {callee = callee} {args = args} {words =
           (subst (Locals heap (first_locals callee params) (map (λ v. Some v) args ++ replicate further None)) (sym narrow_ones) (first further plain passed));
     }
 
-module _ (by : Linked) (l : Named) (narrowed : Method → Start NMethod) (params ks : List Kind) (next : ℕ) (f : Frame) (outer : List Frame) (s : State) (g : NFrame) (others : List NFrame) (t : NState) (plain : OnBoth params) where
+module _ (by : Linked) (l : Named) (narrowed : Method → Start NMethod) (may_begin : Method → Type 0) (params ks : List Kind) (next : ℕ) (f : Frame) (outer : List Frame) (s : State) (g : NFrame) (others : List NFrame) (t : NState) (plain : OnBoth params) where
   abbrev heap : Heap
   heap = let m = t.memory in m.heap
 
   abbrev Meets : Move State → NTurn → Type 0
-  Meets = CallAgrees by l narrowed params ks next f outer s g others t
+  Meets = CallAgrees by l narrowed may_begin params ks next f outer s g others t
 
   -- the frames that begin
   entered_agree : {callee : Method} {args words : List Value} → IsNarrowed narrowed (length params) callee → Stacks (let m = t.memory in m.heap) params args words → Frames (let m = t.memory in m.heap) [] (first_locals callee params) (frame_for_call callee args) (narrow.entered (narrowed callee) words)
   entered_agree is passed = frames_begin (let m = t.memory in m.heap) narrowed params plain is passed
 
   -- what is reached begins
-  pub reach_both : {callee : Method} {args words vs ws : List Value} (result : Option Sort) (on : Bool) → IsNarrowed narrowed (length params) callee → Stacks (let m = t.memory in m.heap) params args words → Stacks (let m = t.memory in m.heap) ks vs ws
+  pub reach_both : {callee : Method} {args words vs ws : List Value} (result : Option Sort) (on : Bool) → may_begin callee → IsNarrowed narrowed (length params) callee → Stacks (let m = t.memory in m.heap) params args words → Stacks (let m = t.memory in m.heap) ks vs ws
       → Meets (at_callee by (Some (Inside callee)) result args (record f { stack = vs }) outer s) (narrow.reaches (by_label l) (Within (narrowed callee)) on words (record g { next = next; stack = ws }) others t)
-  reach_both {callee = callee} {args = args} {words = words} {vs = vs} {ws = ws} result on is passed low =
+  reach_both {callee = callee} {args = args} {words = words} {vs = vs} {ws = ws} result on may is passed low =
       subst (λ b. Meets (if b then stuck_at (offset (record f { stack = vs })) s else On (with_frames (frame_for_call callee args ∷ record f { stack = vs } ∷ outer) s)) (narrow.reaches (by_label l) (Within (narrowed callee)) on words (record g { next = next; stack = ws }) others t)) (sym is.has_code)
       (subst (λ b. Meets (On (with_frames (frame_for_call callee args ∷ record f { stack = vs } ∷ outer) s)) (if b then StuckAt g.at t else Next (record t { frames = narrow.entered (narrowed callee) words ∷ record g { next = next; stack = ws } ∷ others }))) (sym is.is_written)
-      (begins callee args words vs ws (entered_agree is passed) low))
+      (begins callee args words vs ws may (entered_agree is passed) low))
 
 -- a static call
-pub static_call : (by : Linked) (l : Named) (narrowed : Method → Start NMethod) (op : ℕ) (id : MemberId) (named : Callee) (params ks ls : List Kind) (next : ℕ) (f : Frame) (outer : List Frame) (s : State) (g : NFrame) (others : List NFrame) (t : NState) → IsStaticCall by l narrowed (holder_of f) op id named params → Frames (let m = t.memory in m.heap) (reverse params ++ ks) ls f g
-    → CallAgrees by l narrowed params ks next f outer s g others t (after_effect by (effects.Invoke op id) f outer s) (narrow.made (by_label l) (Invoke named) next g others t)
+pub static_call : (by : Linked) (l : Named) (narrowed : Method → Start NMethod) (may_begin : Method → Type 0) (op : ℕ) (id : MemberId) (named : Callee) (params ks ls : List Kind) (next : ℕ) (f : Frame) (outer : List Frame) (s : State) (g : NFrame) (others : List NFrame) (t : NState) → (call : IsStaticCall by l narrowed (holder_of f) op id named params) → may_begin call.callee → Frames (let m = t.memory in m.heap) (reverse params ++ ks) ls f g
+    → CallAgrees by l narrowed may_begin params ks next f outer s g others t (after_effect by (effects.Invoke op id) f outer s) (narrow.made (by_label l) (Invoke named) next g others t)
 unfolding by_label
-static_call by l narrowed op id named params ks ls next f outer s g others t call agree =
+static_call by l narrowed may_begin op id named params ks ls next f outer s g others t call may agree =
     let heap = (let m = t.memory in m.heap) in
-    let Meets = CallAgrees by l narrowed params ks next f outer s g others t in
+    let Meets = CallAgrees by l narrowed may_begin params ks next f outer s g others t in
     let types = call.types in
     let n = length types.params in
     let count = passed_length call.passes in
@@ -99,14 +99,14 @@ static_call by l narrowed op id named params ks ls next f outer s g others t cal
     (subst (λ b. Meets named_side (if b then narrow.with_args (by_label l) (on_object named) named words waiting others t else StuckAt g.at t)) (sym enough)
     (subst (λ b. Meets named_side (narrow.with_args (by_label l) b named words waiting others t)) (sym call.narrow_class)
     (subst (λ x. Meets named_side (narrow.reaches (by_label l) x false words waiting others t)) (sym call.narrow_reached)
-    (reach_both by l narrowed params ks next f outer s g others t plain types.result false call.is_narrowed passed low)))))))
+    (reach_both by l narrowed may_begin params ks next f outer s g others t plain types.result false may call.is_narrowed passed low)))))))
 
 -- ---- a call on a receiver
 
-module _ (by : Linked) (l : Named) (narrowed : Method → Start NMethod) (named : Callee) (within : Shape (List ℕ) → Bool) (params ks : List Kind) (next : ℕ) (f : Frame) (outer : List Frame) (s : State) (g : NFrame) (others : List NFrame) (t : NState)
-    (plain : OnBoth params) (selected : List ℕ → Option Linked.Callee) (selects : (kind : Shape (List ℕ)) → within kind ≡ true → Selects l narrowed selected named (length (Refers within ∷ params)) kind) (stores : Stores l s.store t.memory) where
+module _ (by : Linked) (l : Named) (narrowed : Method → Start NMethod) (may_begin : Method → Type 0) (named : Callee) (within : Shape (List ℕ) → Bool) (params ks : List Kind) (next : ℕ) (f : Frame) (outer : List Frame) (s : State) (g : NFrame) (others : List NFrame) (t : NState)
+    (plain : OnBoth params) (selected : List ℕ → Option Linked.Callee) (selects : (kind : Shape (List ℕ)) → within kind ≡ true → Selects l narrowed selected named (length (Refers within ∷ params)) kind) (may : (kind : Shape (List ℕ)) (is : within kind ≡ true) → let h = selects kind is in may_begin h.callee) (stores : Stores l s.store t.memory) where
   abbrev Answers : Move State → NTurn → Type 0
-  Answers = CallAgrees by l narrowed (Refers within ∷ params) ks next f outer s g others t
+  Answers = CallAgrees by l narrowed may_begin (Refers within ∷ params) ks next f outer s g others t
 
   -- by the type of the receiver
   select_both : {args words vs ws : List Value} (result : Option Sort) (k : ℕ) (thing : HeapObject (List ℕ) MemberId) → slice_get (let m = t.memory in m.heap) k ≡ Some thing → within (shape thing) ≡ true → Stacks (let m = t.memory in m.heap) params args words → Stacks (let m = t.memory in m.heap) ks vs ws
@@ -121,7 +121,7 @@ module _ (by : Linked) (l : Named) (narrowed : Method → Start NMethod) (named 
       (subst (λ o. Answers (at_callee by o result (Obj k ∷ args) waits outer s) narrow_side) (sym (ap selected (type_shown l thing) ∙ h.by_name))
       (subst (λ o. Answers (at_callee by (Some (Inside h.callee)) result (Obj k ∷ args) waits outer s) (narrow.reaches_on (by_label l) named o (Obj k ∷ words) waiting others t)) (sym is)
       (subst (λ x. Answers (at_callee by (Some (Inside h.callee)) result (Obj k ∷ args) waits outer s) (narrow.reaches (by_label l) x true (Obj k ∷ words) waiting others t)) (sym h.narrow)
-      (reach_both by l narrowed (Refers within ∷ params) ks next f outer s g others t (both_reference plain) result true h.is_narrowed (cell (object thing is passes) passed) low))))
+      (reach_both by l narrowed may_begin (Refers within ∷ params) ks next f outer s g others t (both_reference plain) result true (may (shape thing) passes) h.is_narrowed (cell (object thing is passes) passed) low))))
 
   -- with the receiver below the arguments; null raises
   pub receive_both : (result : Option Sort) (n : ℕ) (vs ws vs' ws' : List Value) → drop n vs ≡ vs' → drop n ws ≡ ws' → Stacks (let m = t.memory in m.heap) params (reverse (take n vs)) (reverse (take n ws)) → Stacks (let m = t.memory in m.heap) (Refers within ∷ ks) vs' ws'
@@ -136,12 +136,12 @@ module _ (by : Linked) (l : Named) (narrowed : Method → Start NMethod) (named 
       by_value _ _ (object {k = k} thing is passes) = select_both result k thing is passes passed low
 
 -- a call on a receiver
-pub object_call : (by : Linked) (l : Named) (narrowed : Method → Start NMethod) (op : ℕ) (id : MemberId) (named : Callee) (within : Shape (List ℕ) → Bool) (params ks ls : List Kind) (next : ℕ) (f : Frame) (outer : List Frame) (s : State) (g : NFrame) (others : List NFrame) (t : NState) → IsObjectCall by l narrowed (holder_of f) op id named within params → Stores l s.store t.memory → Frames (let m = t.memory in m.heap) (reverse (Refers within ∷ params) ++ ks) ls f g
-    → CallAgrees by l narrowed (Refers within ∷ params) ks next f outer s g others t (after_effect by (effects.Invoke op id) f outer s) (narrow.made (by_label l) (Invoke named) next g others t)
+pub object_call : (by : Linked) (l : Named) (narrowed : Method → Start NMethod) (may_begin : Method → Type 0) (op : ℕ) (id : MemberId) (named : Callee) (within : Shape (List ℕ) → Bool) (params ks ls : List Kind) (next : ℕ) (f : Frame) (outer : List Frame) (s : State) (g : NFrame) (others : List NFrame) (t : NState) → (call : IsObjectCall by l narrowed (holder_of f) op id named within params) → ((kind : Shape (List ℕ)) (is : within kind ≡ true) → let h = call.selects kind is in may_begin h.callee) → Stores l s.store t.memory → Frames (let m = t.memory in m.heap) (reverse (Refers within ∷ params) ++ ks) ls f g
+    → CallAgrees by l narrowed may_begin (Refers within ∷ params) ks next f outer s g others t (after_effect by (effects.Invoke op id) f outer s) (narrow.made (by_label l) (Invoke named) next g others t)
 unfolding by_label
-object_call by l narrowed op id named within params ks ls next f outer s g others t call stores agree =
+object_call by l narrowed may_begin op id named within params ks ls next f outer s g others t call may stores agree =
     let heap = (let m = t.memory in m.heap) in
-    let Meets = CallAgrees by l narrowed (Refers within ∷ params) ks next f outer s g others t in
+    let Meets = CallAgrees by l narrowed may_begin (Refers within ∷ params) ks next f outer s g others t in
     let types = call.types in
     let n = length types.params in
     let count = passed_length call.passes in
@@ -162,4 +162,4 @@ object_call by l narrowed op id named within params ks ls next f outer s g other
     (subst (λ o. Meets named_side (narrow.counted (by_label l) o named (record g { next = next }) others t)) (sym (call.narrow_words ∙ ap (λ k. Some (suc k)) (sym count)))
     (subst (λ b. Meets named_side (if b then narrow.with_args (by_label l) (on_object named) named words waiting others t else StuckAt g.at t)) (sym enough)
     (subst (λ b. Meets named_side (narrow.with_args (by_label l) b named words waiting others t)) (sym call.narrow_object)
-    (receive_both by l narrowed named within params ks next f outer s g others t plain call.selected call.selects stores types.result n f.stack g.stack (drop n f.stack) (drop n g.stack) refl refl passed rest))))))
+    (receive_both by l narrowed may_begin named within params ks next f outer s g others t plain call.selected call.selects may stores types.result n f.stack g.stack (drop n f.stack) (drop n g.stack) refl refl passed rest))))))

@@ -32,3 +32,4 @@ pub mod Turns
 pub mod Paths
 pub mod Tosses
 pub mod Whole
+pub mod Reached

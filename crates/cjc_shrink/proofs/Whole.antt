@@ -85,7 +85,7 @@ module _ (by : Linked) (l : Named) (tb : Table) where
   spent_couple (between s t same) = between (record s { spent = s.spent + 1 }) t (record { stores = same.stores; entries = same.entries; answers = same.answers; notes = same.notes })
   spent_couple (inside f outer s g others t same stands waiting) = inside f outer (record s { spent = s.spent + 1 }) g others t (record { stores = same.stores; entries = same.entries; answers = same.answers; notes = same.notes }) stands waiting
 
-  both_spent : (n : ℕ) {m : Move State} {u : NTurn} → Both by l tb m u → Both by l tb (spend by m) (narrow.spent_by (by_label l) n u)
+  pub both_spent : (n : ℕ) {m : Move State} {u : NTurn} → Both by l tb m u → Both by l tb (spend by m) (narrow.spent_by (by_label l) n u)
   unfolding spent_couple
   both_spent n (onward (between s t same)) = onward (spent_couple (between s t same))
   both_spent n (onward (inside f outer s g others t same stands waiting)) = onward (spent_couple (inside f outer s g others t same stands waiting))
@@ -401,7 +401,7 @@ module _ (by : Linked) (l : Named) (tb : Table) where
         let s0 = record s { frames = f ∷ outer } in
         let t0 = record t { frames = g ∷ others } in
         let same0 : StatesAgree l s0 t0 = record { stores = same.stores; entries = same.entries; answers = same.answers; notes = same.notes } in
-        one_turn (inside f outer s g others t same stands waiting) refl refl (turn f outer s0 g others t0 refl refl same0 stands waiting)
+        one_turn (inside f outer s g others t same stands waiting) refl refl (turn f outer s0 g others t0 refl refl there same0 stands refl waiting)
 
     at_instruction : (f : Frame) (outer : List Frame) (s : State) (g : NFrame) (others : List NFrame) (t : NState) (same : StatesAgree l s t) (stands : Stands tb (nheap t) f g) (waiting : Waiting by l tb (nheap t) (tb.results f.method) outer others) → Follows (inside f outer s g others t same stands waiting)
     at_instruction f outer s g others t same stands waiting =

@@ -41,13 +41,13 @@ pub record Frames (heap : Heap) (ks ls : List Kind) (f : Frame) (g : NFrame) : T
 abbrev pub first_locals : Method → (params : List Kind) → List Kind
 first_locals m params = params ++ replicate (m.max_locals - length params) Free
 
--- Both machines go on: in a method and what is written for it, with arguments that agree, above frames that wait behind the
--- same call; or both raise the same exception in the frame that calls.
-pub data CallAgrees (by : Linked) (l : Named) (narrowed : Method → Start NMethod) (params ks : List Kind) (next : ℕ) (f : Frame) (outer : List Frame) (s : State) (g : NFrame) (others : List NFrame) (t : NState) : Move State → NTurn → Type 0 where
-  begins : (callee : Method) (args words vs ws : List Value) → (let m = t.memory in Frames m.heap [] (first_locals callee params) (frame_for_call callee args) (narrow.entered (narrowed callee) words)) → (let m = t.memory in Stacks m.heap ks vs ws)
-      → CallAgrees by l narrowed params ks next f outer s g others t (On (with_frames (frame_for_call callee args ∷ record f { stack = vs } ∷ outer) s)) (Next (record t { frames = narrow.entered (narrowed callee) words ∷ record g { next = next; stack = ws } ∷ others }))
+-- Both machines go on: in a method that passes a test and what is written for it, with arguments that agree, above frames that wait
+-- behind the same call; or both raise the same exception in the frame that calls.
+pub data CallAgrees (by : Linked) (l : Named) (narrowed : Method → Start NMethod) (may_begin : Method → Type 0) (params ks : List Kind) (next : ℕ) (f : Frame) (outer : List Frame) (s : State) (g : NFrame) (others : List NFrame) (t : NState) : Move State → NTurn → Type 0 where
+  begins : (callee : Method) (args words vs ws : List Value) → may_begin callee → (let m = t.memory in Frames m.heap [] (first_locals callee params) (frame_for_call callee args) (narrow.entered (narrowed callee) words)) → (let m = t.memory in Stacks m.heap ks vs ws)
+      → CallAgrees by l narrowed may_begin params ks next f outer s g others t (On (with_frames (frame_for_call callee args ∷ record f { stack = vs } ∷ outer) s)) (Next (record t { frames = narrow.entered (narrowed callee) words ∷ record g { next = next; stack = ws } ∷ others }))
   fails : (fault : Fault) (vs ws : List Value)
-      → CallAgrees by l narrowed params ks next f outer s g others t (after_fault by fault (record f { stack = vs }) outer s) (narrow.failed (by_label l) (narrow_fault fault) (record g { next = next; stack = ws }) others t)
+      → CallAgrees by l narrowed may_begin params ks next f outer s g others t (after_fault by fault (record f { stack = vs }) outer s) (narrow.failed (by_label l) (narrow_fault fault) (record g { next = next; stack = ws }) others t)
 
 -- a type of numbers of one word
 abbrev pub is_number_sort : Sort → Bool
@@ -99,6 +99,10 @@ pub record IsObjectCall (by : Linked) (l : Named) (narrowed : Method → Start N
   pub narrow_object : on_object named ≡ true
   pub narrow_words : l.words named ≡ Some (length (Refers within ∷ params))
   pub selects : (kind : Shape (List ℕ)) → within kind ≡ true → Selects l narrowed selected named (length (Refers within ∷ params)) kind
+
+-- the methods that a receiver may select
+abbrev pub MaySelect : (l : Named) (narrowed : Method → Start NMethod) (selected : List ℕ → Option Linked.Callee) (named : Callee) (count : ℕ) (within : Shape (List ℕ) → Bool) → ((kind : Shape (List ℕ)) → within kind ≡ true → Selects l narrowed selected named count kind) → Method → Type 0
+MaySelect l narrowed selected named count within selects m = (kind : Shape (List ℕ)) × ((is : within kind ≡ true) × ((let h = selects kind is in h.callee) ≡ m))
 
 -- ---- handlers
 

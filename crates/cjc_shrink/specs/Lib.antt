@@ -18,3 +18,4 @@ pub mod Paths
 pub mod Tosses
 pub mod Tables
 pub mod Runs
+pub mod Reached

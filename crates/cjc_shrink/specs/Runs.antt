@@ -80,7 +80,7 @@ module _ (by : Linked) (l : Named) (tb : Table) (m : Method) (at : ℕ) (p : Poi
         → ((locals words : List (Option Value)) (store : Store) (memory : NMemory) (vs ws : List Value) → Stacks memory.heap p.stack vs ws → Returns memory.heap kinds (named_effect locals store vs) (narrow_effect insn (spot tb m at + 1) words memory ws))
         → AllWider kinds (tb.results m) → Rule
     -- both call
-    calls : ((f : Frame) (outer : List Frame) (s : State) (g : NFrame) (others : List NFrame) (t : NState) → f.method ≡ m → f.at ≡ at → StatesAgree l s t → Stands tb (nheap t) f g → Waiting by l tb (nheap t) (tb.results f.method) outer others → Both by l tb (step by (f ∷ outer) s) (narrow_step (by_label l) (g ∷ others) t))
+    calls : ((f : Frame) (outer : List Frame) (s : State) (g : NFrame) (others : List NFrame) (t : NState) → f.method ≡ m → f.at ≡ at → slice_get (let n = f.method in n.insns) f.at ≡ Some i → StatesAgree l s t → (stands : Stands tb (nheap t) f g) → stands.point ≡ p → Waiting by l tb (nheap t) (tb.results f.method) outer others → Both by l tb (step by (f ∷ outer) s) (narrow_step (by_label l) (g ∷ others) t))
         → Rule
 
 -- ---- entries

@@ -64,9 +64,13 @@ pub record Handles (tb : Table) (m : Method) (target : ℕ) (ls : List Kind) (ki
   pub passes : within kind ≡ true
   pub arrives : Arrives tb m (place m.insns target) (written_place tb m target) (Refers within ∷ []) ls
 
+-- the class that holds a method's code
+abbrev pub class_of_code : Method → List ℕ
+class_of_code m = let id = m.id in id.class
+
 -- the handler that takes an exception of a type at a place of a method's list
 abbrev pub handler_at : Linked → Method → (at : ℕ) → Shape (List ℕ) → Option ℕ
-handler_at by m at kind = handler by (let id = m.id in id.class) m.catches (offset_at m at) (shape_name kind)
+handler_at by m at kind = handler by (class_of_code m) m.catches (offset_at m at) (shape_name kind)
 
 -- An exception of a type is handled alike at a place, where locals are of these kinds: both searches find the same, or none.
 pub record CatchesAlike (by : Linked) (l : Named) (tb : Table) (m : Method) (at : ℕ) (ls : List Kind) (kind : Shape (List ℕ)) : Type 0 where

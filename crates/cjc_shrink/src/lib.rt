@@ -44,10 +44,11 @@ ghost use Rattle.cjc_shrink.specs.Types.{TypesStay};
 ghost use Rattle.cjc_shrink.specs.Turns.{TurnAgrees};
 ghost use Rattle.cjc_shrink.specs.Paths.{JumpTurn, SilentTurn, TwoTurns, TurnsAre};
 ghost use Rattle.cjc_shrink.specs.Tosses.{ThrowTurn};
-ghost use Rattle.cjc_shrink.specs.Tables.{Table};
-ghost use Rattle.cjc_shrink.specs.Runs.{IsFine};
+ghost use Rattle.cjc_shrink.specs.Tables.{Point, Table, class_of_code};
+ghost use Rattle.cjc_shrink.specs.Runs.{Rule, IsFine};
+ghost use Rattle.cjc_shrink.specs.Reached.{CallsInside, MayBeCalled};
 ghost use Rattle.cjc_shrink.specs.Throws.{nheap, HandleAlike, Unwinds, Raises, IsRaised};
-ghost use Rattle.cjc_shrink.specs.Calls.{NFrame, NState, Frames, CallAgrees, IsStaticCall, IsObjectCall, IsWrittenAt, HandlesAlike, CatchAgrees};
+ghost use Rattle.cjc_shrink.specs.Calls.{NFrame, NState, Frames, CallAgrees, IsStaticCall, IsObjectCall, MaySelect, IsWrittenAt, HandlesAlike, CatchAgrees};
 
 /// Arithmetic of class files on operands in intervals, and what is written for it: words stay the low words of their
 /// numbers, and each result lies in the interval that its row gives. A quotient, a remainder and a number that is shifted to
@@ -151,10 +152,11 @@ pub fn entries_begin_alike()
 {}
 
 /// A call of a static method, and one on a receiver that each of its types selects a method of the package for: the method
-/// and what is written for it begin with arguments that agree, above frames that wait behind the call; null raises.
+/// and what is written for it begin with arguments that agree, above frames that wait behind the call; null raises. The method
+/// is the one that the call names, or one that the receiver may select.
 pub fn calls_begin_alike()
-    ensures static_call { (by : Linked) (l : Named) (narrowed : Method → Start NMethod) (op : ℕ) (id : MemberId) (named : Callee) (params ks ls : List Kind) (next : ℕ) (f : Frame) (outer : List Frame) (s : State) (g : NFrame) (others : List NFrame) (t : NState) → IsStaticCall by l narrowed (holder_of f) op id named params → Frames (let m = t.memory in m.heap) (reverse params ++ ks) ls f g → CallAgrees by l narrowed params ks next f outer s g others t (after_effect by (effects.Invoke op id) f outer s) (made (by_label l) (Invoke named) next g others t) }
-    ensures object_call { (by : Linked) (l : Named) (narrowed : Method → Start NMethod) (op : ℕ) (id : MemberId) (named : Callee) (within : Shape (List ℕ) → Bool) (params ks ls : List Kind) (next : ℕ) (f : Frame) (outer : List Frame) (s : State) (g : NFrame) (others : List NFrame) (t : NState) → IsObjectCall by l narrowed (holder_of f) op id named within params → Stores l s.store t.memory → Frames (let m = t.memory in m.heap) (reverse (Refers within ∷ params) ++ ks) ls f g → CallAgrees by l narrowed (Refers within ∷ params) ks next f outer s g others t (after_effect by (effects.Invoke op id) f outer s) (made (by_label l) (Invoke named) next g others t) }
+    ensures static_call { (by : Linked) (l : Named) (narrowed : Method → Start NMethod) (op : ℕ) (id : MemberId) (named : Callee) (params ks ls : List Kind) (next : ℕ) (f : Frame) (outer : List Frame) (s : State) (g : NFrame) (others : List NFrame) (t : NState) → (call : IsStaticCall by l narrowed (holder_of f) op id named params) → Frames (let m = t.memory in m.heap) (reverse params ++ ks) ls f g → CallAgrees by l narrowed (λ m. call.callee ≡ m) params ks next f outer s g others t (after_effect by (effects.Invoke op id) f outer s) (made (by_label l) (Invoke named) next g others t) }
+    ensures object_call { (by : Linked) (l : Named) (narrowed : Method → Start NMethod) (op : ℕ) (id : MemberId) (named : Callee) (within : Shape (List ℕ) → Bool) (params ks ls : List Kind) (next : ℕ) (f : Frame) (outer : List Frame) (s : State) (g : NFrame) (others : List NFrame) (t : NState) → (call : IsObjectCall by l narrowed (holder_of f) op id named within params) → Stores l s.store t.memory → Frames (let m = t.memory in m.heap) (reverse (Refers within ∷ params) ++ ks) ls f g → CallAgrees by l narrowed (MaySelect l narrowed call.selected named (length (Refers within ∷ params)) within call.selects) (Refers within ∷ params) ks next f outer s g others t (after_effect by (effects.Invoke op id) f outer s) (made (by_label l) (Invoke named) next g others t) }
 {}
 
 /// A call of an imported method is noted alike, with the same values, and answered alike: the script's acts change both heaps in the
@@ -289,4 +291,11 @@ pub fn wider_kinds_hold()
 /// narrow run of n is not Running, the run by name of at least 65,536 (n + 1) ends alike; and neither is ever stuck.
 pub fn whole_runs_agree()
     ensures { (by : Linked) (l : Named) (table : Table) → IsFine by l table → (script : Script) → Agree 2 (λ n. run by script n) (λ n. narrow_run l script n) }
+{}
+
+/// A call of a method of the package keeps its rule, where each method that it may reach begins with what is known of the arguments,
+/// and gives what its caller goes on with.
+pub fn calls_keep_rules()
+    ensures static_call { (by : Linked) (l : Named) (table : Table) → ((fault : Fault) → IsRaised l fault) → ((fault : Fault) → table.may_throw (OfClass (exception_class fault)) ≡ true) → (m : Method) (at : ℕ) (p : Point) (i : JInsn) (op : ℕ) (id : MemberId) (named : Callee) (params : List Kind) → (facts : CallsInside by l table m at p i op id named params) → (call : IsStaticCall by l table.narrowed (class_of_code m) op id named params) → MayBeCalled table m at params facts.ks p.locals call.callee → Rule by l table m at p i }
+    ensures object_call { (by : Linked) (l : Named) (table : Table) → ((fault : Fault) → IsRaised l fault) → ((fault : Fault) → table.may_throw (OfClass (exception_class fault)) ≡ true) → (m : Method) (at : ℕ) (p : Point) (i : JInsn) (op : ℕ) (id : MemberId) (named : Callee) (within : Shape (List ℕ) → Bool) (params : List Kind) → (facts : CallsInside by l table m at p i op id named (Refers within ∷ params)) → (call : IsObjectCall by l table.narrowed (class_of_code m) op id named within params) → ((kind : Shape (List ℕ)) (is : within kind ≡ true) → let h = call.selects kind is in MayBeCalled table m at (Refers within ∷ params) facts.ks p.locals h.callee) → Rule by l table m at p i }
 {}

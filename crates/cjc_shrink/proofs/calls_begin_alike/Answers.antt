@@ -1,8 +1,13 @@
+use Rattle.std.proofs.Common.{◌≡◌, refl, length, ◌∷◌}
+use Rattle.cjc_shrink.specs.Relation.{Refers}
+use Rattle.cjc_shrink.specs.Calls.{MaySelect}
 use Rattle.cjc_shrink.proofs.Begins.{static_call, object_call}
 use Rattle.cjc_shrink.proofs.calls_begin_alike.Goals as goal
 
 pub returns-clause-static_call : goal.returns-clause-static_call
-returns-clause-static_call c = static_call
+returns-clause-static_call c by l narrowed op id named params ks ls next f outer s g others t call agree =
+    static_call by l narrowed (λ m. call.callee ≡ m) op id named params ks ls next f outer s g others t call refl agree
 
 pub returns-clause-object_call : goal.returns-clause-object_call
-returns-clause-object_call c = object_call
+returns-clause-object_call c by l narrowed op id named within params ks ls next f outer s g others t call stores agree =
+    object_call by l narrowed (MaySelect l narrowed call.selected named (length (Refers within ∷ params)) within call.selects) op id named within params ks ls next f outer s g others t call (λ kind is. (kind, (is, refl))) stores agree

@@ -1,0 +1,32 @@
+-- What is asked of a call of the package's methods, and of each that it may reach, so that whole runs agree through it.
+use Rattle.std.specs.Prelude.{◌≡◌, ℕ, ◌+◌, List, [], ◌++◌, Option, Some, reverse, slice_get}
+use Rattle.cjc_bytes.specs.declared.fault.MemberId.{MemberId}
+use Rattle.cjc_code.specs.declared.insn.JInsn.{JInsn}
+use Rattle.cjc_code.specs.declared.insn.JOp.TheVariants as jop
+use Rattle.cjc_script.specs.declared.value.Value.{Value}
+use Rattle.cjc_ncode.specs.declared.narrow.NInsn.{NInsn}
+use Rattle.cjc_ncode.specs.ByLabel.{Callee, Named}
+use Rattle.cjc_by_name.specs.Linked.{Method, Linked}
+use Rattle.cjc_by_name.specs.Effects.{Store}
+use Rattle.cjc_shrink.specs.Relation.{Kind, NMemory}
+use Rattle.cjc_shrink.specs.Rows.{HasRoom}
+use Rattle.cjc_shrink.specs.Calls.{first_locals}
+use Rattle.cjc_shrink.specs.Callees.{Invokes}
+use Rattle.cjc_shrink.specs.Tables.{Point, Table, code_of, spot, Arrives, Catches}
+
+-- A call at a place, with arguments of these kinds, the receiver among them, on top of cells that stay; what is written calls what is
+-- named.
+pub record CallsInside (by : Linked) (l : Named) (tb : Table) (m : Method) (at : ℕ) (p : Point) (i : JInsn) (op : ℕ) (id : MemberId) (named : Callee) (params : List Kind) : Type 0 where
+  pub ks : List Kind
+  pub insn : NInsn
+  pub is_call : i.op ≡ jop.Call op id
+  pub stack : p.stack ≡ reverse params ++ ks
+  pub is_written : slice_get (let code = code_of tb m in code.insns) (spot tb m at) ≡ Some insn
+  pub is_named : (room next : ℕ) (vs ws : List Value) (locals words : List (Option Value)) (store : Store) (memory : NMemory) → Invokes by l m op id named insn room at next vs ws locals words store memory
+  pub catches : Catches by l tb m at p.locals
+
+-- A method that a call reaches begins with what is known of the arguments, and gives what its caller goes on with.
+pub record MayBeCalled (tb : Table) (m : Method) (at : ℕ) (params ks ls : List Kind) (callee : Method) : Type 0 where
+  pub enters : Arrives tb callee 0 (let start = tb.narrowed callee in start.at) [] (first_locals callee params)
+  pub resumes : Arrives tb m (at + 1) (spot tb m at + 1) (tb.results callee ++ ks) ls
+  pub has_room : HasRoom (tb.results callee ++ ks) m.max_stack (let code = code_of tb m in code.max_stack)
