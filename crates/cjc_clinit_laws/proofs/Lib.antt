@@ -1,1 +1,4 @@
 pub mod Statements
+pub mod Places
+pub mod Initialisers
+pub mod Packages

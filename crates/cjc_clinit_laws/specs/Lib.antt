@@ -1,1 +1,3 @@
 pub mod Statements
+pub mod Initialisers
+pub mod Packages

@@ -2,15 +2,25 @@
 //! laws alone: nothing here runs.
 #![tactic(auto)]
 
-ghost use Rattle.std.specs.Prelude.{◌≡◌, ◌≤◌, ℕ, List, [], ◌∷◌, ◌++◌, length, true, Option, Some};
+ghost use Rattle.std.specs.Prelude.{◌≡◌, ◌≤◌, ℕ, List, [], ◌∷◌, ◌++◌, length, map, slice_get, true, Option, Some};
 ghost use Rattle.cjc_bytes.specs.declared.fault.MemberId.{MemberId};
+ghost use Rattle.cjc_classfile.specs.declared.tree.ClassTree.{ClassTree};
 ghost use Rattle.cjc_code.specs.declared.insn.JOp.{JOp};
 ghost use Rattle.cjc_code.specs.declared.insn.JOp.TheVariants as jop;
 ghost use Rattle.cjc_script.specs.declared.value.Value.{Value};
+ghost use Rattle.cjc_world.specs.declared.image.StaticImage.{StaticImage};
+ghost use Rattle.cjc_world.specs.Files.{Files};
+ghost use Rattle.cjc_by_name.specs.ByName.{linked};
 ghost use Rattle.cjc_by_name.specs.Effects.{Store, is_same_kind, value_in};
 ghost use Rattle.cjc_by_name.specs.Linked.{Linked, Method, Static};
+ghost use Rattle.cjc_clinit.specs.declared.stage.Held.{Held as Content};
 ghost use Rattle.cjc_clinit.specs.Fields.{Contents};
-ghost use Rattle.cjc_clinit.specs.Initialiser.{Makes};
+ghost use Rattle.cjc_clinit.specs.Initialiser.{Initialises, Makes, Put, ops_of};
+ghost use Rattle.cjc_code.specs.declared.method_code.MethodCode.{MethodCode};
+ghost use Rattle.cjc_by_name.specs.OnePackage.{static_array};
+ghost use Rattle.cjc_clinit.specs.Image.{IsImage};
+ghost use Rattle.cjc_clinit_laws.specs.Packages.{AllHaveCells, AllReturn, HaveRoom, HaveTypes, first_store};
+ghost use Rattle.cjc_clinit_laws.specs.Initialisers.{HasCells, Returns, store_after};
 ghost use Rattle.cjc_clinit_laws.specs.Statements.{Reaches, ops_from, store_with, value_by};
 
 /// For every record of look-ups: from the first instruction of a statement, with an empty stack, the machine by name comes behind
@@ -21,4 +31,22 @@ pub fn statements_run()
         → 4 ≤ m.max_stack → Makes made contents → ops_from m at ≡ made ++ (jop.Static true id ∷ ops) → l.field (let here = m.id in here.class) id ≡ Some (Static field)
         → value_in store.statics field ≡ Some old → is_same_kind old (value_by (length store.heap) contents) ≡ true
         → (later : ℕ) × Reaches l m locals at [] store later [] (store_with store field contents) × (ops_from m later ≡ ops) }
+{}
+
+/// For the look-ups of one package: the machine by name, at the first instruction of an initialiser by its grammar, comes to the
+/// return, with each array that it makes behind the earlier ones in the heap and each field holding what is put into it, where
+/// the class's static fields have cells of their kinds and the method has room for four operands. The cells of every
+/// class keep their kinds.
+pub fn initialisers_run()
+    ensures { (files : Files) (image : StaticImage) (number : ℕ) (c : ClassTree) (m : Method) (locals : List (Option Value)) (before after : List Content) (puts : List Put) (store : Store)
+        → slice_get files.classes number ≡ Some c → (let here = m.id in here.class) ≡ c.name → 4 ≤ m.max_stack → Initialises files number c before (ops_of m.insns) puts after → HasCells c store.statics
+        → Returns (linked files image) m locals 0 store (store_after c store puts) × ((d : ClassTree) → HasCells d store.statics → HasCells d (let later = store_after c store puts in later.statics)) }
+{}
+
+/// For each package whose initialisers are of the form: the machine by name, started without arrays and with each static field at
+/// its ConstantValue, 0 or null, runs each initialiser to its return, one after the other, and the heap is then the static image's
+/// arrays in their order. Each static field still has its cell, of its kind.
+pub fn packages_run()
+    ensures { (files : Files) (image : StaticImage) (codes : List MethodCode) → HaveTypes files → HaveRoom files codes → IsImage files codes image
+        → (later : Store) × AllReturn files (linked files image) (first_store files.classes) codes later × (later.heap ≡ map static_array image.arrays) × AllHaveCells files later.statics }
 {}
