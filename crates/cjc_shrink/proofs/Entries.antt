@@ -8,6 +8,7 @@ use Rattle.cjc_range.specs.Span.{span}
 use Rattle.cjc_script.specs.declared.value.Value.{Value}
 use Rattle.cjc_script.specs.declared.value.Value.TheVariants.{Num, Null, Obj}
 use Rattle.cjc_script.specs.declared.script.Entry.{Entry}
+use Rattle.cjc_script.specs.declared.report.Note.{Note}
 use Rattle.cjc_script.specs.declared.report.Thing.{Thing}
 use Rattle.cjc_script.specs.Sorts.{Shape, Sort, Boolean, Byte, Short, Int, Reference, NoValue, Signature, shape_name, signature_of, fits, all_fit, lies_in}
 use Rattle.cjc_bytecode.specs.Runs.{Move}
@@ -28,7 +29,7 @@ use Rattle.cjc_shrink.specs.Calls.{NState, NTurn, Frames, first_locals, IsNarrow
 use Rattle.cjc_shrink.specs.Throws.{nheap}
 use Rattle.cjc_shrink.specs.Acts.{ActsAlike}
 use Rattle.cjc_shrink.specs.Replies.{StatesAgree, AsksAlike}
-use Rattle.cjc_shrink.specs.Entries.{kinds_of, AreGiven, no_parameter, a_parameter, IsEntry, entry_kinds, EntryAgrees, begins, unfit}
+use Rattle.cjc_shrink.specs.Entries.{is_called, is_sent, kinds_of, AreGiven, no_parameter, a_parameter, IsEntry, entry_kinds, EntryAgrees, begins, unfit}
 use Rattle.cjc_shrink.proofs.Begins.{type_shown, frames_begin}
 use Rattle.cjc_shrink.proofs.Replies.{acts_both, value_told, both_so, held_if, object_agrees}
 
@@ -102,9 +103,9 @@ kinds_long l (type ∷ types) = ap suc (kinds_long l types)
 
 -- ---- an entry
 
-module _ (by : Linked) (l : Named) (narrowed : Method → Start NMethod) (types : Signature) (within : Shape (List ℕ) → Bool) (e : Entry) (entries : List Entry) (is : IsEntry by l narrowed e.method types within) (s : State) (t : NState) (agree : StatesAgree l s t) where
+module _ (by : Linked) (l : Named) (narrowed : Method → Start NMethod) (types : Signature) (within : Shape (List ℕ) → Bool) (e : Entry) (entries : List Entry) (is : IsEntry by l narrowed e.method types within) (s : State) (t : NState) (agree : StatesAgree l s t) (notes : List Note) (noted : t.notes ≡ notes) where
   abbrev Meets : Bool → Move State → NTurn → Type 0
-  Meets on = EntryAgrees l narrowed (entry_kinds on l within types) e entries
+  Meets on = EntryAgrees by l narrowed (entry_kinds on l within types) e entries notes
 
   -- the state where the script goes on behind the entry
   behind : StatesAgree l (record s { entries = entries }) (record t { entries = entries })
@@ -119,7 +120,7 @@ module _ (by : Linked) (l : Named) (narrowed : Method → Start NMethod) (types 
       let h = all_given by l (nheap t) types.params e.args is.given fit in
       let size : length types.params ≡ length (kinds_of l types.params) = sym (kinds_long l types.params) in
       subst (λ o. Meets false (entry_begins by (Some m) true e entries s) (narrow.entered_by (by_label l) (Some (narrowed m)) o e entries t)) (sym h.words)
-      (begins s t m e.args behind (frames_begin (nheap t) narrowed (kinds_of l types.params) (kinds_plain is.given) (subst (λ n. IsNarrowed narrowed n m) size (is.called_narrowed m found)) h.agree))
+      (begins s t m e.args (is_called found) noted behind (frames_begin (nheap t) narrowed (kinds_of l types.params) (kinds_plain is.given) (subst (λ n. IsNarrowed narrowed n m) size (is.called_narrowed m found)) h.agree))
 
   -- a method that is selected on an array or object
   selected_both : (k : ℕ) (args : List Value) → e.args ≡ Obj k ∷ args → (thing : HeapObject (List ℕ) MemberId) → slice_get (nheap t) k ≡ Some thing → (o : Option Method) → by.sent (shape_name (shape thing)) e.method ≡ o → (b : Bool) → all_fit (narrow.object_fits (by_label l) (nheap t)) types.params args ≡ b
@@ -130,7 +131,7 @@ module _ (by : Linked) (l : Named) (narrowed : Method → Start NMethod) (types 
       let h = all_given by l (nheap t) types.params args is.given fit in
       let params = Refers within ∷ kinds_of l types.params in
       subst (λ o. Meets true (entry_begins by (Some m) true e entries s) (narrow.entered_by (by_label l) (Some (narrowed m)) o e entries t)) (sym (ap (first_and (Obj k)) h.words))
-      (begins s t m (Obj k ∷ args) behind
+      (begins s t m (Obj k ∷ args) (is_sent (shape thing) found) noted behind
       (subst (λ values. Frames (nheap t) [] (first_locals m params) (frame_for_call m values) (narrow.entered (narrowed m) (Obj k ∷ args))) (sym same)
       (frames_begin (nheap t) narrowed params (both_reference (kinds_plain is.given)) (is.sent_narrowed (shape thing) m found) (cell (object thing there (is.receives (shape thing) m found)) h.agree))))
 
@@ -178,9 +179,9 @@ module _ (by : Linked) (l : Named) (narrowed : Method → Start NMethod) (types 
 
 -- an entry, where no frame is active
 pub entry_begun : (by : Linked) (l : Named) (narrowed : Method → Start NMethod) (types : Signature) (within : Shape (List ℕ) → Bool) (e : Entry) (entries : List Entry) → ActsAlike by l → IsEntry by l narrowed e.method types within → (s : State) (t : NState) → StatesAgree l s t
-    → EntryAgrees l narrowed (entry_kinds e.virtual_call l within types) e entries (named.begins by [] (e ∷ entries) s) (narrow.begins (by_label l) [] (e ∷ entries) t)
+    → EntryAgrees by l narrowed (entry_kinds e.virtual_call l within types) e entries t.notes (named.begins by [] (e ∷ entries) s) (narrow.begins (by_label l) [] (e ∷ entries) t)
 entry_begun by l narrowed types within e entries alike is s t agree =
-    acts_both by l alike e.number (EntryAgrees l narrowed (entry_kinds e.virtual_call l within types) e entries)
+    acts_both by l alike e.number (EntryAgrees by l narrowed (entry_kinds e.virtual_call l within types) e entries t.notes)
     (λ u. entry_begins by (entry_method by (heap_of u) e) (args_fit by (heap_of u) e (signature_of (let m = e.method in m.desc))) e entries u)
     (λ v. narrow.entered_by (by_label l) (narrow.entry_start (by_label l) (nheap v) e) (narrow.entry_words (by_label l) (nheap v) e) e entries v) e.acts s t agree
-    (λ u v states. unfit states) (λ u v states keeps. entry_both by l narrowed types within e entries is u v states)
+    (λ u v states. unfit states) (λ u v states keeps noted. entry_both by l narrowed types within e entries is u v states t.notes noted)

@@ -51,12 +51,12 @@ keeps_through a b c first second k thing is =
 module _ (by : Linked) (l : Named) (alike : ActsAlike by l) (number : ℕ) (Meets : Move State → NTurn → Type 0) (go : State → Move State) (go' : NState → NTurn) where
   -- what follows acts that are done
   abbrev Follows : NState → Type 0
-  Follows t = (u : State) (v : NState) → StatesAgree l u v → Keeps (nheap t) (nheap v) → Meets (go u) (go' v)
+  Follows t = (u : State) (v : NState) → StatesAgree l u v → Keeps (nheap t) (nheap v) → v.notes ≡ t.notes → Meets (go u) (go' v)
 
   abbrev Unfits : Type 0
   Unfits = (u : State) (v : NState) → StatesAgree l u v → Meets (Over (report (Unfit number) u)) (Ended (Unfit number) v)
 
-  one_act : (s : State) (t : NState) → StatesAgree l s t → Unfits → (rest : State → Move State) (rest' : NState → NTurn) → ((u : State) (v : NState) → StatesAgree l u v → Keeps (nheap t) (nheap v) → Meets (rest u) (rest' v))
+  one_act : (s : State) (t : NState) → StatesAgree l s t → Unfits → (rest : State → Move State) (rest' : NState → NTurn) → ((u : State) (v : NState) → StatesAgree l u v → Keeps (nheap t) (nheap v) → v.notes ≡ t.notes → Meets (rest u) (rest' v))
       → (o : Option (List Thing)) (o' : Option Heap) → SameHeaps l (nheap t) o o' → Meets (after_act by o number s rest) (narrow.prepared_by (by_label l) o' number t rest')
   one_act s t agree unfits rest rest' more _ _ unfit = unfits s t agree
   one_act s t agree unfits rest rest' more _ _ (changed {after = after} keeps fits) =
@@ -67,15 +67,15 @@ module _ (by : Linked) (l : Named) (alike : ActsAlike by l) (number : ℕ) (Meet
         entries = agree.entries;
         answers = agree.answers;
         notes = agree.notes;
-      }) keeps
+      }) keeps refl
 
   pub acts_both : (acts : List Act) (s : State) (t : NState) → StatesAgree l s t → Unfits → Follows t → Meets (after_acts by acts number s go) (narrow.prepared (by_label l) acts number t go')
-  acts_both [] s t agree unfits follows = follows s t agree (keeps_itself (nheap t))
+  acts_both [] s t agree unfits follows = follows s t agree (keeps_itself (nheap t)) refl
   acts_both (a ∷ acts) s t agree unfits follows =
       let stores = agree.stores in
       subst (λ heap. Meets (after_act by (heap_after_act by a heap) number s (λ u. after_acts by acts number u go)) (narrow.prepared (by_label l) (a ∷ acts) number t go')) (sym stores.heap)
       (one_act s t agree unfits (λ u. after_acts by acts number u go) (λ v. narrow.prepared (by_label l) acts number v go')
-      (λ u v states keeps. acts_both acts u v states unfits (λ u' v' states' keeps'. follows u' v' states' (keeps_through (nheap t) (nheap v) (nheap v') keeps keeps')))
+      (λ u v states keeps noted. acts_both acts u v states unfits (λ u' v' states' keeps' noted'. follows u' v' states' (keeps_through (nheap t) (nheap v) (nheap v') keeps keeps') (noted' ∙ noted)))
       (heap_after_act by a (map (shown l) (nheap t))) (narrow.acted (by_label l) a (nheap t)) (alike a (nheap t) stores.heap_fits))
 
 -- ---- what fits a result
@@ -206,5 +206,5 @@ module _ (by : Linked) (l : Named) (result : Option Sort) (word : (sort : Sort) 
       acts_both by l alike.acts a.number Meets (λ u. after_reply by a.reply a.number result f outer u) (λ v. narrow.replied (by_label l) a.reply a.number result g others v) a.acts (record s { answers = answers }) (record t { answers = answers })
       (record { stores = agree.stores; entries = agree.entries; answers = refl; notes = agree.notes })
       (λ u v states. ends (Unfit a.number) states)
-      (λ u v states keeps. reply_both a.reply a.number u v states (locals_kept keeps held) (stacks_kept keeps rest)
+      (λ u v states keeps noted. reply_both a.reply a.number u v states (locals_kept keeps held) (stacks_kept keeps rest)
       (record { acts = alike.acts; throws = alike.throws; handle = λ class may. handle_kept keeps (alike.handle class may) }))

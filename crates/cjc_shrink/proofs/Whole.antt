@@ -219,7 +219,7 @@ module _ (by : Linked) (l : Named) (tb : Table) where
 
   -- ---- reports
 
-  report_alike : (o : Outcome) (s : State) (t : NState) → StatesAgree l s t → Alike (narrow.report (by_label l) o t) (named.report o s)
+  pub report_alike : (o : Outcome) (s : State) (t : NState) → StatesAgree l s t → Alike (narrow.report (by_label l) o t) (named.report o s)
   unfolding by_label
   report_alike o s t same =
       let stores = same.stores in

@@ -3,6 +3,7 @@ use Rattle.std.specs.Prelude.{◌≡◌, ℕ, List, [], ◌∷◌, length, map, 
 use Rattle.cjc_bytes.specs.declared.fault.MemberId.{MemberId}
 use Rattle.cjc_script.specs.declared.value.Value.{Value}
 use Rattle.cjc_script.specs.declared.script.Entry.{Entry}
+use Rattle.cjc_script.specs.declared.report.Note.{Note}
 use Rattle.cjc_script.specs.declared.report.Outcome.TheVariants.{Unfit}
 use Rattle.cjc_script.specs.Sorts.{Shape, Sort, Reference, Signature, shape_name, signature_of}
 use Rattle.cjc_bytecode.specs.Runs.{Move, On, Over}
@@ -42,9 +43,14 @@ abbrev pub entry_kinds : (virtual_call : Bool) → Named → (within : Shape (Li
 entry_kinds true l within types = Refers within ∷ kinds_of l types.params
 entry_kinds false l within types = kinds_of l types.params
 
--- Both machines begin the entry's method after the same acts, with arguments that agree; or both are over, since an act, the method
--- or an argument does not fit.
-pub data EntryAgrees (l : Named) (narrowed : Method → Start NMethod) (params : List Kind) (e : Entry) (entries : List Entry) : Move State → NTurn → Type 0 where
-  begins : (s : State) (t : NState) (m : Method) (words : List Value) → StatesAgree l (record s { entries = entries }) (record t { entries = entries }) → Frames (nheap t) [] (first_locals m params) (frame_for_call m e.args) (narrow.entered (narrowed m) words)
-      → EntryAgrees l narrowed params e entries (On (record s { frames = frame_for_call m e.args ∷ []; entries = entries })) (Next (record t { frames = narrow.entered (narrowed m) words ∷ []; entries = entries }))
-  unfit : {s : State} {t : NState} → StatesAgree l s t → EntryAgrees l narrowed params e entries (Over (report (Unfit e.number) s)) (Ended (Unfit e.number) t)
+-- the methods that a member may stand for, where a script calls or sends it
+pub data MayEnter (by : Linked) (id : MemberId) : Method → Type 0 where
+  is_called : {m : Method} → by.entry id ≡ Some m → MayEnter by id m
+  is_sent : {m : Method} (kind : Shape (List ℕ)) → by.sent (shape_name kind) id ≡ Some m → MayEnter by id m
+
+-- Both machines begin a method that the entry's member stands for, after the same acts and with these notes, with arguments that agree;
+-- or both are over, since an act, the method or an argument does not fit.
+pub data EntryAgrees (by : Linked) (l : Named) (narrowed : Method → Start NMethod) (params : List Kind) (e : Entry) (entries : List Entry) (notes : List Note) : Move State → NTurn → Type 0 where
+  begins : (s : State) (t : NState) (m : Method) (words : List Value) → MayEnter by e.method m → t.notes ≡ notes → StatesAgree l (record s { entries = entries }) (record t { entries = entries }) → Frames (nheap t) [] (first_locals m params) (frame_for_call m e.args) (narrow.entered (narrowed m) words)
+      → EntryAgrees by l narrowed params e entries notes (On (record s { frames = frame_for_call m e.args ∷ []; entries = entries })) (Next (record t { frames = narrow.entered (narrowed m) words ∷ []; entries = entries }))
+  unfit : {s : State} {t : NState} → StatesAgree l s t → EntryAgrees by l narrowed params e entries notes (Over (report (Unfit e.number) s)) (Ended (Unfit e.number) t)

@@ -12,6 +12,7 @@ use Rattle.cjc_shrink.specs.Relation.{Kind, NMemory}
 use Rattle.cjc_shrink.specs.Rows.{HasRoom}
 use Rattle.cjc_shrink.specs.Calls.{first_locals}
 use Rattle.cjc_shrink.specs.Callees.{Invokes}
+use Rattle.cjc_shrink.specs.Results.{AreShort}
 use Rattle.cjc_shrink.specs.Tables.{Point, Table, code_of, spot, Arrives, Catches}
 
 -- A call at a place, with arguments of these kinds, the receiver among them, on top of cells that stay; what is written calls what is
@@ -30,3 +31,8 @@ pub record MayBeCalled (tb : Table) (m : Method) (at : ℕ) (params ks ls : List
   pub enters : Arrives tb callee 0 (let start = tb.narrowed callee in start.at) [] (first_locals callee params)
   pub resumes : Arrives tb m (at + 1) (spot tb m at + 1) (tb.results callee ++ ks) ls
   pub has_room : HasRoom (tb.results callee ++ ks) m.max_stack (let code = code_of tb m in code.max_stack)
+
+-- A method that an entry stands for begins with what is known of the arguments, and its result is the same on both sides.
+pub record MayBegin (tb : Table) (params : List Kind) (m : Method) : Type 0 where
+  pub enters : Arrives tb m 0 (let start = tb.narrowed m in start.at) [] (first_locals m params)
+  pub short : AreShort (tb.results m)

@@ -39,14 +39,14 @@ ghost use Rattle.cjc_shrink.specs.Callees.{Names, CallIsWritten};
 ghost use Rattle.cjc_shrink.specs.Results.{Resumes, NotesResult, AreShort};
 ghost use Rattle.cjc_shrink.specs.Replies.{StatesAgree, result_kinds, IsStaticImport, IsObjectImport, AnswersAlike, ImportAgrees};
 ghost use Rattle.cjc_shrink.specs.Acts.{ActsAlike};
-ghost use Rattle.cjc_shrink.specs.Entries.{IsEntry, entry_kinds, EntryAgrees};
+ghost use Rattle.cjc_shrink.specs.Entries.{MayEnter, IsEntry, entry_kinds, EntryAgrees};
 ghost use Rattle.cjc_shrink.specs.Types.{TypesStay};
 ghost use Rattle.cjc_shrink.specs.Turns.{TurnAgrees};
 ghost use Rattle.cjc_shrink.specs.Paths.{JumpTurn, SilentTurn, TwoTurns, TurnsAre};
 ghost use Rattle.cjc_shrink.specs.Tosses.{ThrowTurn};
 ghost use Rattle.cjc_shrink.specs.Tables.{Point, Table, class_of_code};
-ghost use Rattle.cjc_shrink.specs.Runs.{Rule, IsFine};
-ghost use Rattle.cjc_shrink.specs.Reached.{CallsInside, MayBeCalled};
+ghost use Rattle.cjc_shrink.specs.Runs.{Rule, Begins, IsFine};
+ghost use Rattle.cjc_shrink.specs.Reached.{CallsInside, MayBeCalled, MayBegin};
 ghost use Rattle.cjc_shrink.specs.Throws.{nheap, HandleAlike, Unwinds, Raises, IsRaised};
 ghost use Rattle.cjc_shrink.specs.Calls.{NFrame, NState, Frames, CallAgrees, IsStaticCall, IsObjectCall, MaySelect, IsWrittenAt, HandlesAlike, CatchAgrees};
 
@@ -148,7 +148,7 @@ pub fn static_fields_are_met_alike()
 /// selected on the array or object that it sends to, with arguments that are the same on both sides; or an act, the method or an
 /// argument does not fit, and both runs are over. Its parameters are one word each, and one act changes both heaps alike.
 pub fn entries_begin_alike()
-    ensures { (by : Linked) (l : Named) (narrowed : Method → Start NMethod) (types : Signature) (within : Shape (List ℕ) → Bool) (e : Entry) (entries : List Entry) → ActsAlike by l → IsEntry by l narrowed e.method types within → (s : State) (t : NState) → StatesAgree l s t → EntryAgrees l narrowed (entry_kinds e.virtual_call l within types) e entries (begins by [] (e ∷ entries) s) (narrow_begins (by_label l) [] (e ∷ entries) t) }
+    ensures { (by : Linked) (l : Named) (narrowed : Method → Start NMethod) (types : Signature) (within : Shape (List ℕ) → Bool) (e : Entry) (entries : List Entry) → ActsAlike by l → IsEntry by l narrowed e.method types within → (s : State) (t : NState) → StatesAgree l s t → EntryAgrees by l narrowed (entry_kinds e.virtual_call l within types) e entries t.notes (begins by [] (e ∷ entries) s) (narrow_begins (by_label l) [] (e ∷ entries) t) }
 {}
 
 /// A call of a static method, and one on a receiver that each of its types selects a method of the package for: the method
@@ -298,4 +298,10 @@ pub fn whole_runs_agree()
 pub fn calls_keep_rules()
     ensures static_call { (by : Linked) (l : Named) (table : Table) → ((fault : Fault) → IsRaised l fault) → ((fault : Fault) → table.may_throw (OfClass (exception_class fault)) ≡ true) → (m : Method) (at : ℕ) (p : Point) (i : JInsn) (op : ℕ) (id : MemberId) (named : Callee) (params : List Kind) → (facts : CallsInside by l table m at p i op id named params) → (call : IsStaticCall by l table.narrowed (class_of_code m) op id named params) → MayBeCalled table m at params facts.ks p.locals call.callee → Rule by l table m at p i }
     ensures object_call { (by : Linked) (l : Named) (table : Table) → ((fault : Fault) → IsRaised l fault) → ((fault : Fault) → table.may_throw (OfClass (exception_class fault)) ≡ true) → (m : Method) (at : ℕ) (p : Point) (i : JInsn) (op : ℕ) (id : MemberId) (named : Callee) (within : Shape (List ℕ) → Bool) (params : List Kind) → (facts : CallsInside by l table m at p i op id named (Refers within ∷ params)) → (call : IsObjectCall by l table.narrowed (class_of_code m) op id named within params) → ((kind : Shape (List ℕ)) (is : within kind ≡ true) → let h = call.selects kind is in MayBeCalled table m at (Refers within ∷ params) facts.ks p.locals h.callee) → Rule by l table m at p i }
+{}
+
+/// An entry of a script begins as whole runs ask, where one act changes both heaps alike and each method that the entry may stand for
+/// begins with what is known of the arguments and has a result of 16 bits.
+pub fn entries_keep_rules()
+    ensures { (by : Linked) (l : Named) (table : Table) (types : Signature) (within : Shape (List ℕ) → Bool) (e : Entry) (entries : List Entry) → ActsAlike by l → IsEntry by l table.narrowed e.method types within → ((m : Method) → MayEnter by e.method m → MayBegin table (entry_kinds e.virtual_call l within types) m) → (s : State) (t : NState) → StatesAgree l s t → Begins by l table t.notes (begins by [] (e ∷ entries) s) (narrow_begins (by_label l) [] (e ∷ entries) t) }
 {}
