@@ -2,3 +2,4 @@ pub mod Statements
 pub mod Places
 pub mod Initialisers
 pub mod Packages
+pub mod Values

@@ -1,3 +1,4 @@
 pub mod Statements
 pub mod Initialisers
 pub mod Packages
+pub mod Values

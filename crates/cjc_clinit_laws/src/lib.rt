@@ -15,10 +15,12 @@ ghost use Rattle.cjc_by_name.specs.Effects.{Store, is_same_kind, value_in};
 ghost use Rattle.cjc_by_name.specs.Linked.{Linked, Method, Static};
 ghost use Rattle.cjc_clinit.specs.declared.stage.Held.{Held as Content};
 ghost use Rattle.cjc_clinit.specs.Fields.{Contents};
-ghost use Rattle.cjc_clinit.specs.Initialiser.{Initialises, Makes, Put, ops_of};
+ghost use Rattle.cjc_clinit.specs.Initialiser.{Initialises, Makes, Put, nothing_in, ops_of};
 ghost use Rattle.cjc_code.specs.declared.method_code.MethodCode.{MethodCode};
 ghost use Rattle.cjc_by_name.specs.OnePackage.{static_array};
-ghost use Rattle.cjc_clinit.specs.Image.{IsImage};
+ghost use Rattle.cjc_world.specs.declared.image.ArrayCell.{ArrayCell};
+ghost use Rattle.cjc_clinit.specs.Image.{AreInitialised, IsImage};
+ghost use Rattle.cjc_clinit_laws.specs.Values.{AllHold, AreApart, StandOnce};
 ghost use Rattle.cjc_clinit_laws.specs.Packages.{AllHaveCells, AllReturn, HaveRoom, HaveTypes, first_store};
 ghost use Rattle.cjc_clinit_laws.specs.Initialisers.{HasCells, Returns, store_after};
 ghost use Rattle.cjc_clinit_laws.specs.Statements.{Reaches, ops_from, store_with, value_by};
@@ -49,4 +51,13 @@ pub fn initialisers_run()
 pub fn packages_run()
     ensures { (files : Files) (image : StaticImage) (codes : List MethodCode) → HaveTypes files → HaveRoom files codes → IsImage files codes image
         → (later : Store) × AllReturn files (linked files image) (first_store files.classes) codes later × (later.heap ≡ map static_array image.arrays) × AllHaveCells files later.statics }
+{}
+
+/// Where further no two classes have one name, no two fields of a class one name and descriptor, and each class's initialiser stands
+/// once among the codes: after all initialisers each static field holds what was put into it, of which the static image is made:
+/// the number, null, or its own array among those in the heap, and where nothing was put its ConstantValue, 0 or null.
+pub fn values_run()
+    ensures { (files : Files) (image : StaticImage) (codes : List MethodCode) (arrays : List ArrayCell) (fields : List (List Content)) → HaveTypes files → HaveRoom files codes → StandOnce files codes → AreApart files
+        → AreInitialised files (map nothing_in files.classes) codes arrays fields
+        → (later : Store) × AllReturn files (linked files image) (first_store files.classes) codes later × (later.heap ≡ map static_array arrays) × AllHold files fields arrays later.statics }
 {}
