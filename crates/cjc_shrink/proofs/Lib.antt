@@ -33,3 +33,4 @@ pub mod Paths
 pub mod Tosses
 pub mod Whole
 pub mod Reached
+pub mod KeptRows

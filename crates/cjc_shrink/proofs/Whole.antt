@@ -155,7 +155,7 @@ module _ (by : Linked) (l : Named) (tb : Table) where
         by_option (Some target) is =
             let alike = meets.catches (shape thing) may in
             let h = alike.handles target is in
-            let high = alike.has_room in let high' = alike.narrow_has_room in
+            let high = h.has_room in let high' = h.narrow_has_room in
             let left_room : nat_lt 0 (room f) ≡ true = grind (arith, nat_tests) in
             let same_room : (let code = g.code in code.max_stack) ≡ (let code = code_of tb f.method in code.max_stack) = ap (λ code. code.max_stack) meets.code in
             let right_room : nat_lt 0 (let code = g.code in code.max_stack) ≡ true = grind (arith, nat_tests, same_room) in

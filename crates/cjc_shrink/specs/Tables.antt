@@ -58,11 +58,13 @@ pub record Arrives (tb : Table) (m : Method) (at next : ℕ) (ks ls : List Kind)
 
 -- ---- handlers
 
--- At a handler's target no more is known than that an exception of a type is alone on the stack.
+-- At a handler's target no more is known than that an exception of a type is alone on the stack, which has room for it.
 pub record Handles (tb : Table) (m : Method) (target : ℕ) (ls : List Kind) (kind : Shape (List ℕ)) : Type 0 where
   pub within : Shape (List ℕ) → Bool
   pub passes : within kind ≡ true
   pub arrives : Arrives tb m (place m.insns target) (written_place tb m target) (Refers within ∷ []) ls
+  pub has_room : 0 < m.max_stack
+  pub narrow_has_room : 0 < (let code = code_of tb m in code.max_stack)
 
 -- the class that holds a method's code
 abbrev pub class_of_code : Method → List ℕ
@@ -76,8 +78,6 @@ handler_at by m at kind = handler by (class_of_code m) m.catches (offset_at m at
 pub record CatchesAlike (by : Linked) (l : Named) (tb : Table) (m : Method) (at : ℕ) (ls : List Kind) (kind : Shape (List ℕ)) : Type 0 where
   pub found : labels.handler l (let code = code_of tb m in code.catches) (spot tb m at) kind ≡ option_map (written_place tb m) (handler_at by m at kind)
   pub handles : (target : ℕ) → handler_at by m at kind ≡ Some target → Handles tb m target ls kind
-  pub has_room : 0 < m.max_stack
-  pub narrow_has_room : 0 < (let code = code_of tb m in code.max_stack)
 
 -- each type that may be thrown
 abbrev pub Catches : Linked → Named → Table → Method → (at : ℕ) → List Kind → Type 0

@@ -3,6 +3,7 @@
 //! whoever proves that whole runs agree. It knows no tokens and no components, and not how a table was made.
 #![tactic(auto)]
 
+ghost use Rattle.std.specs.List.{Contains};
 ghost use Rattle.std.specs.Prelude.{◌≡◌, ◌<◌, ◌+◌, length, slice_set, ◌∷◌, [], ◌++◌, reverse, option_map, slice_get, Option, Some, false, true, Bool, List, ℕ, ℤ, pos};
 ghost use Rattle.cjc_bytes.specs.declared.fault.MemberId.{MemberId};
 ghost use Rattle.cjc_range.specs.Span.{Span, span, Holds, Within, IsWord, short_range};
@@ -22,10 +23,10 @@ ghost use Rattle.cjc_script.specs.declared.script.Script.{Script};
 ghost use Rattle.cjc_ncode.specs.declared.narrow.NInsn.{NInsn};
 ghost use Rattle.cjc_ncode.specs.declared.narrow.NInsn.TheVariants as insns;
 ghost use Rattle.cjc_ncode.specs.declared.narrow.NMethod.{NMethod};
-ghost use Rattle.cjc_ncode.specs.Written.{Resolution, place_in, catches_at};
+ghost use Rattle.cjc_ncode.specs.Written.{Resolution, written, place_in, catches_at};
 ghost use Rattle.cjc_ncode.specs.ByLabel.{Callee, Named, Resolved, by_label, classes, operation, handler as narrow_handler, run as narrow_run};
 ghost use Rattle.cjc_by_name.specs.Linked.{Method, Linked};
-ghost use Rattle.cjc_by_name.specs.Effects.{Fault, NullPointer, exception_class};
+ghost use Rattle.cjc_by_name.specs.Effects.{Fault, NullPointer, exception_class, Store, place};
 ghost use Rattle.cjc_by_name.specs.Effects as effects;
 ghost use Rattle.cjc_by_name.specs.Machine.{Frame, State, room, holder_of, handler, after_throw, after_effect, begins, step, run};
 ghost use Rattle.cjc_shrink.specs.Relation.{Kind, OnBoth, Range, Refers, boolean_range, Heap, NMemory, Stacks, Locals, AllWider, Stores};
@@ -44,8 +45,8 @@ ghost use Rattle.cjc_shrink.specs.Types.{TypesStay};
 ghost use Rattle.cjc_shrink.specs.Turns.{TurnAgrees};
 ghost use Rattle.cjc_shrink.specs.Paths.{JumpTurn, SilentTurn, TwoTurns, TurnsAre};
 ghost use Rattle.cjc_shrink.specs.Tosses.{ThrowTurn};
-ghost use Rattle.cjc_shrink.specs.Tables.{Point, Table, class_of_code};
-ghost use Rattle.cjc_shrink.specs.Runs.{Rule, Begins, IsFine};
+ghost use Rattle.cjc_shrink.specs.Tables.{Point, Table, class_of_code, code_of, written_place, spot, Arrives, Catches};
+ghost use Rattle.cjc_shrink.specs.Runs.{Falls, Rule, Begins, IsFine};
 ghost use Rattle.cjc_shrink.specs.Reached.{CallsInside, MayBeCalled, MayBegin};
 ghost use Rattle.cjc_shrink.specs.Throws.{nheap, HandleAlike, Unwinds, Raises, IsRaised};
 ghost use Rattle.cjc_shrink.specs.Calls.{NFrame, NState, Frames, CallAgrees, IsStaticCall, IsObjectCall, MaySelect, IsWrittenAt, HandlesAlike, CatchAgrees};
@@ -304,4 +305,15 @@ pub fn calls_keep_rules()
 /// begins with what is known of the arguments and has a result of 16 bits.
 pub fn entries_keep_rules()
     ensures { (by : Linked) (l : Named) (table : Table) (types : Signature) (within : Shape (List ℕ) → Bool) (e : Entry) (entries : List Entry) → ActsAlike by l → IsEntry by l table.narrowed e.method types within → ((m : Method) → MayEnter by e.method m → MayBegin table (entry_kinds e.virtual_call l within types) m) → (s : State) (t : NState) → StatesAgree l s t → Begins by l table t.notes (begins by [] (e ∷ entries) s) (narrow_begins (by_label l) [] (e ∷ entries) t) }
+{}
+
+/// A row, a jump, what is not written, a switch that is written as two instructions, and a return keep their rules, where they are
+/// written at their places and where both machines go on no more is known than they leave.
+pub fn rows_keep_rules()
+    ensures row { (by : Linked) (l : Named) (table : Table) (m : Method) (at : ℕ) (p : Point) (i : JInsn) (before after ks : List Kind) (insn : NInsn) → written (table.resolution m) (written_place table m) i.op ≡ insn ∷ [] → slice_get (let code = code_of table m in code.insns) (spot table m at) ≡ Some insn → RowAgrees by l (table.resolution m) m i.op before after → p.stack ≡ before ++ ks → HasRoom (after ++ ks) m.max_stack (let code = code_of table m in code.max_stack) → ((locals : List (Option Value)) (store : Store) (vs : List Value) (object : ℕ) → effects.effect by m at locals store i.op vs ≡ effects.Toss object → ⊥) → Arrives table m (at + 1) (spot table m at + 1) (after ++ ks) p.locals → Catches by l table m at p.locals → Rule by l table m at p i }
+    ensures on_locals { (by : Linked) (l : Named) (table : Table) (m : Method) (at : ℕ) (p : Point) (i : JInsn) (before after js ks : List Kind) (insn : NInsn) → written (table.resolution m) (written_place table m) i.op ≡ insn ∷ [] → slice_get (let code = code_of table m in code.insns) (spot table m at) ≡ Some insn → RowOnLocals by l (table.resolution m) m i.op before after p.locals js → p.stack ≡ before ++ ks → HasRoom (after ++ ks) m.max_stack (let code = code_of table m in code.max_stack) → ((locals : List (Option Value)) (store : Store) (vs : List Value) (object : ℕ) → effects.effect by m at locals store i.op vs ≡ effects.Toss object → ⊥) → Arrives table m (at + 1) (spot table m at + 1) (after ++ ks) js → Catches by l table m at p.locals → Rule by l table m at p i }
+    ensures jump { (by : Linked) (l : Named) (table : Table) (m : Method) (at : ℕ) (p : Point) (i : JInsn) (before ks : List Kind) (offsets : List ℕ) (insn : NInsn) → written (table.resolution m) (written_place table m) i.op ≡ insn ∷ [] → slice_get (let code = code_of table m in code.insns) (spot table m at) ≡ Some insn → JumpAgrees by l (table.resolution m) m i.op before offsets → p.stack ≡ before ++ ks → ((offset : ℕ) → Contains offsets offset → Arrives table m (place m.insns offset) (written_place table m offset) ks p.locals) → Falls by l table m at p i (spot table m at + 1) ks p.locals → Rule by l table m at p i }
+    ensures not_written { (by : Linked) (l : Named) (table : Table) (m : Method) (at : ℕ) (p : Point) (i : JInsn) (before after ks : List Kind) → IsNotWritten by (table.resolution m) m i.op before after → p.stack ≡ before ++ ks → Arrives table m (at + 1) (spot table m at) (after ++ ks) p.locals → at < 65534 → Rule by l table m at p i }
+    ensures two { (by : Linked) (l : Named) (table : Table) (m : Method) (at : ℕ) (p : Point) (i : JInsn) (before ks : List Kind) (offsets : List ℕ) (insn second : NInsn) → written (table.resolution m) (written_place table m) i.op ≡ insn ∷ second ∷ [] → slice_get (let code = code_of table m in code.insns) (spot table m at) ≡ Some insn → slice_get (let code = code_of table m in code.insns) (spot table m at + 1) ≡ Some second → TwoAgree by l (table.resolution m) m i.op before offsets → p.stack ≡ before ++ ks → ((offset : ℕ) → Contains offsets offset → Arrives table m (place m.insns offset) (written_place table m offset) ks p.locals) → Falls by l table m at p i (spot table m at + 1 + 1) ks p.locals → Rule by l table m at p i }
+    ensures returns { (by : Linked) (l : Named) (table : Table) (m : Method) (at : ℕ) (p : Point) (i : JInsn) (before ks : List Kind) (insn : NInsn) → written (table.resolution m) (written_place table m) i.op ≡ insn ∷ [] → slice_get (let code = code_of table m in code.insns) (spot table m at) ≡ Some insn → ReturnAgrees by l (table.resolution m) m i.op before → p.stack ≡ before ++ ks → AllWider before (table.results m) → Rule by l table m at p i }
 {}
