@@ -253,3 +253,45 @@ module _ (files : Files) (image : StaticImage) (apart : AreApart files) where
       roomy (first-cells files typed)
       (λ n d held at put. (let some : Some (nothing_in d) ≡ Some held = sym (slice_get-map nothing_in files.classes n ∙ ap (option_map nothing_in) at) ∙ put in
       let same : nothing_in d ≡ held = cc in subst (λ (q : List Held). HoldWhatIsPut d q [] (first_cells files.classes)) same (first-held files apart n d at)))
+
+-- ---- each field stands in the record of what was put
+
+length-set : {A : Type 0} (xs : List A) (k : ℕ) (x : A) → length (slice_set xs k x) ≡ length xs
+length-set [] k x = refl
+length-set (y ∷ xs) zero x = refl
+length-set (y ∷ xs) (suc k) x = ap suc (length-set xs k x)
+
+put-length : (files : Files) (number : ℕ) (c : ClassTree) (before after : List Held) (ops : List JOp) (ps : List Put) → Initialises files number c before ops ps after → length after ≡ length before
+put-length files number c before after ops ps ends = refl
+put-length files number c before after ops ps (puts {ops = more} {contents = contents} {k = k} {rest = rest} makes place next) = put-length files number c (slice_set before k (held_by contents)) after more rest next ∙ length-set before k (held_by contents)
+
+length-replicated : {A : Type 0} (n : ℕ) (x : A) → length (replicate n x) ≡ n
+length-replicated zero x = refl
+length-replicated (suc n) x = ap suc (length-replicated n x)
+
+-- each class has a list as long as its fields
+abbrev Full : Files → List (List Held) → Type 0
+Full files told = (n : ℕ) (c : ClassTree) → slice_get files.classes n ≡ Some c → (held : List Held) × (slice_get told n ≡ Some held) × (length held ≡ length c.fields)
+
+full-set : (files : Files) (before : List (List Held)) (k : ℕ) (c : ClassTree) (fields : List Held) → slice_get files.classes k ≡ Some c → length fields ≡ length c.fields → Full files before → Full files (slice_set before k fields)
+full-set files before k c fields at-c long full n d at = ⊎_elim same others (same-place k n)
+  where
+    same : k ≡ n → (held : List Held) × (slice_get (slice_set before k fields) n ≡ Some held) × (length held ≡ length d.fields)
+    same p =
+        let some : Some c ≡ Some d = sym at-c ∙ ap (slice_get files.classes) p ∙ at in
+        let is : c ≡ d = cc in
+        let old = full k c at-c in
+        (fields, ap (slice_get (slice_set before k fields)) (sym p) ∙ set-same before k fields old.0 old.1, long ∙ ap (λ (q : ClassTree). length q.fields) is)
+
+    others : (k ≡ n → ⊥) → (held : List Held) × (slice_get (slice_set before k fields) n ≡ Some held) × (length held ≡ length d.fields)
+    others differs = let old = full n d at in (old.0, set-other before k n fields differs ∙ old.1, old.2)
+
+full-after : (files : Files) (before after : List (List Held)) (codes : List MethodCode) (arrays : List ArrayCell) → AreInitialised files before codes arrays after → Full files before → Full files after
+full-after files before after codes arrays no_code full = full
+full-after files before after codes arrays (other_code {codes = rest} is more) full = full-after files _ after rest arrays more full
+full-after files before after codes arrays (one_code {code = code} {codes = rest} {arrays = others} c ps fields is does more) full =
+    full-after files _ after rest others more (full-set files before code.class c fields (class-there code.method (slice_get files.classes code.class) c is).0 (put-length files code.class c (nothing_in c) fields (ops_of code.insns) ps does ∙ length-replicated (length c.fields) held.Nothing) full)
+
+pub fields-told : (files : Files) (codes : List MethodCode) (arrays : List ArrayCell) (fields : List (List Held)) → AreInitialised files (map nothing_in files.classes) codes arrays fields → Full files fields
+fields-told files codes arrays fields is =
+    full-after files (map nothing_in files.classes) fields codes arrays is (λ n c at. (nothing_in c, slice_get-map nothing_in files.classes n ∙ ap (option_map nothing_in) at, length-replicated (length c.fields) held.Nothing))

@@ -61,3 +61,9 @@ pub fn values_run()
         → AreInitialised files (map nothing_in files.classes) codes arrays fields
         → (later : Store) × AllReturn files (linked files image) (first_store files.classes) codes later × (later.heap ≡ map static_array arrays) × AllHold files fields arrays later.statics }
 {}
+
+/// What is put is told of each field of each class, so that `values_run` speaks of each static field.
+pub fn each_field_is_told()
+    ensures { (files : Files) (codes : List MethodCode) (arrays : List ArrayCell) (fields : List (List Content)) → AreInitialised files (map nothing_in files.classes) codes arrays fields
+        → (n : ℕ) (c : ClassTree) → slice_get files.classes n ≡ Some c → (told : List Content) × (slice_get fields n ≡ Some told) × (length told ≡ length c.fields) }
+{}
