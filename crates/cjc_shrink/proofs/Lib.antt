@@ -34,3 +34,4 @@ pub mod Tosses
 pub mod Whole
 pub mod Reached
 pub mod KeptRows
+pub mod KeptHandlers

@@ -45,7 +45,7 @@ ghost use Rattle.cjc_shrink.specs.Types.{TypesStay};
 ghost use Rattle.cjc_shrink.specs.Turns.{TurnAgrees};
 ghost use Rattle.cjc_shrink.specs.Paths.{JumpTurn, SilentTurn, TwoTurns, TurnsAre};
 ghost use Rattle.cjc_shrink.specs.Tosses.{ThrowTurn};
-ghost use Rattle.cjc_shrink.specs.Tables.{Point, Table, class_of_code, code_of, written_place, spot, Arrives, Catches};
+ghost use Rattle.cjc_shrink.specs.Tables.{Point, Table, class_of_code, code_of, written_place, offset_at, spot, Arrives, Handles, handler_at, CatchesAlike, Catches};
 ghost use Rattle.cjc_shrink.specs.Runs.{Falls, Rule, Begins, IsFine};
 ghost use Rattle.cjc_shrink.specs.Reached.{CallsInside, MayBeCalled, MayBegin};
 ghost use Rattle.cjc_shrink.specs.Throws.{nheap, HandleAlike, Unwinds, Raises, IsRaised};
@@ -316,4 +316,10 @@ pub fn rows_keep_rules()
     ensures not_written { (by : Linked) (l : Named) (table : Table) (m : Method) (at : ℕ) (p : Point) (i : JInsn) (before after ks : List Kind) → IsNotWritten by (table.resolution m) m i.op before after → p.stack ≡ before ++ ks → Arrives table m (at + 1) (spot table m at) (after ++ ks) p.locals → at < 65534 → Rule by l table m at p i }
     ensures two { (by : Linked) (l : Named) (table : Table) (m : Method) (at : ℕ) (p : Point) (i : JInsn) (before ks : List Kind) (offsets : List ℕ) (insn second : NInsn) → written (table.resolution m) (written_place table m) i.op ≡ insn ∷ second ∷ [] → slice_get (let code = code_of table m in code.insns) (spot table m at) ≡ Some insn → slice_get (let code = code_of table m in code.insns) (spot table m at + 1) ≡ Some second → TwoAgree by l (table.resolution m) m i.op before offsets → p.stack ≡ before ++ ks → ((offset : ℕ) → Contains offsets offset → Arrives table m (place m.insns offset) (written_place table m offset) ks p.locals) → Falls by l table m at p i (spot table m at + 1 + 1) ks p.locals → Rule by l table m at p i }
     ensures returns { (by : Linked) (l : Named) (table : Table) (m : Method) (at : ℕ) (p : Point) (i : JInsn) (before ks : List Kind) (insn : NInsn) → written (table.resolution m) (written_place table m) i.op ≡ insn ∷ [] → slice_get (let code = code_of table m in code.insns) (spot table m at) ≡ Some insn → ReturnAgrees by l (table.resolution m) m i.op before → p.stack ≡ before ++ ks → AllWider before (table.results m) → Rule by l table m at p i }
+{}
+
+/// Handlers are found alike at a place of a table, where they are those of the class file over what is written, classes are told alike,
+/// and something is written at the place.
+pub fn handlers_keep_rules()
+    ensures { (by : Linked) (l : Named) (table : Table) (m : Method) (at : ℕ) (ls : List Kind) (kind : Shape (List ℕ)) → (let code = code_of table m in code.catches) ≡ catches_at (written_place table m) m.catches → IsWrittenAt (table.resolution m) (table.reached m) (offset_at m at) (spot table m at) → ((class : List ℕ) → by.subtype (Some (class_of_code m)) (shape_name kind) class ≡ l.is_of kind (OfClass class)) → ((target : ℕ) → handler_at by m at kind ≡ Some target → Handles table m target ls kind) → CatchesAlike by l table m at ls kind }
 {}
