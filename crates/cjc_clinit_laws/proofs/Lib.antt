@@ -3,3 +3,4 @@ pub mod Places
 pub mod Initialisers
 pub mod Packages
 pub mod Values
+pub mod Cells

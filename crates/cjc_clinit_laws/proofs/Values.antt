@@ -127,6 +127,23 @@ own-put c fields arrays statics k f contents size is there cell unput apart hold
     others : (k ≡ j → ⊥) → (v : Value) × (value_in (values_with statics (field_id c.name f) (value_by size contents)) (field_id c.name e) ≡ Some v) × IsValue (arrays ++ array_in (field_id c.name f) contents) (field_id c.name e) e h v
     others differs = one-other c arrays statics (field_id c.name f) contents (value_by size contents) e h (λ q. differs (apart j e at q)) (holds j e h at cell-e (sym (set-other fields k j (held_by contents) differs) ∙ put))
 
+-- ---- the names of the cells
+
+abbrev pub names : List FieldValue → List MemberId
+names xs = map (λ (x : FieldValue). x.field) xs
+
+names-with : (xs : List FieldValue) (g : MemberId) (v : Value) → names (values_with xs g v) ≡ names xs
+names-with [] g v = refl
+names-with (x ∷ xs) g v = by (is_same_field x.field g) (names-with xs g v)
+  where
+    by : (b : Bool) → names (values_with xs g v) ≡ names xs → names (if b then record x { value = v } ∷ xs else x ∷ values_with xs g v) ≡ x.field ∷ names xs
+    by true rec = refl
+    by false rec = ap (λ q. x.field ∷ q) rec
+
+names-after : (c : ClassTree) (s : Store) (ps : List Put) → names (let t = store_after c s ps in t.statics) ≡ names s.statics
+names-after c s [] = refl
+names-after c s (p ∷ ps) = names-after c (store_with s (own_field c p.field) p.contents) ps ∙ names-with s.statics (own_field c p.field) (value_by (length s.heap) p.contents)
+
 -- ---- one initialiser
 
 module _ (files : Files) (image : StaticImage) (apart : AreApart files) (number : ℕ) (c : ClassTree) (at-c : slice_get files.classes number ≡ Some c) where
@@ -158,13 +175,13 @@ module _ (files : Files) (image : StaticImage) (apart : AreApart files) (number 
 -- ---- before any initialiser
 
 -- what a cell is of
-abbrev IsOf : List ClassTree → MemberId → Value → Type 0
+abbrev pub IsOf : List ClassTree → MemberId → Value → Type 0
 IsOf cs id v = (n : ℕ) × (c : ClassTree) × (k : ℕ) × (f : FieldTree) × (slice_get cs n ≡ Some c) × (slice_get c.fields k ≡ Some f) × (is_cell f ≡ true) × (field_id c.name f ≡ id) × (first_value f ≡ v)
 
-abbrev IsIn : (class : List ℕ) → List FieldTree → MemberId → Value → Type 0
+abbrev pub IsIn : (class : List ℕ) → List FieldTree → MemberId → Value → Type 0
 IsIn class fields id v = (k : ℕ) × (f : FieldTree) × (slice_get fields k ≡ Some f) × (is_cell f ≡ true) × (field_id class f ≡ id) × (first_value f ≡ v)
 
-of-class : (class : List ℕ) (fields : List FieldTree) (id : MemberId) (v : Value) → value_in (first_in class fields) id ≡ Some v → IsIn class fields id v
+pub of-class : (class : List ℕ) (fields : List FieldTree) (id : MemberId) (v : Value) → value_in (first_in class fields) id ≡ Some v → IsIn class fields id v
 of-class class [] id v e = absurd (cc)
 of-class class (f ∷ fs) id v e = by (is_cell f) refl e (of-class class fs id v)
   where
@@ -179,7 +196,7 @@ of-class class (f ∷ fs) id v e = by (is_cell f) refl e (of-class class fs id v
     by true is h rec = at (is_same_field (field_id class f) id) refl is h rec
     by false is h rec = further (rec h)
 
-of-classes : (cs : List ClassTree) (id : MemberId) (v : Value) → value_in (first_cells cs) id ≡ Some v → IsOf cs id v
+pub of-classes : (cs : List ClassTree) (id : MemberId) (v : Value) → value_in (first_cells cs) id ≡ Some v → IsOf cs id v
 of-classes [] id v e = absurd (cc)
 of-classes (c ∷ cs) id v e = ⊎_elim (λ p. let r = of-class c.name c.fields id v p in (0, c, r.0, r.1, refl, r.2, r.3, r.4, r.5)) (λ p. let r = of-classes cs id v p in (suc r.0, r.1, r.2, r.3, r.4, r.5, r.6, r.7, r.8)) (append-either (first_in c.name c.fields) (first_cells cs) id v e)
 
@@ -210,16 +227,17 @@ module _ (files : Files) (image : StaticImage) (apart : AreApart files) where
   abbrev Fresh : List (List Held) → List MethodCode → Type 0
   Fresh before codes = (i : ℕ) (code : MethodCode) (c : ClassTree) → slice_get codes i ≡ Some code → initialised files code ≡ Some c → slice_get before code.class ≡ Some (nothing_in c)
 
-  abbrev Outcome : Store → List MethodCode → List (List Held) → List ArrayCell → Type 0
-  Outcome s codes after arrays = (later : Store) × AllReturn files (linked files image) s codes later × (later.heap ≡ map static_array arrays) × AllHold files after arrays later.statics
+  -- besides what each field holds: the kinds of the cells and their names are as before
+  abbrev pub Outcome : Store → List MethodCode → List (List Held) → List ArrayCell → Type 0
+  Outcome s codes after arrays = (later : Store) × AllReturn files (linked files image) s codes later × (later.heap ≡ map static_array arrays) × AllHold files after arrays later.statics × AllHaveCells files later.statics × (names later.statics ≡ names s.statics)
 
   all-held : (before after : List (List Held)) (codes : List MethodCode) (arrays : List ArrayCell) → AreInitialised files before codes arrays after → (s : Store) (made : List ArrayCell) → s.heap ≡ map static_array made
       → StandOnce files codes → Fresh before codes → HaveRoom files codes → AllHaveCells files s.statics → AllHold files before made s.statics → Outcome s codes after (made ++ arrays)
   all-held before after codes arrays no_code s made heap once fresh roomy cells hold =
-      (s, none, heap ∙ ap (map static_array) (sym (append-nil made)), (λ n d fields at put. subst (λ q. HoldWhatIsPut d fields q s.statics) (sym (append-nil made)) (hold n d fields at put)))
+      (s, none, heap ∙ ap (map static_array) (sym (append-nil made)), (λ n d fields at put. subst (λ q. HoldWhatIsPut d fields q s.statics) (sym (append-nil made)) (hold n d fields at put)), cells, refl)
   all-held before after codes arrays (other_code {codes = rest} is more) s made heap once fresh roomy cells hold =
       let r = all-held _ after rest arrays more s made heap (λ i j a b c d p q x y same. (let z : suc i ≡ suc j = once (suc i) (suc j) a b c d p q x y same in cc)) (λ i code c there is. fresh (suc i) code c there is) (λ i code c m there. roomy (suc i) code c m there) cells hold in
-      (r.0, other is r.1, r.2, r.3)
+      (r.0, other is r.1, r.2, r.3, r.4, r.5)
   all-held before after codes arrays (one_code {code = code} {codes = rest} {arrays = others} c ps fields is does more) s made heap once fresh roomy cells hold =
       let t = class-there code.method (slice_get files.classes code.class) c is in
       let m = method_with c t.1 code in
@@ -244,7 +262,7 @@ module _ (files : Files) (image : StaticImage) (apart : AreApart files) where
       let r = all-held _ after rest others more mid new heap-mid (λ i j a b c d p q x y same. (let z : suc i ≡ suc j = once (suc i) (suc j) a b c d p q x y same in cc)) fresh-later (λ i code c m there. roomy (suc i) code c m there) (λ n d there. e.1 d (cells n d there)) hold-mid in
       let assoc : new ++ others ≡ made ++ (arrays_of c ps ++ others) = append_assoc made (arrays_of c ps) others in
       let end = r.0 in
-      (end, one c t.1 is t.2 e.0 r.1, r.2 ∙ ap (map static_array) assoc, (λ n d held at put. subst (λ q. HoldWhatIsPut d held q end.statics) assoc (r.3 n d held at put)))
+      (end, one c t.1 is t.2 e.0 r.1, r.2 ∙ ap (map static_array) assoc, (λ n d held at put. subst (λ q. HoldWhatIsPut d held q end.statics) assoc (r.3 n d held at put)), r.4, r.5 ∙ names-after c s ps)
 
   pub values-held : (codes : List MethodCode) (arrays : List ArrayCell) (fields : List (List Held)) → HaveTypes files → HaveRoom files codes → StandOnce files codes → AreInitialised files (map nothing_in files.classes) codes arrays fields → Outcome (first_store files.classes) codes fields arrays
   values-held codes arrays fields typed roomy once is =

@@ -17,7 +17,7 @@ ghost use Rattle.cjc_clinit.specs.declared.stage.Held.{Held as Content};
 ghost use Rattle.cjc_clinit.specs.Fields.{Contents};
 ghost use Rattle.cjc_clinit.specs.Initialiser.{Initialises, Makes, Put, nothing_in, ops_of};
 ghost use Rattle.cjc_code.specs.declared.method_code.MethodCode.{MethodCode};
-ghost use Rattle.cjc_by_name.specs.OnePackage.{static_array};
+ghost use Rattle.cjc_by_name.specs.OnePackage.{cells, static_array};
 ghost use Rattle.cjc_world.specs.declared.image.ArrayCell.{ArrayCell};
 ghost use Rattle.cjc_clinit.specs.Image.{AreInitialised, IsImage};
 ghost use Rattle.cjc_clinit_laws.specs.Values.{AllHold, AreApart, StandOnce};
@@ -60,6 +60,14 @@ pub fn values_run()
     ensures { (files : Files) (image : StaticImage) (codes : List MethodCode) (arrays : List ArrayCell) (fields : List (List Content)) → HaveTypes files → HaveRoom files codes → StandOnce files codes → AreApart files
         → AreInitialised files (map nothing_in files.classes) codes arrays fields
         → (later : Store) × AllReturn files (linked files image) (first_store files.classes) codes later × (later.heap ≡ map static_array arrays) × AllHold files fields arrays later.statics }
+{}
+
+/// Where further no two classes have one name, no two fields of a class one name and descriptor, and each class's initialiser stands
+/// once among the codes: after all initialisers the heap and the static cells are those with which the machine by name starts by
+/// the static image, the arrays in their order and the cells in the order of the classes and their fields.
+pub fn images_are_reached()
+    ensures { (files : Files) (image : StaticImage) (codes : List MethodCode) → HaveTypes files → HaveRoom files codes → StandOnce files codes → AreApart files → IsImage files codes image
+        → (later : Store) × AllReturn files (linked files image) (first_store files.classes) codes later × (later.heap ≡ map static_array image.arrays) × (later.statics ≡ cells image files.classes) }
 {}
 
 /// What is put is told of each field of each class, so that `values_run` speaks of each static field.
