@@ -1,5 +1,5 @@
 -- The machine by name at the code of one initialiser.
-use Rattle.std.proofs.Common.{◌≡◌, ◌∙◌, refl, sym, ap, subst, ℕ, ◌≤◌, List, [], ◌∷◌, length, Bool, true, false, ◌⊎◌, inl, inr, ⊎_elim}
+use Rattle.std.proofs.Common.{◌≡◌, ◌∙◌, refl, sym, ap, subst, ℕ, List, [], ◌∷◌, ◌++◌, length, Bool, true, false, ◌⊎◌, inl, inr, ⊎_elim}
 use Rattle.std.specs.Prelude.{◌==◌, ◌&&◌, if◌then◌else◌, Option, Some, None, slice_get, slice_set, ℤ, codes}
 use Rattle.std.specs.Str.{bytes_eq}
 use Rattle.cjc_bytes.specs.declared.fault.MemberId.{MemberId}
@@ -24,7 +24,7 @@ use Rattle.cjc_clinit.specs.Image.{field_id, own_field}
 use Rattle.cjc_clinit.specs.Initialiser.{return, open_place, Initialises, Makes, Put}
 use Rattle.cjc_clinit.specs.Initialiser.Initialises.{ends, puts}
 use Rattle.cjc_clinit.specs.Initialiser.Makes.{of_number, of_null, of_array}
-use Rattle.cjc_clinit_laws.specs.Statements.{Reaches, ops_from, store_with, value_by}
+use Rattle.cjc_clinit_laws.specs.Statements.{HaveRoomFor, Reaches, ops_from, store_with, value_by}
 use Rattle.cjc_clinit_laws.specs.Statements.Reaches.{here, goes}
 use Rattle.cjc_clinit_laws.specs.Initialisers.{HasCells, Returns, store_after}
 use Rattle.cjc_clinit_laws.proofs.Places.{and-true, place-field}
@@ -111,16 +111,22 @@ module _ (l : Linked) (m : Method) (locals : List (Option Value)) where
   onwards at stack before mid left between after later end here g = g
   onwards at stack before mid left between after later end (goes i e f r) g = goes i e f (onwards _ _ _ mid left between after later end r g)
 
-module _ (files : Files) (image : StaticImage) (number : ℕ) (c : ClassTree) (m : Method) (locals : List (Option Value)) (at-c : slice_get files.classes number ≡ Some c) (own : (let id = m.id in id.class) ≡ c.name) (roomy : 4 ≤ m.max_stack) where
+-- room for all is room for those in front and for those behind
+room-parts : (n : ℕ) (front back : List JOp) → HaveRoomFor n (front ++ back) → HaveRoomFor n front × HaveRoomFor n back
+room-parts n [] back h = (tt, h)
+room-parts n (op ∷ front) back h = let r = room-parts n front back h.1 in ((h.0, r.0), r.1)
+
+module _ (files : Files) (image : StaticImage) (number : ℕ) (c : ClassTree) (m : Method) (locals : List (Option Value)) (at-c : slice_get files.classes number ≡ Some c) (own : (let id = m.id in id.class) ≡ c.name) where
   abbrev Ends : (at : ℕ) → Store → List Put → Type 0
   Ends at s ps = Returns (linked files image) m locals at s (store_after c s ps) × ((d : ClassTree) → HasCells d s.statics → HasCells d (let t = store_after c s ps in t.statics))
 
-  pub initialiser : (before after : List Held) (ops : List JOp) (ps : List Put) → Initialises files number c before ops ps after → (at : ℕ) (s : Store) → ops_from m at ≡ ops → HasCells c s.statics → Ends at s ps
+  pub initialiser : (before after : List Held) (ops : List JOp) (ps : List Put) → Initialises files number c before ops ps after → (at : ℕ) (s : Store) → ops_from m at ≡ ops → HasCells c s.statics → HaveRoomFor m.max_stack ops → Ends at s ps
   unfolding effect
-  initialiser before after ops ps ends at s stands cells =
+  initialiser before after ops ps ends at s stands cells roomy =
       let f = fetched m.insns at (jop.Return return) [] stands in
       (record { later = at; left = []; runs = here; insn = f.0; is_there = f.1; leaves = ap (λ o. effect (linked files image) m at locals s o []) f.2 }, (λ d kept. kept))
-  initialiser before after ops ps (puts {made = made} {ops = more} {contents = contents} {id = id} {k = k} {rest = rest} makes place next) at s stands cells =
+  initialiser before after ops ps (puts {made = made} {ops = more} {contents = contents} {id = id} {k = k} {rest = rest} makes place next) at s stands cells roomy =
+      let parts = room-parts m.max_stack made (jop.Static true id ∷ more) roomy in
       let p = taken (takes contents id.desc) (open_place files number c before id) k place in
       let f = place-field files image number c before id k at-c p.1 in
       let size = length s.heap in
@@ -130,10 +136,10 @@ module _ (files : Files) (image : StaticImage) (number : ℕ) (c : ClassTree) (m
       let kind : is_kind (is_reference field.desc) v ≡ true = ap (λ d. is_kind (is_reference d) v) f.desc ∙ kind-put made contents id.desc size makes p.0 in
       let found = (ap (λ q. (let l = linked files image in l.field q id)) own ∙ f.found) in
       let holds : value_in s.statics (own_field c id) ≡ Some old.0 = ap (value_in s.statics) (sym f.named) ∙ old.1 in
-      let r = statement (linked files image) m locals at made more contents id (own_field c id) old.0 s roomy makes stands found holds (same-kind (is_reference field.desc) old.0 v old.2 kind) in
+      let r = statement (linked files image) m locals at made more contents id (own_field c id) old.0 s parts.0 makes stands found holds (same-kind (is_reference field.desc) old.0 v old.2 kind) in
       let t = store_with s (own_field c id) contents in
       let kept : (d : ClassTree) → HasCells d s.statics → HasCells d t.statics = λ d has. subst (λ (q : MemberId). HasCells d (values_with s.statics q v)) f.named (cells-put c d s.statics field v kind has) in
-      let g = initialiser (slice_set before k (held_by contents)) after more rest next r.0 t r.2 (kept c cells) in
+      let g = initialiser (slice_set before k (held_by contents)) after more rest next r.0 t r.2 (kept c cells) parts.1.1 in
       let e = g.0 in (
         record {
           later = e.later;

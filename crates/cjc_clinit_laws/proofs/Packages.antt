@@ -205,7 +205,7 @@ module _ (files : Files) (image : StaticImage) where
       let m = method_with c t.1 code in
       let own : (let id = m.id in id.class) ≡ c.name = class-of c t.1 (let q = t.1 in q.code) in
       let locals = replicate m.max_locals None in
-      let e = initialiser files image code.class c m locals t.0 own (roomy 0 code c t.1 refl is t.2) (nothing_in c) fields (ops_of code.insns) ps does 0 s refl (cells code.class c t.0) in
+      let e = initialiser files image code.class c m locals t.0 own (nothing_in c) fields (ops_of code.insns) ps does 0 s refl (cells code.class c t.0) (roomy 0 code c t.1 refl is t.2) in
       let mid = store_after c s ps in
       let r = all _ after rest others more mid (λ index code c m there. roomy (suc index) code c m there) (λ n d there. e.1 d (cells n d there)) in
       (r.0, one c t.1 is t.2 e.0 r.1, r.2 ∙ ap (λ (q : List Thing). q ++ map static_array others) (made-behind c s ps) ∙ append_assoc s.heap (map static_array (arrays_of c ps)) (map static_array others) ∙ ap (λ q. s.heap ++ q) (sym (map-append static_array (arrays_of c ps) others)), r.3)

@@ -27,7 +27,7 @@ use Rattle.cjc_clinit.specs.Image.{array_in}
 use Rattle.cjc_clinit.specs.Initialiser.{dup, element_kind, store, ops_of, Stores, Makes}
 use Rattle.cjc_clinit.specs.Initialiser.Stores.{none, one}
 use Rattle.cjc_clinit.specs.Initialiser.Makes.{of_number, of_null, of_array}
-use Rattle.cjc_clinit_laws.specs.Statements.{Reaches, ops_from, store_with, value_by}
+use Rattle.cjc_clinit_laws.specs.Statements.{HaveRoomFor, Reaches, ops_from, store_with, value_by}
 use Rattle.cjc_clinit_laws.specs.Statements.Reaches.{here, goes}
 
 -- ---- lists
@@ -219,37 +219,40 @@ module _ (l : Linked) (m : Method) (locals : List (Option Value)) where
       by at stack before later mid between here g = g
       by at stack before later mid between (goes i e f r) g = let k = by _ _ _ later mid between r g in (k.0, goes i e f k.1, k.2)
 
-  module _ (roomy : 4 ≤ m.max_stack) where
-    filled : (kind : Kind) (at : ℕ) (items after : List ℤ) (ops rest : List JOp) (s : Store) → Stores kind items ops after → ops_from m at ≡ ops ++ rest
-        → Comes at (Obj (length s.heap) ∷ []) (with-array s kind items) rest (Obj (length s.heap) ∷ []) (with-array s kind after)
-    filled kind at items after ops rest s none stands = (at, here, stands)
-    filled kind at items after ops rest s (one {i = i} {z = z} {ops = more} lt fit next) stands =
-        let o = Obj (length s.heap) in
-        let st = with-array s kind items in
-        once at (jop.Stack dup) (jop.Number (pos i) ∷ jop.Number z ∷ jop.ArrayStore (store kind) ∷ (more ++ rest)) rest (o ∷ []) (o ∷ o ∷ []) (o ∷ []) st st (with-array s kind after) stands (copy at o st (omega arith)) (λ a.
-        once (at + 1) (jop.Number (pos i)) (jop.Number z ∷ jop.ArrayStore (store kind) ∷ (more ++ rest)) rest (o ∷ o ∷ []) (Num (pos i) ∷ o ∷ o ∷ []) (o ∷ []) st st (with-array s kind after) a (push-number (at + 1) (pos i) (o ∷ o ∷ []) st (omega arith)) (λ b.
-        once (at + 1 + 1) (jop.Number z) (jop.ArrayStore (store kind) ∷ (more ++ rest)) rest (Num (pos i) ∷ o ∷ o ∷ []) (Num z ∷ Num (pos i) ∷ o ∷ o ∷ []) (o ∷ []) st st (with-array s kind after) b (push-number (at + 1 + 1) z (Num (pos i) ∷ o ∷ o ∷ []) st (omega arith)) (λ d.
-        once (at + 1 + 1 + 1) (jop.ArrayStore (store kind)) (more ++ rest) rest (Num z ∷ Num (pos i) ∷ o ∷ o ∷ []) (o ∷ []) (o ∷ []) st (with-array s kind (slice_set items i z)) (with-array s kind after) d (store-item (at + 1 + 1 + 1) kind items i z s lt fit) (λ e.
-        filled kind (at + 1 + 1 + 1 + 1) (slice_set items i z) after more rest s next e))))
+  filled : (kind : Kind) (at : ℕ) (items after : List ℤ) (ops rest : List JOp) (s : Store) → Stores kind items ops after → HaveRoomFor m.max_stack ops → ops_from m at ≡ ops ++ rest
+      → Comes at (Obj (length s.heap) ∷ []) (with-array s kind items) rest (Obj (length s.heap) ∷ []) (with-array s kind after)
+  filled kind at items after ops rest s none roomy stands = (at, here, stands)
+  filled kind at items after ops rest s (one {i = i} {z = z} {ops = more} lt fit next) roomy stands =
+      let four = roomy.0 in
+      let o = Obj (length s.heap) in
+      let st = with-array s kind items in
+      once at (jop.Stack dup) (jop.Number (pos i) ∷ jop.Number z ∷ jop.ArrayStore (store kind) ∷ (more ++ rest)) rest (o ∷ []) (o ∷ o ∷ []) (o ∷ []) st st (with-array s kind after) stands (copy at o st (omega (arith, four))) (λ a.
+      once (at + 1) (jop.Number (pos i)) (jop.Number z ∷ jop.ArrayStore (store kind) ∷ (more ++ rest)) rest (o ∷ o ∷ []) (Num (pos i) ∷ o ∷ o ∷ []) (o ∷ []) st st (with-array s kind after) a (push-number (at + 1) (pos i) (o ∷ o ∷ []) st (omega (arith, four))) (λ b.
+      once (at + 1 + 1) (jop.Number z) (jop.ArrayStore (store kind) ∷ (more ++ rest)) rest (Num (pos i) ∷ o ∷ o ∷ []) (Num z ∷ Num (pos i) ∷ o ∷ o ∷ []) (o ∷ []) st st (with-array s kind after) b (push-number (at + 1 + 1) z (Num (pos i) ∷ o ∷ o ∷ []) st (omega (arith, four))) (λ d.
+      once (at + 1 + 1 + 1) (jop.ArrayStore (store kind)) (more ++ rest) rest (Num z ∷ Num (pos i) ∷ o ∷ o ∷ []) (o ∷ []) (o ∷ []) st (with-array s kind (slice_set items i z)) (with-array s kind after) d (store-item (at + 1 + 1 + 1) kind items i z s lt fit) (λ e.
+      filled kind (at + 1 + 1 + 1 + 1) (slice_set items i z) after more rest s next roomy.1.1.1.1 e))))
 
-    made-there : (at : ℕ) (made rest : List JOp) (contents : Contents) (field : MemberId) (s : Store) → Makes made contents → ops_from m at ≡ made ++ rest
-        → Comes at [] s rest (value_by (length s.heap) contents ∷ []) (record s { heap = s.heap ++ map static_array (array_in field contents) })
-    made-there at made rest contents field s (of_number {z = z}) stands =
-        subst (λ (h : List Thing). Comes at [] s rest (Num z ∷ []) (record s { heap = h })) (sym (append-nil s.heap))
-        (once at (jop.Number z) rest rest [] (Num z ∷ []) (Num z ∷ []) s s s stands (push-number at z [] s (omega arith)) (λ a. (at + 1, here, a)))
-    made-there at made rest contents field s of_null stands =
-        subst (λ (h : List Thing). Comes at [] s rest (Null ∷ []) (record s { heap = h })) (sym (append-nil s.heap))
-        (once at jop.Null rest rest [] (Null ∷ []) (Null ∷ []) s s s stands (push-null at [] s (omega arith)) (λ a. (at + 1, here, a)))
-    made-there at made rest contents field s (of_array {count = count} {number = number} {kind = kind} {ops = ops} {items = items} le is fill) stands =
-        let o = Obj (length s.heap) in
-        once at (jop.Number (pos count)) (jop.NewArray number ∷ (ops ++ rest)) rest [] (Num (pos count) ∷ []) (o ∷ []) s s (with-array s kind items) stands (push-number at (pos count) [] s (omega arith)) (λ a.
-        once (at + 1) (jop.NewArray number) (ops ++ rest) rest (Num (pos count) ∷ []) (o ∷ []) (o ∷ []) s (with-array s kind (replicate count (pos 0))) (with-array s kind items) a (new-array (at + 1) count number kind s (omega arith) is) (λ b.
-        filled kind (at + 1 + 1) (replicate count (pos 0)) items ops rest s fill b))
+  made-there : (at : ℕ) (made rest : List JOp) (contents : Contents) (field : MemberId) (s : Store) → Makes made contents → HaveRoomFor m.max_stack made → ops_from m at ≡ made ++ rest
+      → Comes at [] s rest (value_by (length s.heap) contents ∷ []) (record s { heap = s.heap ++ map static_array (array_in field contents) })
+  made-there at made rest contents field s (of_number {z = z}) roomy stands =
+      let one = roomy.0 in
+      subst (λ (h : List Thing). Comes at [] s rest (Num z ∷ []) (record s { heap = h })) (sym (append-nil s.heap))
+      (once at (jop.Number z) rest rest [] (Num z ∷ []) (Num z ∷ []) s s s stands (push-number at z [] s (omega (arith, one))) (λ a. (at + 1, here, a)))
+  made-there at made rest contents field s of_null roomy stands =
+      let one = roomy.0 in
+      subst (λ (h : List Thing). Comes at [] s rest (Null ∷ []) (record s { heap = h })) (sym (append-nil s.heap))
+      (once at jop.Null rest rest [] (Null ∷ []) (Null ∷ []) s s s stands (push-null at [] s (omega (arith, one))) (λ a. (at + 1, here, a)))
+  made-there at made rest contents field s (of_array {count = count} {number = number} {kind = kind} {ops = ops} {items = items} le is fill) roomy stands =
+      let one = roomy.0 in
+      let o = Obj (length s.heap) in
+      once at (jop.Number (pos count)) (jop.NewArray number ∷ (ops ++ rest)) rest [] (Num (pos count) ∷ []) (o ∷ []) s s (with-array s kind items) stands (push-number at (pos count) [] s (omega (arith, one))) (λ a.
+      once (at + 1) (jop.NewArray number) (ops ++ rest) rest (Num (pos count) ∷ []) (o ∷ []) (o ∷ []) s (with-array s kind (replicate count (pos 0))) (with-array s kind items) a (new-array (at + 1) count number kind s (omega (arith, one)) is) (λ b.
+      filled kind (at + 1 + 1) (replicate count (pos 0)) items ops rest s fill roomy.1.1 b))
 
 pub statement : (l : Linked) (m : Method) (locals : List (Option Value)) (at : ℕ) (made ops : List JOp) (contents : Contents) (id field : MemberId) (old : Value) (s : Store)
-    → 4 ≤ m.max_stack → Makes made contents → ops_from m at ≡ made ++ (jop.Static true id ∷ ops) → l.field (let here = m.id in here.class) id ≡ Some (Static field)
+    → HaveRoomFor m.max_stack made → Makes made contents → ops_from m at ≡ made ++ (jop.Static true id ∷ ops) → l.field (let here = m.id in here.class) id ≡ Some (Static field)
     → value_in s.statics field ≡ Some old → is_same_kind old (value_by (length s.heap) contents) ≡ true → Comes l m locals at [] s ops [] (store_with s field contents)
 statement l m locals at made ops contents id field old s roomy is stands found holds same =
     let mid = record s { heap = s.heap ++ map static_array (array_in field contents) } in
-    followed l m locals at [] (value_by (length s.heap) contents ∷ []) [] s mid (store_with s field contents) (jop.Static true id ∷ ops) ops (made-there l m locals roomy at made (jop.Static true id ∷ ops) contents field s is stands) (λ later stands.
+    followed l m locals at [] (value_by (length s.heap) contents ∷ []) [] s mid (store_with s field contents) (jop.Static true id ∷ ops) ops (made-there l m locals at made (jop.Static true id ∷ ops) contents field s is roomy stands) (λ later stands.
     once l m locals later (jop.Static true id) ops ops (value_by (length s.heap) contents ∷ []) [] [] mid (store_with s field contents) (store_with s field contents) stands (put-static l m locals later id field old (value_by (length s.heap) contents) mid found holds same) (λ a. (later + 1, here, a)))

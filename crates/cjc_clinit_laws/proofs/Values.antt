@@ -243,7 +243,7 @@ module _ (files : Files) (image : StaticImage) (apart : AreApart files) where
       let m = method_with c t.1 code in
       let own : (let id = m.id in id.class) ≡ c.name = class-of c t.1 (let q = t.1 in q.code) in
       let locals = replicate m.max_locals None in
-      let e = initialiser files image code.class c m locals t.0 own (roomy 0 code c t.1 refl is t.2) (nothing_in c) fields (ops_of code.insns) ps does 0 s refl (cells code.class c t.0) in
+      let e = initialiser files image code.class c m locals t.0 own (nothing_in c) fields (ops_of code.insns) ps does 0 s refl (cells code.class c t.0) (roomy 0 code c t.1 refl is t.2) in
       let mid = store_after c s ps in
       let new = made ++ arrays_of c ps in
       let kept = held-after files image apart code.class c t.0 (nothing_in c) fields (ops_of code.insns) ps does made s heap in

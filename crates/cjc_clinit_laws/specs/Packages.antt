@@ -1,5 +1,5 @@
 -- What the machine by name does at the code of all initialisers of a package, one after the other, before any entry of a script.
-use Rattle.std.specs.Prelude.{◌≡◌, ◌≤◌, ℕ, List, [], ◌∷◌, ◌++◌, replicate, slice_get, Option, Some, None, is_some, Bool, true, if◌then◌else◌, ℤ}
+use Rattle.std.specs.Prelude.{◌≡◌, ℕ, List, [], ◌∷◌, ◌++◌, replicate, slice_get, Option, Some, None, is_some, Bool, true, if◌then◌else◌, ℤ}
 use Rattle.cjc_classfile.specs.declared.tree.ClassTree.{ClassTree}
 use Rattle.cjc_classfile.specs.declared.tree.FieldTree.{FieldTree}
 use Rattle.cjc_classfile.specs.declared.tree.MethodTree.{MethodTree}
@@ -11,10 +11,12 @@ use Rattle.cjc_script.specs.Sorts.{field_sort, zero_of}
 use Rattle.cjc_world.specs.Files.{Files}
 use Rattle.cjc_clinit.specs.Fields.{is_cell, is_reference, number_kind}
 use Rattle.cjc_clinit.specs.Image.{field_id, initialised}
+use Rattle.cjc_clinit.specs.Initialiser.{ops_of}
 use Rattle.cjc_by_name.specs.Effects.{Store, is_kind}
 use Rattle.cjc_by_name.specs.Linked.{Linked, Method}
 use Rattle.cjc_by_name.specs.OnePackage.{method_by}
 use Rattle.cjc_clinit_laws.specs.Initialisers.{HasCells, Returns}
+use Rattle.cjc_clinit_laws.specs.Statements.{HaveRoomFor}
 
 -- ---- before any initialiser
 
@@ -51,9 +53,9 @@ HaveTypes files = (n k : ℕ) (c : ClassTree) (f : FieldTree) → slice_get file
 abbrev pub method_with : ClassTree → MethodTree → MethodCode → Method
 method_with c m code = record (method_by c m m.code) { insns = code.insns }
 
--- each initialiser has room for four operands, those of a store into an array
+-- each initialiser has room for the operands of its instructions, as it has where 503 is not broken
 abbrev pub HaveRoom : Files → List MethodCode → Type 0
-HaveRoom files codes = (index : ℕ) (code : MethodCode) (c : ClassTree) (m : MethodTree) → slice_get codes index ≡ Some code → initialised files code ≡ Some c → slice_get c.methods code.method ≡ Some m → (let method = method_with c m code in 4 ≤ method.max_stack)
+HaveRoom files codes = (index : ℕ) (code : MethodCode) (c : ClassTree) (m : MethodTree) → slice_get codes index ≡ Some code → initialised files code ≡ Some c → slice_get c.methods code.method ≡ Some m → (let method = method_with c m code in HaveRoomFor method.max_stack (ops_of code.insns))
 
 -- each class of the package has its cells
 abbrev pub AllHaveCells : Files → List FieldValue → Type 0

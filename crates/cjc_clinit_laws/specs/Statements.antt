@@ -1,8 +1,9 @@
 -- What the machine by name does at the instructions of an initialiser.
-use Rattle.std.specs.Prelude.{◌≡◌, ℕ, List, ◌++◌, drop, length, map, slice_get, Option, Some}
+use Rattle.std.specs.Prelude.{◌≡◌, ℕ, ◌≤◌, List, [], ◌∷◌, ◌++◌, drop, length, map, slice_get, Option, Some}
 use Rattle.cjc_bytes.specs.declared.fault.MemberId.{MemberId}
 use Rattle.cjc_code.specs.declared.insn.JInsn.{JInsn}
 use Rattle.cjc_code.specs.declared.insn.JOp.{JOp}
+use Rattle.cjc_code.specs.declared.insn.JOp.TheVariants as jop
 use Rattle.cjc_script.specs.declared.value.Value.{Value}
 use Rattle.cjc_script.specs.declared.value.Value.TheVariants.{Num, Null, Obj}
 use Rattle.cjc_clinit.specs.Fields.{Contents, ANumber, ANull, AnArray}
@@ -15,6 +16,19 @@ use Rattle.cjc_by_name.specs.OnePackage.{static_array}
 -- what the instructions of a method are, from a place on
 abbrev pub ops_from : Method → (at : ℕ) → List JOp
 ops_from m at = ops_of (drop at m.insns)
+
+-- the most operands that stand on the stack behind an instruction of an initialiser and until the one that puts or stores them: four
+-- behind a dup, those of a store into an array
+abbrev pub operands_by : JOp → ℕ
+operands_by (jop.Stack op) = 4
+operands_by (jop.Number z) = 1
+operands_by jop.Null = 1
+operands_by op = 0
+
+-- there is room for those of each of these
+abbrev pub HaveRoomFor : (max_stack : ℕ) → List JOp → Type 0
+HaveRoomFor n [] = Unit {0}
+HaveRoomFor n (op ∷ ops) = (operands_by op ≤ n) × HaveRoomFor n ops
 
 -- One instruction after another from a place on, by their effects: without a call, an exception, or a change of a local.
 pub data Reaches (l : Linked) (m : Method) (locals : List (Option Value)) : (at : ℕ) → (stack : List Value) → (before : Store) → (later : ℕ) → (left : List Value) → (after : Store) → Type 0 where

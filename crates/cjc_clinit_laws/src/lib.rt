@@ -2,7 +2,7 @@
 //! laws alone: nothing here runs.
 #![tactic(auto)]
 
-ghost use Rattle.std.specs.Prelude.{◌≡◌, ◌≤◌, ℕ, List, [], ◌∷◌, ◌++◌, length, map, slice_get, true, Option, Some};
+ghost use Rattle.std.specs.Prelude.{◌≡◌, ℕ, List, [], ◌∷◌, ◌++◌, length, map, slice_get, true, Option, Some};
 ghost use Rattle.cjc_bytes.specs.declared.fault.MemberId.{MemberId};
 ghost use Rattle.cjc_classfile.specs.declared.tree.ClassTree.{ClassTree};
 ghost use Rattle.cjc_code.specs.declared.insn.JOp.{JOp};
@@ -23,25 +23,25 @@ ghost use Rattle.cjc_clinit.specs.Image.{AreInitialised, IsImage};
 ghost use Rattle.cjc_clinit_laws.specs.Values.{AllHold, AreApart, StandOnce};
 ghost use Rattle.cjc_clinit_laws.specs.Packages.{AllHaveCells, AllReturn, HaveRoom, HaveTypes, first_store};
 ghost use Rattle.cjc_clinit_laws.specs.Initialisers.{HasCells, Returns, store_after};
-ghost use Rattle.cjc_clinit_laws.specs.Statements.{Reaches, ops_from, store_with, value_by};
+ghost use Rattle.cjc_clinit_laws.specs.Statements.{HaveRoomFor, Reaches, ops_from, store_with, value_by};
 
 /// For every record of look-ups: from the first instruction of a statement, with an empty stack, the machine by name comes behind
 /// its putstatic with an empty stack again, where the field has a cell of the kind of what is put and the method has room for
-/// four operands. The statement's array stands last in the heap, and the field holds it, the number or null.
+/// its operands. The statement's array stands last in the heap, and the field holds it, the number or null.
 pub fn statements_run()
     ensures { (l : Linked) (m : Method) (locals : List (Option Value)) (at : ℕ) (made ops : List JOp) (contents : Contents) (id field : MemberId) (old : Value) (store : Store)
-        → 4 ≤ m.max_stack → Makes made contents → ops_from m at ≡ made ++ (jop.Static true id ∷ ops) → l.field (let here = m.id in here.class) id ≡ Some (Static field)
+        → HaveRoomFor m.max_stack made → Makes made contents → ops_from m at ≡ made ++ (jop.Static true id ∷ ops) → l.field (let here = m.id in here.class) id ≡ Some (Static field)
         → value_in store.statics field ≡ Some old → is_same_kind old (value_by (length store.heap) contents) ≡ true
         → (later : ℕ) × Reaches l m locals at [] store later [] (store_with store field contents) × (ops_from m later ≡ ops) }
 {}
 
 /// For the look-ups of one package: the machine by name, at the first instruction of an initialiser by its grammar, comes to the
 /// return, with each array that it makes behind the earlier ones in the heap and each field holding what is put into it, where
-/// the class's static fields have cells of their kinds and the method has room for four operands. The cells of every
+/// the class's static fields have cells of their kinds and the method has room for its operands. The cells of every
 /// class keep their kinds.
 pub fn initialisers_run()
     ensures { (files : Files) (image : StaticImage) (number : ℕ) (c : ClassTree) (m : Method) (locals : List (Option Value)) (before after : List Content) (puts : List Put) (store : Store)
-        → slice_get files.classes number ≡ Some c → (let here = m.id in here.class) ≡ c.name → 4 ≤ m.max_stack → Initialises files number c before (ops_of m.insns) puts after → HasCells c store.statics
+        → slice_get files.classes number ≡ Some c → (let here = m.id in here.class) ≡ c.name → HaveRoomFor m.max_stack (ops_of m.insns) → Initialises files number c before (ops_of m.insns) puts after → HasCells c store.statics
         → Returns (linked files image) m locals 0 store (store_after c store puts) × ((d : ClassTree) → HasCells d store.statics → HasCells d (let later = store_after c store puts in later.statics)) }
 {}
 
