@@ -174,7 +174,7 @@ closing_is xs = record {
 abbrev pub class_in : (type : List ℕ) → List ℕ
 class_in type = (part_of type).class
 
-pick : {T : Type 0} (P : T → Type 0) (b : Bool) (x y : T) → P x → P y → P (cond b x y)
+pub pick : {T : Type 0} (P : T → Type 0) (b : Bool) (x y : T) → P x → P y → P (cond b x y)
 pick P true x y h k = h
 pick P false x y h k = k
 

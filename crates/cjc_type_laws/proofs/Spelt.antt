@@ -22,6 +22,7 @@ use Rattle.cjc_classfile.specs.Methods.{method_content, method_attribute, needs_
 use Rattle.cjc_classfile.specs.ClassFile.{front_part, back_part, class_file}
 use Rattle.cjc_types.specs.Names.{In}
 use Rattle.cjc_type_laws.proofs.Results.{bound, kept_is, each_from}
+use Rattle.cjc_type_laws.proofs.Chains.{pick}
 
 -- ---- how long they are
 
@@ -74,10 +75,6 @@ text_sized at e bytes ok h =
     let second = b.sizes in
     let short : text_size (Some b.x) ≤ suc (length bytes) = omega (arith, count.1, r.0, r.1, first, second) in
     subst (λ (y : Entry). text_size (as_text y) ≤ suc (length bytes)) (given _ _ _ _ b.rest).0 short
-
-pick : {T : Type 0} (P : T → Type 0) (b : Bool) (x y : T) → P x → P y → P (cond b x y)
-pick P true x y h k = h
-pick P false x y h k = k
 
 tag_sized : (behind n : ℕ) (tag : _) → tag_of behind n ≡ Some tag → IsSized (content tag)
 unfolding content
