@@ -6,7 +6,7 @@ use Rattle.cjc_bytes.specs.declared.fault.MemberId.{MemberId}
 use Rattle.cjc_script.specs.declared.value.Value.{Value}
 use Rattle.cjc_script.specs.declared.value.Value.TheVariants.{Null, Obj}
 use Rattle.cjc_script.specs.declared.report.Thing.{Thing}
-use Rattle.cjc_script.specs.Sorts.{Shape, Sort, shape_name}
+use Rattle.cjc_script.specs.Sorts.{Shape, Sort, Signature, shape_name, signature_of}
 use Rattle.cjc_bytecode.specs.Runs.{Move, On}
 use Rattle.cjc_bytecode.specs.Effects.{Invoke, HeapObject, Numbers, References, Object, shape}
 use Rattle.cjc_bytecode.specs.Renaming.{option_as}
@@ -21,7 +21,7 @@ use Rattle.cjc_by_name.specs.Effects.{NullPointer, type_of}
 use Rattle.cjc_by_name.specs.Effects as effects
 use Rattle.cjc_by_name.specs.Machine.{Frame, State, with_frames, frame_for_call, heap_of, holder_of, offset, stuck_at, at_callee, at_selected, on_receiver, with_types, after_lookup, after_effect}
 use Rattle.cjc_shrink.specs.Relation.{OnBoth, a_reference as both_reference, Kind, Refers, Heap, Agrees, null, object, Stacks, bottom, cell, Locals, shown, Stores}
-use Rattle.cjc_shrink.specs.Calls.{NFrame, NState, NTurn, Frames, first_locals, CallAgrees, begins, fails, IsNarrowed, IsStaticCall, Selects, IsObjectCall}
+use Rattle.cjc_shrink.specs.Calls.{NFrame, NState, NTurn, Frames, first_locals, CallAgrees, begins, fails, IsNarrowed, IsStaticCall, Passes, Selects, IsObjectCall}
 use Rattle.cjc_shrink.proofs.Passed.{passed_plain, passed_length, args_agree, below_agree, enough_words, of_sorts, first, both_long, filled, receiver_first, receiver_off, receiver_below}
 
 -- an array or object has one type on both sides
@@ -135,31 +135,40 @@ module _ (by : Linked) (l : Named) (narrowed : Method → Start NMethod) (may_be
       by_value _ _ null = fails NullPointer (Null ∷ below) below'
       by_value _ _ (object {k = k} thing is passes) = select_both result k thing is passes passed low
 
--- a call on a receiver
-pub object_call : (by : Linked) (l : Named) (narrowed : Method → Start NMethod) (may_begin : Method → Type 0) (op : ℕ) (id : MemberId) (named : Callee) (within : Shape (List ℕ) → Bool) (params ks ls : List Kind) (next : ℕ) (f : Frame) (outer : List Frame) (s : State) (g : NFrame) (others : List NFrame) (t : NState) → (call : IsObjectCall by l narrowed (holder_of f) op id named within params) → ((kind : Shape (List ℕ)) (is : within kind ≡ true) → let h = call.selects kind is in may_begin h.callee) → Stores l s.store t.memory → Frames (let m = t.memory in m.heap) (reverse (Refers within ∷ params) ++ ks) ls f g
-    → CallAgrees by l narrowed may_begin (Refers within ∷ params) ks next f outer s g others t (after_effect by (effects.Invoke op id) f outer s) (narrow.made (by_label l) (Invoke named) next g others t)
+-- A call on a receiver takes its arguments and the receiver from both stacks: what is met there is met by the call.
+pub to_receiver : (by : Linked) (l : Named) (op : ℕ) (id : MemberId) (named : Callee) (within : Shape (List ℕ) → Bool) (types : Signature) (params ks : List Kind) (next : ℕ) (f : Frame) (outer : List Frame) (s : State) (g : NFrame) (others : List NFrame) (t : NState) (Meets : Move State → NTurn → Type 0) (selected : List ℕ → Option Linked.Callee)
+    → by.call (holder_of f) op id ≡ Some (OnObject selected) → signature_of id.desc ≡ Some types → Passes types.params params → on_object named ≡ true → l.words named ≡ Some (length (Refers within ∷ params))
+    → Stacks (let m = t.memory in m.heap) (reverse (Refers within ∷ params) ++ ks) f.stack g.stack
+    → (OnBoth params → (let n = length types.params in Stacks (let m = t.memory in m.heap) params (reverse (take n f.stack)) (reverse (take n g.stack)) → Stacks (let m = t.memory in m.heap) (Refers within ∷ ks) (drop n f.stack) (drop n g.stack)
+    → Meets (on_receiver by selected (drop n f.stack) types.result (reverse (take n f.stack)) (record f { stack = drop n f.stack }) outer s) (narrow.on_receiver (by_label l) named (reverse (take (suc n) g.stack)) (record g { next = next; stack = drop (suc n) g.stack }) others t)))
+    → Meets (after_effect by (effects.Invoke op id) f outer s) (narrow.made (by_label l) (Invoke named) next g others t)
 unfolding by_label
-object_call by l narrowed may_begin op id named within params ks ls next f outer s g others t call may stores agree =
-    let heap = (let m = t.memory in m.heap) in
-    let Meets = CallAgrees by l narrowed may_begin (Refers within ∷ params) ks next f outer s g others t in
-    let types = call.types in
+to_receiver by l op id named within types params ks next f outer s g others t Meets selected by_name has_types passes narrow_object narrow_words agree go =
     let n = length types.params in
-    let count = passed_length call.passes in
-    let plain = passed_plain call.passes in
-    let below : Stacks heap (reverse params ++ (Refers within ∷ ks)) f.stack g.stack = subst (λ kinds. Stacks heap kinds f.stack g.stack) (receiver_below within params ks) agree.stack in
+    let count = passed_length passes in
+    let plain = passed_plain passes in
+    let below : Stacks (let m = t.memory in m.heap) (reverse params ++ (Refers within ∷ ks)) f.stack g.stack = subst (λ kinds. Stacks (let m = t.memory in m.heap) kinds f.stack g.stack) (receiver_below within params ks) agree in
     let passed = args_agree (Refers within ∷ ks) n plain count below in
     let rest = below_agree (Refers within ∷ ks) n plain count below in
-    let many = enough_words ks (suc n) (both_reference plain) (ap suc count) agree.stack in
+    let many = enough_words ks (suc n) (both_reference plain) (ap suc count) agree in
     let enough : nat_le (suc n) (length g.stack) ≡ true = grind (arith, nat_tests) in
     let narrow_side = narrow.made (by_label l) (Invoke named) next g others t in
     let words = reverse (take (suc n) g.stack) in
     let waiting = record g { next = next; stack = drop (suc n) g.stack } in
     let args = reverse (take n f.stack) in
-    let named_side = on_receiver by call.selected (drop n f.stack) types.result args (record f { stack = drop n f.stack }) outer s in
-    subst (λ o. Meets (after_lookup by o id f outer s) narrow_side) (sym call.by_name)
-    (subst (λ o. Meets (with_types by (OnObject call.selected) o f outer s) narrow_side) (sym call.has_types)
-    (subst (λ b. Meets (if b then named_side else stuck_at (offset f) s) narrow_side) (sym (of_sorts call.passes passed))
-    (subst (λ o. Meets named_side (narrow.counted (by_label l) o named (record g { next = next }) others t)) (sym (call.narrow_words ∙ ap (λ k. Some (suc k)) (sym count)))
+    let named_side = on_receiver by selected (drop n f.stack) types.result args (record f { stack = drop n f.stack }) outer s in
+    subst (λ o. Meets (after_lookup by o id f outer s) narrow_side) (sym by_name)
+    (subst (λ o. Meets (with_types by (OnObject selected) o f outer s) narrow_side) (sym has_types)
+    (subst (λ b. Meets (if b then named_side else stuck_at (offset f) s) narrow_side) (sym (of_sorts passes passed))
+    (subst (λ o. Meets named_side (narrow.counted (by_label l) o named (record g { next = next }) others t)) (sym (narrow_words ∙ ap (λ k. Some (suc k)) (sym count)))
     (subst (λ b. Meets named_side (if b then narrow.with_args (by_label l) (on_object named) named words waiting others t else StuckAt g.at t)) (sym enough)
-    (subst (λ b. Meets named_side (narrow.with_args (by_label l) b named words waiting others t)) (sym call.narrow_object)
-    (receive_both by l narrowed may_begin named within params ks next f outer s g others t plain call.selected call.selects may stores types.result n f.stack g.stack (drop n f.stack) (drop n g.stack) refl refl passed rest))))))
+    (subst (λ b. Meets named_side (narrow.with_args (by_label l) b named words waiting others t)) (sym narrow_object)
+    (go plain passed rest))))))
+
+-- a call on a receiver
+pub object_call : (by : Linked) (l : Named) (narrowed : Method → Start NMethod) (may_begin : Method → Type 0) (op : ℕ) (id : MemberId) (named : Callee) (within : Shape (List ℕ) → Bool) (params ks ls : List Kind) (next : ℕ) (f : Frame) (outer : List Frame) (s : State) (g : NFrame) (others : List NFrame) (t : NState) → (call : IsObjectCall by l narrowed (holder_of f) op id named within params) → ((kind : Shape (List ℕ)) (is : within kind ≡ true) → let h = call.selects kind is in may_begin h.callee) → Stores l s.store t.memory → Frames (let m = t.memory in m.heap) (reverse (Refers within ∷ params) ++ ks) ls f g
+    → CallAgrees by l narrowed may_begin (Refers within ∷ params) ks next f outer s g others t (after_effect by (effects.Invoke op id) f outer s) (narrow.made (by_label l) (Invoke named) next g others t)
+object_call by l narrowed may_begin op id named within params ks ls next f outer s g others t call may stores agree =
+    let types = call.types in
+    to_receiver by l op id named within types params ks next f outer s g others t (CallAgrees by l narrowed may_begin (Refers within ∷ params) ks next f outer s g others t) call.selected call.by_name call.has_types call.passes call.narrow_object call.narrow_words agree.stack (λ plain passed rest.
+    receive_both by l narrowed may_begin named within params ks next f outer s g others t plain call.selected call.selects may stores types.result (length types.params) f.stack g.stack (drop (length types.params) f.stack) (drop (length types.params) g.stack) refl refl passed rest)

@@ -20,15 +20,15 @@ use Rattle.cjc_by_name.specs.Linked.{OnClass, OnObject, Linked}
 use Rattle.cjc_by_name.specs.Linked
 use Rattle.cjc_by_name.specs.Effects as effects
 use Rattle.cjc_by_name.specs.Machine.{Frame, State, heap_of, with_note, holder_of, room, offset, stuck_at, is_at_once, at_callee, at_selected, on_receiver, with_types, after_lookup, after_effect, after_result, after_answer}
-use Rattle.cjc_shrink.specs.Relation.{a_reference as both_reference, Kind, Refers, Heap, Agrees, number, null, object, Stacks, bottom, cell, Locals}
+use Rattle.cjc_shrink.specs.Relation.{Kind, Refers, Heap, Agrees, number, null, object, Stacks, bottom, cell, Locals}
 use Rattle.cjc_shrink.specs.Rows.{HasRoom}
 use Rattle.cjc_shrink.specs.Jumps.{no_result}
 use Rattle.cjc_shrink.specs.Calls.{NFrame, NState, NTurn, Frames, is_number_sort, Passes, no_parameter, a_number, a_reference}
 use Rattle.cjc_shrink.specs.Throws.{nheap}
 use Rattle.cjc_shrink.specs.Results.{Resumes, resumes, AreShort}
 use Rattle.cjc_shrink.specs.Replies.{StatesAgree, result_kinds, IsImport, IsStaticImport, SelectsImport, IsObjectImport, Replies, goes_on, AnswersAlike, ImportAgrees, is_null, is_answered}
-use Rattle.cjc_shrink.proofs.Begins.{type_shown, thing_shown}
-use Rattle.cjc_shrink.proofs.Passed.{passed_plain, passed_length, args_agree, below_agree, enough_words, of_sorts, receiver_first, receiver_off, receiver_below}
+use Rattle.cjc_shrink.proofs.Begins.{type_shown, thing_shown, to_receiver}
+use Rattle.cjc_shrink.proofs.Passed.{passed_plain, passed_length, args_agree, below_agree, enough_words, of_sorts, receiver_first, receiver_off}
 use Rattle.cjc_shrink.proofs.Replies.{answer_both}
 use Rattle.cjc_shrink.proofs.Results.{same_cells, resumed}
 
@@ -173,26 +173,6 @@ module _ (by : Linked) (l : Named) (id : MemberId) (named : Callee) (within : Sh
 pub object_import : (by : Linked) (l : Named) (op : ℕ) (id : MemberId) (named : Callee) (within : Shape (List ℕ) → Bool) (types : Signature) (params ks ls : List Kind) (next : ℕ) (f : Frame) (outer : List Frame) (s : State) (g : NFrame) (others : List NFrame) (t : NState) → IsObjectImport by l (holder_of f) op id named within types params → StatesAgree l s t → Frames (nheap t) (reverse (Refers within ∷ params) ++ ks) ls f g → HasRoom (result_kinds l types.result ++ ks) (room f) (let m = g.code in m.max_stack)
     → ((vs ws : List Value) → AnswersAlike by l t (record f { stack = vs }) outer (record g { next = next; stack = ws }) others)
     → ImportAgrees by l (result_kinds l types.result) ks ls next f outer s g others t (after_effect by (effects.Invoke op id) f outer s) (narrow.made (by_label l) (Invoke named) next g others t)
-unfolding by_label
 object_import by l op id named within types params ks ls next f outer s g others t call states agree roomy alike =
-    let Meets = ImportAgrees by l (result_kinds l types.result) ks ls next f outer s g others t in
-    let n = length types.params in
-    let count = passed_length call.passes in
-    let plain = passed_plain call.passes in
-    let below : Stacks (nheap t) (reverse params ++ (Refers within ∷ ks)) f.stack g.stack = subst (λ kinds. Stacks (nheap t) kinds f.stack g.stack) (receiver_below within params ks) agree.stack in
-    let passed = args_agree (Refers within ∷ ks) n plain count below in
-    let rest = below_agree (Refers within ∷ ks) n plain count below in
-    let many = enough_words ks (suc n) (both_reference plain) (ap suc count) agree.stack in
-    let enough : nat_le (suc n) (length g.stack) ≡ true = grind (arith, nat_tests) in
-    let narrow_side = narrow.made (by_label l) (Invoke named) next g others t in
-    let words = reverse (take (suc n) g.stack) in
-    let waiting = record g { next = next; stack = drop (suc n) g.stack } in
-    let args = reverse (take n f.stack) in
-    let named_side = on_receiver by call.selected (drop n f.stack) types.result args (record f { stack = drop n f.stack }) outer s in
-    subst (λ o. Meets (after_lookup by o id f outer s) narrow_side) (sym call.by_name)
-    (subst (λ o. Meets (with_types by (OnObject call.selected) o f outer s) narrow_side) (sym call.has_types)
-    (subst (λ b. Meets (if b then named_side else stuck_at (offset f) s) narrow_side) (sym (of_sorts call.passes passed))
-    (subst (λ o. Meets named_side (narrow.counted (by_label l) o named (record g { next = next }) others t)) (sym (call.narrow_words ∙ ap (λ k. Some (suc k)) (sym count)))
-    (subst (λ b. Meets named_side (if b then narrow.with_args (by_label l) (on_object named) named words waiting others t else StuckAt g.at t)) (sym enough)
-    (subst (λ b. Meets named_side (narrow.with_args (by_label l) b named words waiting others t)) (sym call.narrow_object)
-    (receive_both by l id named within types params ks ls next f outer s g others t call.selected call.selects states agree.locals roomy alike n f.stack g.stack (drop n f.stack) (drop n g.stack) refl refl passed rest))))))
+    to_receiver by l op id named within types params ks next f outer s g others t (ImportAgrees by l (result_kinds l types.result) ks ls next f outer s g others t) call.selected call.by_name call.has_types call.passes call.narrow_object call.narrow_words agree.stack (λ plain passed rest.
+    receive_both by l id named within types params ks ls next f outer s g others t call.selected call.selects states agree.locals roomy alike (length types.params) f.stack g.stack (drop (length types.params) f.stack) (drop (length types.params) g.stack) refl refl passed rest)
