@@ -31,7 +31,8 @@ impl Model for Numbers {
 }
 
 impl Numbers {
-    pub(crate) fn new(alloc: Global) -> Numbers
+    /// No keys yet. Takes no memory.
+    pub fn new(alloc: Global) -> Numbers
         ensures { result ≡ [] }
     {
         Numbers {
@@ -62,11 +63,19 @@ impl Numbers {
         &self.keys
     }
 
+    /// The number of a key by the names that it is made of.
+    pub fn find(&self, key: &Key<'_>) -> Option<usize>
+        ensures index { result ≡ index_of self.now key.now }
+        ensures within { IfSome result (λ i. i < length self.now) }
+    {
+        self.set.get_index_of(key)
+    }
+
     /// The number of a key.
     pub fn index_of(&self, key: &PoolKey) -> Option<usize>
         ensures index { result ≡ index_of self.now key.now }
         ensures within { IfSome result (λ i. i < length self.now) }
     {
-        self.set.get_index_of(&Key::lent(key))
+        self.find(&Key::lent(key))
     }
 }
