@@ -4,31 +4,26 @@ ghost use Rattle.std.specs.Prelude.{◌≡◌, ℕ, ◌+◌, ◌<◌, ◌^◌, �
 ghost use Rattle.std.specs.List.{list_any};
 ghost use Rattle.std.specs.List.Sorted.{IsNonDecreasing};
 ghost use Rattle.cjc_bytes.specs.AccessFlags.{is_static};
-ghost use Rattle.cjc_check.specs.Classes.{first_class, first_interface};
-ghost use Rattle.cjc_check.specs.Complete.{AreSmall, class_info_size, class_size, interface_size};
-ghost use Rattle.cjc_check.specs.Described.{descriptor_spots};
-ghost use Rattle.cjc_check.specs.Members.{class_methods};
-ghost use Rattle.cjc_check.specs.Spots.{first, starts};
-ghost use Rattle.cjc_check.specs.Working.Indexed.{IsIndexed};
-ghost use Rattle.cjc_check.specs.Working.Leaving.{IsLeaving};
-ghost use Rattle.cjc_check.specs.Working.Linked.{AreFirst};
-ghost use Rattle.cjc_check.specs.Working.Parts.{complete_of};
+ghost use Rattle.cjc_sentences.specs.Classes.{first_class, first_interface};
+ghost use Rattle.cjc_sentences.specs.Complete.{AreSmall, class_info_size, class_size, interface_size};
+ghost use Rattle.cjc_sentences.specs.Described.{descriptor_spots};
+ghost use Rattle.cjc_sentences.specs.Members.{class_methods};
+ghost use Rattle.cjc_sentences.specs.Spots.{first, starts};
+ghost use Rattle.cjc_lookup.specs.Indexed.{IsIndexed};
+ghost use Rattle.cjc_links.specs.Leaving.{IsLeaving};
+ghost use Rattle.cjc_check.specs.Linked.{AreFirst};
+ghost use Rattle.cjc_lookup.specs.Parts.{complete_of};
 
-use crate::along::starts;
-use crate::described::descriptor_spot;
-use crate::install::install_spot;
-use crate::methods::{Methods, method_starts, static_starts};
-use crate::names::Names;
-use crate::parts::Parts;
-use crate::refs::class_ref_spot;
-use crate::sizes::first_class;
-use crate::spot::Spot;
-use crate::supers::super_spot;
-use crate::tables::{Tables, leaving_of, table_spot};
-use crate::tokens::tokens_of;
 use cjc_bytes::{NoMemory, Row};
 use cjc_capread::ClassInfo;
 use cjc_export::ExportTree;
+use cjc_links::{
+    Tables, class_ref_spot, descriptor_spot, install_spot, leaving_of, super_spot, table_spot,
+};
+use cjc_lookup::{
+    Methods, Names, Parts, first_class, method_starts, starts, static_starts, tokens_of,
+};
+use cjc_sentences::Spot;
 use std::alloc::Global;
 
 /// Where 704, 705, 706, 715 and 718 are broken first, each by itself.

@@ -1,7 +1,7 @@
 use Rattle.std.proofs.Common.{ℕ, List, Bool, ap, sym, ◌∙◌, subst, ◌==◌, length}
 use Rattle.std.specs.List.{list_any}
 use Rattle.std.specs.List.Sorted.{IsNonDecreasing}
-use Rattle.cjc_check.specs.Working.Leaving.{IsLeaving}
+use Rattle.cjc_links.specs.Leaving.{IsLeaving}
 use Rattle.cjc_check.proofs.linked.by_names.Goals as goal
 
 pub by_methods-requires : goal.by_methods-requires

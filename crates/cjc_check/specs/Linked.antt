@@ -1,0 +1,17 @@
+-- The first places of the sentences that look classes, methods and types up.
+use Rattle.std.specs.Prelude.{◌≡◌, List}
+use Rattle.cjc_export.specs.declared.tree.ExportTree.{ExportTree}
+use Rattle.cjc_check.specs.declared.linked.Linked.{Linked}
+use Rattle.cjc_sentences.specs.Spots.{first}
+use Rattle.cjc_sentences.specs.Complete.{Complete}
+use Rattle.cjc_sentences.specs.ClassRefs.{class_ref_spots, super_spots}
+use Rattle.cjc_sentences.specs.Tables.{table_spots}
+use Rattle.cjc_sentences.specs.Statics.{install_spots}
+use Rattle.cjc_sentences.specs.Described.{descriptor_spots}
+
+pub record AreFirst (r : Linked) (c : Complete) (exports : List ExportTree) : Type 0 where
+  pub class_refs : r.class_refs ≡ first (class_ref_spots c exports)
+  pub supers : r.supers ≡ first (super_spots c exports)
+  pub tables : r.tables ≡ first (table_spots c)
+  pub installs : r.installs ≡ first (install_spots c)
+  pub descriptor : r.descriptor ≡ first (descriptor_spots c)

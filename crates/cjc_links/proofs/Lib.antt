@@ -1,0 +1,3 @@
+pub mod Ascents
+pub mod Leaving
+pub mod Nibbles

@@ -1,0 +1,4 @@
+pub mod Indexed
+pub mod MethodStarts
+pub mod Parts
+pub mod Tokens

@@ -1,0 +1,16 @@
+-- Components that code holds one by one.
+use Rattle.cjc_lookup.specs.declared.parts.Parts.{Parts}
+use Rattle.cjc_sentences.specs.Complete.{Complete}
+
+abbrev pub complete_of : Parts → Complete
+complete_of p = record {
+  applet = p.applet.now;
+  import = p.import.now;
+  pool = p.pool.now;
+  class = p.class.now;
+  method = p.method.now;
+  statics = p.statics.now;
+  locations = p.locations.now;
+  export = p.export.now;
+  descriptor = p.descriptor.now;
+}

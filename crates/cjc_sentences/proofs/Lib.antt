@@ -1,0 +1,5 @@
+pub mod Arrays
+pub mod Beside
+pub mod Firsts
+pub mod Numbered
+pub mod Starts

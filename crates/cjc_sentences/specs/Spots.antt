@@ -1,0 +1,71 @@
+-- Places in components, and items that stand one behind the other in them.
+use Rattle.std.specs.Prelude.{ℕ, ◌+◌, List, [], ◌∷◌, ◌++◌, map, Bool, true, false, ◌==◌, ◌&&◌, ◌||◌, if◌then◌else◌, Option, Some, None, option_map, nat_lt, nat_le}
+use Rattle.std.specs.List.{list_any, find}
+pub use Rattle.cjc_sentences.specs.declared.spot.Spot.{Spot}
+
+-- a place by its offset in the component's info, which stands behind the tag and the size
+abbrev pub in_info : (tag at : ℕ) → Spot
+in_info tag at = record { component = tag; offset = 3 + at }
+
+-- the place is broken where the test fails
+abbrev pub unless : Bool → Spot → List Spot
+unless true s = []
+unless false s = s ∷ []
+
+-- What is broken in items that stand one behind the other, of these sizes in bytes, the first at this offset.
+unfoldable pub along : {A : Type 0} → (size : A → ℕ) → (broken : ℕ → A → List Spot) → (at : ℕ) → List A → List Spot
+along size broken at [] = []
+along size broken at (x ∷ xs) = broken at x ++ along size broken (at + size x) xs
+
+-- the same with each item's number, the first of which is this one
+unfoldable pub numbered : {A : Type 0} → (size : A → ℕ) → (broken : (number at : ℕ) → A → List Spot) → (number at : ℕ) → List A → List Spot
+numbered size broken n at [] = []
+numbered size broken n at (x ∷ xs) = broken n at x ++ numbered size broken (n + 1) (at + size x) xs
+
+-- What is broken in items of these sizes beside others, as far as there are both.
+unfoldable pub beside : {A B : Type 0} → (size : A → ℕ) → (broken : ℕ → A → B → List Spot) → (at : ℕ) → List A → List B → List Spot
+beside size broken at (x ∷ xs) (y ∷ ys) = broken at x y ++ beside size broken (at + size x) xs ys
+beside size broken at _ _ = []
+
+-- an item and the offset of its first byte
+pub record Placed (A : Type 0) : Type 0 where
+  pub at : ℕ
+  pub item : A
+
+-- items of these sizes in bytes, from an offset on
+unfoldable pub placed : {A : Type 0} → (size : A → ℕ) → (from : ℕ) → List A → List (Placed A)
+placed size from [] = []
+placed size from (x ∷ xs) = record { at = from; item = x } ∷ placed size (from + size x) xs
+
+-- where items of these sizes begin, from an offset on
+abbrev pub starts : {A : Type 0} → (size : A → ℕ) → (from : ℕ) → List A → List ℕ
+starts size from xs = map (λ p. p.at) (placed size from xs)
+
+-- an item begins at this offset
+abbrev pub begins : {A : Type 0} → List (Placed A) → ℕ → Bool
+begins items offset = list_any (λ p. p.at == offset) items
+
+-- the item that begins at this offset
+abbrev pub item_at : {A : Type 0} → List (Placed A) → ℕ → Option A
+item_at items offset = option_map (λ p. p.item) (find (λ p. p.at == offset) items)
+
+-- a number from one to another
+abbrev pub lies_between : (low high n : ℕ) → Bool
+lies_between low high n = nat_le low n && nat_le n high
+
+-- ---- the first of several places: by component, then by offset
+
+-- one does not stand after the other
+abbrev pub is_up_to : Spot → Spot → Bool
+is_up_to a b = nat_lt a.component b.component || (a.component == b.component && nat_le a.offset b.offset)
+
+-- the first of two
+abbrev pub earlier : Option Spot → Option Spot → Option Spot
+earlier None right = right
+earlier (Some a) None = Some a
+earlier (Some a) (Some b) = if is_up_to a b then Some a else Some b
+
+-- the first of several
+unfoldable pub first : List Spot → Option Spot
+first [] = None
+first (s ∷ spots) = earlier (Some s) (first spots)

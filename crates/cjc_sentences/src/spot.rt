@@ -1,0 +1,10 @@
+//! Places in components. It knows no sentence.
+
+/// A place in a component.
+#[derive(Clone, Copy)]
+pub struct Spot {
+    /// The tag of the component.
+    pub component: u8,
+    /// In bytes, from the start of the component's file.
+    pub offset: u32,
+}
