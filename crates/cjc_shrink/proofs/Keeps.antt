@@ -79,6 +79,7 @@ grown_stores l store memory thing stores new = record {
   statics = stores.statics;
   heap_fits = grown_fits l memory.heap thing stores.heap_fits new;
   statics_fit = slots_kept (grown_keeps memory.heap thing) l stores.statics_fit;
+  cells = stores.cells;
 }
 
 -- ---- another array or object of the same type in its place
@@ -125,4 +126,5 @@ set_stores l store memory k old new there same stores h = record {
   statics = stores.statics;
   heap_fits = set_fits l memory.heap k old new there same stores.heap_fits h;
   statics_fit = slots_kept (set_keeps memory.heap k old new there same) l stores.statics_fit;
+  cells = stores.cells;
 }

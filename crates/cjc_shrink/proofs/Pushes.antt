@@ -1,5 +1,6 @@
 -- Constants and locals are pushed alike.
 use Rattle.std.proofs.Common.{◌≡◌, ℕ, zero, suc, ◌+◌, refl, sym, ap, subst, ◌∙◌, arith, Bool, true, false, List, [], ◌∷◌, length, ℤ, pos, negsuc}
+use Rattle.cjc_bytes.specs.declared.fault.MemberId.{MemberId}
 use Rattle.std.specs.Prelude.{Option, Some, nat_le, nat_lt, ◌==◌, slice_get, if◌then◌else◌}
 use Rattle.std.proofs.lemmas.Bool.Decides.{nat_tests}
 use Rattle.cjc_words.specs.Words.{low_word}
@@ -15,13 +16,15 @@ use Rattle.cjc_bytecode.specs.Effects.{Do}
 use Rattle.cjc_bytecode.specs.Effects as narrow
 use Rattle.cjc_ncode.specs.declared.narrow.NInsn.{NInsn}
 use Rattle.cjc_ncode.specs.declared.narrow.NInsn.TheVariants as insns
-use Rattle.cjc_ncode.specs.Written.{Resolution, pushed_word}
+use Rattle.cjc_ncode.specs.Written.{Resolution, pushed_word, static_by}
 use Rattle.cjc_ncode.specs.ByLabel.{Named, classes, operation}
-use Rattle.cjc_by_name.specs.Linked.{Method, Linked}
+use Rattle.cjc_by_name.specs.Linked.{Method, Constant, Linked}
 use Rattle.cjc_by_name.specs.Effects.{Store, effect}
 use Rattle.cjc_by_name.specs.Effects as by_name
 use Rattle.cjc_shrink.specs.Relation.{Kind, Range, Refers, Free, Heap, NMemory, Agrees, number, null, object, Stacks, cell, Locals, no_more, local, unused, Stores}
 use Rattle.cjc_shrink.specs.Rows.{HasRoom, Same, RowAgrees, RowOnLocals, goes}
+use Rattle.cjc_shrink.specs.Objects.{class_of}
+use Rattle.cjc_shrink.specs.Cells.{IsConstant}
 use Rattle.cjc_shrink.proofs.Plain.{RowIs, as_written}
 use Rattle.cjc_shrink.proofs.Gets.{heights}
 
@@ -81,6 +84,16 @@ module _ (by : Linked) (l : Named) (r : Resolution) (m : Method) (z : ℤ) (s : 
 
   pub constant : RowAgrees by l r m (jop.Number z) [] (Range s ∷ [])
   constant = as_written by l r m (jop.Number z) (pushed_word (low_word z)) [] (Range s ∷ []) (λ place. refl) number_is
+
+  -- a static field that is a constant
+  field_is : (named : MemberId) → by.field (class_of m) named ≡ Some (Constant z) → RowIs by l m (jop.Static false named) (pushed_word (low_word z)) [] (Range s ∷ [])
+  unfolding effect
+  field_is named is room at next ks ls vs ws locals words store memory roomy stores held rest =
+      subst (λ o. Same l (Range s ∷ ks) ls (at + 1) next (by_name.static_get by m at locals store o vs) (narrow.effect (classes l) (operation (pushed_word (low_word z))) room next words memory ws)) (sym is)
+      (number_is room at next ks ls vs ws locals words store memory roomy stores held rest)
+
+  pub constant_field : (named : MemberId) → IsConstant by r m named z → RowAgrees by l r m (jop.Static false named) [] (Range s ∷ [])
+  constant_field named is = as_written by l r m (jop.Static false named) (pushed_word (low_word z)) [] (Range s ∷ []) (λ place. ap (static_by r false named) is.narrow) (field_is named is.by_name)
 
 -- ---- locals
 

@@ -1,5 +1,5 @@
 -- Static fields are read and written alike, and fields of objects are written alike.
-use Rattle.std.proofs.Common.{◌≡◌, ℕ, ◌+◌, refl, sym, ap, subst, ◌∙◌, arith, Bool, true, false, List, [], ◌∷◌, ◌++◌, length, FitsSigned, ℤ, pos, negsuc}
+use Rattle.std.proofs.Common.{◌≡◌, ℕ, ◌+◌, refl, sym, ap, subst, ◌∙◌, arith, Bool, true, false, List, [], ◌∷◌, length, FitsSigned, ℤ, pos, negsuc}
 use Rattle.std.specs.Prelude.{Option, Some, None, map, option_and_then, nat_le, nat_lt, slice_get, slice_set, ◌≤ℤ◌, if◌then◌else◌}
 use Rattle.std.specs.Int.{w8}
 use Rattle.std.proofs.lemmas.Bool.Decides.{nat_tests}
@@ -7,7 +7,6 @@ use Rattle.std.proofs.lemmas.Int.{ints}
 use Rattle.cjc_bytes.specs.declared.fault.MemberId.{MemberId}
 use Rattle.cjc_words.specs.Words.{low_byte}
 use Rattle.cjc_words.proofs.Words.{low_word_same, low_byte_fixed}
-use Rattle.cjc_code.specs.declared.insn.JOp.{JOp}
 use Rattle.cjc_code.specs.declared.insn.JOp.TheVariants as jop
 use Rattle.cjc_script.specs.declared.value.Value.{Value}
 use Rattle.cjc_script.specs.declared.value.Value.TheVariants.{Num}
@@ -19,19 +18,18 @@ use Rattle.cjc_bytecode.specs.Effects.{Slot, HeapObject, Numbers, References, Ob
 use Rattle.cjc_bytecode.specs.Effects as narrow
 use Rattle.cjc_bytecode.specs.Renaming.{keys, option_as}
 use Rattle.cjc_bytecode.proofs.Natural.{get_map, keys_same}
-use Rattle.cjc_ncode.specs.declared.narrow.NInsn.{NInsn}
 use Rattle.cjc_ncode.specs.declared.narrow.NInsn.TheVariants as insns
 use Rattle.cjc_ncode.specs.declared.narrow.PoolKey.TheVariants as pool
 use Rattle.cjc_ncode.specs.PoolOrder.{same_member}
-use Rattle.cjc_ncode.specs.Written.{Resolution, written, static_by, static_access, field_access}
-use Rattle.cjc_ncode.specs.ByLabel.{Named, by_label, classes, operation, naming, put_static, put_cell, shown_slot}
+use Rattle.cjc_ncode.specs.Written.{Resolution, static_by, static_access, field_access}
+use Rattle.cjc_ncode.specs.ByLabel.{Named, by_label, classes, naming, put_static, put_cell, shown_slot}
 use Rattle.cjc_by_name.specs.Linked.{Method, Static, Instance, Linked}
 use Rattle.cjc_by_name.specs.Effects.{Store, effect, value_in, values_with, is_same_kind, is_same_field}
 use Rattle.cjc_by_name.specs.Effects as by_name
 use Rattle.cjc_shrink.specs.Relation.{Kind, Refers, Away, Heap, NMemory, Agrees, number, null, object, Stacks, cell, left_out, Locals, CellFits, a_boolean, a_byte, a_short, an_int, a_null, an_object, SlotsFit, no_slots, slot, ThingFits, of_class, shown, Stores}
-use Rattle.cjc_shrink.specs.Rows.{HasRoom, NEffect, Same, goes, raises, RowAgrees, HasField, is_word_sort, kind_of, lists, FieldIsThere}
+use Rattle.cjc_shrink.specs.Rows.{NEffect, Same, goes, raises, RowAgrees, HasField, is_word_sort, kind_of, lists, FieldIsThere}
 use Rattle.cjc_shrink.specs.Objects.{class_of}
-use Rattle.cjc_shrink.specs.Cells.{MayBePut, CellIsThere, RowOnCells}
+use Rattle.cjc_shrink.specs.Cells.{MayBePut, CellIsThere}
 use Rattle.cjc_shrink.specs.Cells as may
 use Rattle.cjc_shrink.proofs.Plain.{RowIs, as_written}
 use Rattle.cjc_shrink.proofs.Divides.{same_word}
@@ -133,22 +131,12 @@ put_static_means Int = refl
 put_static_means (Reference kind) = refl
 put_static_means NoValue = refl
 
--- a row for the instruction that is written
-abbrev CellsAre : Linked → Named → Method → JOp → NInsn → (static_cell : MemberId) → (before after : List Kind) → Type 0
-CellsAre by l m op insn static_cell before after =
-    (room at next : ℕ) (ks ls : List Kind) (vs ws : List Value) (locals words : List (Option Value)) (store : Store) (memory : NMemory) →
-    lists (keys memory.statics) static_cell ≡ true → HasRoom (after ++ ks) m.max_stack room → Stores l store memory → Locals memory.heap ls locals words → Stacks memory.heap (before ++ ks) vs ws →
-    Same l (after ++ ks) ls (at + 1) next (effect by m at locals store op vs) (narrow.effect (classes l) (operation insn) room next words memory ws)
-
-cells_written : (by : Linked) (l : Named) (r : Resolution) (m : Method) (op : JOp) (one : NInsn) (static_cell : MemberId) (before after : List Kind) → ((place : ℕ → ℕ) → written r place op ≡ one ∷ []) → CellsAre by l m op one static_cell before after → RowOnCells by l r m op static_cell before after
-cells_written by l r m op one static_cell before after is row place insn e = subst (λ i. CellsAre by l m op i static_cell before after) (let f = is place in let g : one ≡ insn = cc in g) row
-
-get_static_is : (by : Linked) (l : Named) (m : Method) (named f : MemberId) → by.field (class_of m) named ≡ Some (Static f) → is_word_sort (field_sort f.desc) ≡ true → CellsAre by l m (jop.Static false named) (insns.Named (static_access false (field_sort f.desc)) (pool.StaticField f)) f [] (kind_of l (field_sort f.desc) ∷ [])
+get_static_is : (by : Linked) (l : Named) (m : Method) (named f : MemberId) → by.field (class_of m) named ≡ Some (Static f) → is_word_sort (field_sort f.desc) ≡ true → lists (keys (let n = l.memory in n.statics)) f ≡ true → RowIs by l m (jop.Static false named) (insns.Named (static_access false (field_sort f.desc)) (pool.StaticField f)) [] (kind_of l (field_sort f.desc) ∷ [])
 unfolding effect
-get_static_is by l m named f is one room at next ks ls vs ws locals words store memory has roomy stores held rest =
+get_static_is by l m named f is one has room at next ks ls vs ws locals words store memory roomy stores held rest =
     let Meets = Same l (kind_of l (field_sort f.desc) ∷ ks) ls (at + 1) next in
     let h = heights rest in let e = h.by_name in let g = h.narrow in let high = roomy.by_name in let high' = roomy.narrow in
-    let r = found l memory.heap f stores.statics_fit has in
+    let r = found l memory.heap f stores.statics_fit (ap (λ fs. lists fs f) stores.cells ∙ has) in
     let push : Value → by_name.Effect = λ v. by_name.push by m at locals store v vs in
     let onto : List Value → NEffect = λ new. narrow.onward new room next words memory ws in
     let narrow_value : Value → NEffect = λ v. words_of (letter_of (field_sort f.desc)) v narrow.Stick onto in
@@ -163,20 +151,20 @@ get_static_is by l m named f is one room at next ks ls vs ws locals words store 
     (subst (λ b. Meets (by_name.onward by m at locals store (r.value ∷ vs)) (if b then narrow.Go next (r.value ∷ ws) words memory else narrow.Stick)) (sym right)
     (goes (cell (cell_agrees l memory.heap r.fits one) rest) held stores)))))))
 
-pub getstatic : (by : Linked) (l : Named) (r : Resolution) (m : Method) (named : MemberId) → CellIsThere by r m named → RowOnCells by l r m (jop.Static false named) (r.field named) [] (kind_of l (field_sort named.desc) ∷ [])
+pub getstatic : (by : Linked) (l : Named) (r : Resolution) (m : Method) (named : MemberId) → CellIsThere by l r m named → RowAgrees by l r m (jop.Static false named) [] (kind_of l (field_sort named.desc) ∷ [])
 getstatic by l r m named there =
     let f = r.field named in
-    let row = get_static_is by l m named f there.is_found (ap is_word_sort there.type ∙ there.one_word) in
-    cells_written by l r m (jop.Static false named) (insns.Named (static_access false (field_sort named.desc)) (pool.StaticField f)) f [] (kind_of l (field_sort named.desc) ∷ []) (λ place. ap (static_by r false named) there.is_no_constant)
-    (subst (λ sort. CellsAre by l m (jop.Static false named) (insns.Named (static_access false sort) (pool.StaticField f)) f [] (kind_of l sort ∷ [])) there.type row)
+    let row = get_static_is by l m named f there.is_found (ap is_word_sort there.type ∙ there.one_word) there.has in
+    as_written by l r m (jop.Static false named) (insns.Named (static_access false (field_sort named.desc)) (pool.StaticField f)) [] (kind_of l (field_sort named.desc) ∷ []) (λ place. ap (static_by r false named) there.is_no_constant)
+    (subst (λ sort. RowIs by l m (jop.Static false named) (insns.Named (static_access false sort) (pool.StaticField f)) [] (kind_of l sort ∷ [])) there.type row)
 
-put_static_is : (by : Linked) (l : Named) (m : Method) (named f : MemberId) (k : Kind) → by.field (class_of m) named ≡ Some (Static f) → MayBePut l (field_sort f.desc) k → CellsAre by l m (jop.Static true named) (insns.Named (static_access true (field_sort f.desc)) (pool.StaticField f)) f (k ∷ []) []
+put_static_is : (by : Linked) (l : Named) (m : Method) (named f : MemberId) (k : Kind) → by.field (class_of m) named ≡ Some (Static f) → MayBePut l (field_sort f.desc) k → lists (keys (let n = l.memory in n.statics)) f ≡ true → RowIs by l m (jop.Static true named) (insns.Named (static_access true (field_sort f.desc)) (pool.StaticField f)) (k ∷ []) []
 unfolding effect
-put_static_is by l m named f _ is may_be room at next ks ls _ _ locals words store memory has roomy stores held (left_out a rest) = absurd (never_away l (field_sort f.desc) _ may_be)
-put_static_is by l m named f k is may_be room at next ks ls _ _ locals words store memory has roomy stores held (cell {v = v} {w = w} {vs = vs} {ws = ws} agree rest) =
+put_static_is by l m named f _ is may_be has room at next ks ls _ _ locals words store memory roomy stores held (left_out a rest) = absurd (never_away l (field_sort f.desc) _ may_be)
+put_static_is by l m named f k is may_be has room at next ks ls _ _ locals words store memory roomy stores held (cell {v = v} {w = w} {vs = vs} {ws = ws} agree rest) =
     let Meets = Same l ks ls (at + 1) next in
     let p = put_held l memory.heap may_be agree in
-    let r = found l memory.heap f stores.statics_fit has in
+    let r = found l memory.heap f stores.statics_fit (ap (λ fs. lists fs f) stores.cells ∙ has) in
     let kinds = same_kinds l memory.heap r.fits p.fits in
     let named_side = by_name.with_statics by m at locals store (values_with store.statics f v) vs in
     let named_value : Value → by_name.Effect = λ old. by_name.only_if (is_same_kind old v) named_side in
@@ -196,14 +184,15 @@ put_static_is by l m named f k is may_be room at next ks ls _ _ locals words sto
       statics = ap (λ s. values_with s f v) stores.statics ∙ values_shown memory.statics f v;
       heap_fits = stores.heap_fits;
       statics_fit = slots_put l memory.heap f v stores.statics_fit p.fits;
+      cells = keys_same same_member memory.statics f v ∙ stores.cells;
     })))))))))
 
-pub putstatic : (by : Linked) (l : Named) (r : Resolution) (m : Method) (named : MemberId) (k : Kind) → CellIsThere by r m named → MayBePut l (field_sort named.desc) k → RowOnCells by l r m (jop.Static true named) (r.field named) (k ∷ []) []
+pub putstatic : (by : Linked) (l : Named) (r : Resolution) (m : Method) (named : MemberId) (k : Kind) → CellIsThere by l r m named → MayBePut l (field_sort named.desc) k → RowAgrees by l r m (jop.Static true named) (k ∷ []) []
 putstatic by l r m named k there may_be =
     let f = r.field named in
-    let row = put_static_is by l m named f k there.is_found (subst (λ sort. MayBePut l sort k) (sym there.type) may_be) in
-    cells_written by l r m (jop.Static true named) (insns.Named (static_access true (field_sort named.desc)) (pool.StaticField f)) f (k ∷ []) [] (λ place. ap (static_by r true named) there.is_no_constant)
-    (subst (λ sort. CellsAre by l m (jop.Static true named) (insns.Named (static_access true sort) (pool.StaticField f)) f (k ∷ []) []) there.type row)
+    let row = put_static_is by l m named f k there.is_found (subst (λ sort. MayBePut l sort k) (sym there.type) may_be) there.has in
+    as_written by l r m (jop.Static true named) (insns.Named (static_access true (field_sort named.desc)) (pool.StaticField f)) (k ∷ []) [] (λ place. ap (static_by r true named) there.is_no_constant)
+    (subst (λ sort. RowIs by l m (jop.Static true named) (insns.Named (static_access true sort) (pool.StaticField f)) (k ∷ []) []) there.type row)
 
 -- ---- fields of objects
 

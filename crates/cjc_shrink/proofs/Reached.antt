@@ -1,55 +1,75 @@
 -- Calls of the package's methods keep their rules.
-use Rattle.std.proofs.Common.{◌≡◌, ℕ, ◌+◌, refl, sym, ap, subst, ◌∙◌, Bool, true, List, [], ◌∷◌, ◌++◌}
-use Rattle.std.specs.Prelude.{Some, reverse, slice_get}
+use Rattle.std.proofs.Common.{◌≡◌, ℕ, ◌+◌, refl, sym, ap, subst, ◌∙◌, Bool, true, List, [], ◌∷◌, ◌++◌, length, take, drop, reverse}
+use Rattle.std.specs.Prelude.{Some, slice_get}
 use Rattle.cjc_bytes.specs.declared.fault.MemberId.{MemberId}
 use Rattle.cjc_code.specs.declared.insn.JInsn.{JInsn}
 use Rattle.cjc_script.specs.declared.script.Entry.{Entry}
 use Rattle.cjc_script.specs.declared.report.Note.{Note}
-use Rattle.cjc_script.specs.declared.report.Outcome.TheVariants.{Unfit}
-use Rattle.cjc_script.specs.Sorts.{Shape, OfClass, Signature}
+use Rattle.cjc_script.specs.declared.report.Outcome.TheVariants.{Waiting as WaitingOutcome, Unfit}
+use Rattle.cjc_script.specs.declared.value.Value.{Value}
+use Rattle.cjc_script.specs.declared.value.Value.TheVariants.{Obj}
+use Rattle.cjc_script.specs.Sorts.{Shape, Signature, shape_name}
 use Rattle.cjc_bytecode.specs.Runs.{Move}
+use Rattle.cjc_bytecode.specs.Effects.{HeapObject, shape}
 use Rattle.cjc_bytecode.specs.Effects as effects
 use Rattle.cjc_bytecode.specs.Machine as narrow
 use Rattle.cjc_ncode.specs.ByLabel.{Callee, Named, by_label}
 use Rattle.cjc_by_name.specs.Linked.{Method, Linked}
-use Rattle.cjc_by_name.specs.Effects.{Fault, exception_class}
+use Rattle.cjc_by_name.specs.Linked
+use Rattle.cjc_by_name.specs.Effects.{Fault, NullPointer}
 use Rattle.cjc_by_name.specs.Effects as by_name
-use Rattle.cjc_by_name.specs.Machine.{Frame, State, frame_for_call, after_effect, step, room, report, begins as named_begins}
-use Rattle.cjc_shrink.specs.Relation.{Kind, Refers, Stacks}
-use Rattle.cjc_shrink.specs.Rows.{HasRoom}
-use Rattle.cjc_shrink.specs.Calls.{NFrame, NState, NTurn, CallAgrees, begins, fails, IsStaticCall, IsObjectCall}
-use Rattle.cjc_shrink.specs.Throws.{nheap, IsRaised}
+use Rattle.cjc_by_name.specs.Machine.{Frame, State, frame_for_call, at_callee, after_fault, after_effect, step, room, report, begins as named_begins}
+use Rattle.cjc_shrink.specs.Relation.{OnBoth, Kind, Refers, Stacks}
+use Rattle.cjc_shrink.specs.Rows.{HasRoom, narrow_fault}
+use Rattle.cjc_shrink.specs.Calls.{NFrame, NState, NTurn, CallAgrees, begins, fails, IsStaticCall, IsReceiverCall}
+use Rattle.cjc_shrink.specs.Throws.{nheap}
 use Rattle.cjc_shrink.specs.Acts.{ActsAlike}
-use Rattle.cjc_shrink.specs.Replies.{StatesAgree}
+use Rattle.cjc_shrink.specs.Replies.{StatesAgree, result_kinds, IsStaticImport, Replies, goes_on, waits as waits_for_answer, is_unfit, AnswersLand}
+use Rattle.cjc_shrink.specs.Replies as replies
 use Rattle.cjc_shrink.specs.Entries.{MayEnter, IsEntry, entry_kinds, EntryAgrees}
 use Rattle.cjc_shrink.specs.Entries as entries_spec
 use Rattle.cjc_shrink.specs.Turns.{with_spent}
-use Rattle.cjc_shrink.specs.Tables.{Point, Table, class_of_code, code_of, Arrives, Stands, Waits, Waiting, no_frame, a_frame, inside}
-use Rattle.cjc_shrink.specs.Runs.{Both, onward, Rule, calls, Begins, into, unfit}
-use Rattle.cjc_shrink.specs.Reached.{CallsInside, MayBeCalled, MayBegin}
-use Rattle.cjc_shrink.proofs.Begins.{static_call, object_call}
+use Rattle.cjc_shrink.specs.Tables.{Point, Table, MayRaise, class_of_code, code_of, Arrives, Stands, Waits, Waiting, no_frame, a_frame, inside}
+use Rattle.cjc_shrink.specs.Runs.{Both, onward, over, Rule, calls, Begins, into, unfit}
+use Rattle.cjc_shrink.specs.Reached.{IsCallAt, MayBeCalled, MayBeAnswered, MaySelectOn, IsAnswered, MayBegin}
+use Rattle.cjc_shrink.specs.Reached as reached
+use Rattle.cjc_shrink.proofs.Begins.{to_static, static_call, to_receiver, receive_both, selected_both}
 use Rattle.cjc_shrink.proofs.Entries.{entry_begun}
+use Rattle.cjc_shrink.proofs.Imports.{static_reached, selected_abroad}
 use Rattle.cjc_shrink.proofs.Paths.{turns_are}
-use Rattle.cjc_shrink.proofs.Whole.{both_spent, Meets, failed_both, report_alike}
+use Rattle.cjc_shrink.proofs.Whole.{both_spent, waiting_kept, arrived, Meets, meets_kept, raised_both, failed_both, report_alike}
 use Rattle.cjc_shrink.proofs.Widens.{stacks_wider, locals_wider}
 
-module _ (by : Linked) (l : Named) (tb : Table) (raises : (fault : Fault) → IsRaised l fault) (may_raise : (fault : Fault) → tb.may_throw (OfClass (exception_class fault)) ≡ true) where
+module _ (by : Linked) (l : Named) (tb : Table) (may_raise : MayRaise l tb) where
   module _ (i : JInsn) (op : ℕ) (id : MemberId) (named : Callee) (params : List Kind) (f : Frame) (outer : List Frame) (s : State) (g : NFrame) (others : List NFrame) (t : NState)
-      (same : StatesAgree l s t) (stands : Stands tb (nheap t) f g) (waiting : Waiting by l tb (nheap t) (tb.results f.method) outer others) (facts : CallsInside by l tb f.method f.at stands.point i op id named params) where
+      (same : StatesAgree l s t) (stands : Stands tb (nheap t) f g) (waiting : Waiting by l tb (nheap t) (tb.results f.method) outer others) (facts : IsCallAt by l tb f.method f.at stands.point i op id named params) where
     abbrev known : List Kind
     known = let p = stands.point in p.locals
 
     abbrev MayReach : Method → Type 0
     MayReach = MayBeCalled tb f.method f.at params facts.ks known
 
-    same' : StatesAgree l s (with_spent t)
+    -- the frames that wait, with what is left on their stacks
+    abbrev waits : List Value → Frame
+    waits vs = record f { stack = vs }
+
+    abbrev waiting_at : List Value → NFrame
+    waiting_at ws = record g { next = g.at + 1; stack = ws }
+
+    pub same' : StatesAgree l s (with_spent t)
     same' = record { stores = same.stores; entries = same.entries; answers = same.answers; notes = same.notes }
 
     pub stack_known : Stacks (nheap t) (reverse params ++ facts.ks) f.stack g.stack
     stack_known = subst (λ kinds. Stacks (nheap t) kinds f.stack g.stack) facts.stack stands.agree.stack
 
+    meets : (vs ws : List Value) → Meets by l tb (nheap t) (waits vs) (waiting_at ws)
+    meets vs ws = record { ls = known; held = stands.agree.locals; code = stands.code; place = stands.place; catches = facts.catches }
+
+    pub fails_both : (fault : Fault) (vs ws : List Value) → Both by l tb (after_fault by fault (waits vs) outer s) (narrow.failed (by_label l) (narrow_fault fault) (waiting_at ws) others (with_spent t))
+    fails_both fault vs ws = failed_both by l tb (waits vs) outer s (waiting_at ws) others (with_spent t) same' (meets vs ws) waiting fault (may_raise.raises fault) (may_raise.may_raise fault)
+
     -- what is reached begins above frames that wait, or null raises
-    call_both : {m : Move State} {u : NTurn} → CallAgrees by l tb.narrowed MayReach params facts.ks (g.at + 1) f outer s g others (with_spent t) m u → Both by l tb m u
+    pub call_both : {m : Move State} {u : NTurn} → CallAgrees by l tb.narrowed MayReach params facts.ks (g.at + 1) f outer s g others (with_spent t) m u → Both by l tb m u
     call_both (begins callee args words vs ws may frames low) =
         let enters = may.enters in
         let stands' : Stands tb (nheap t) (frame_for_call callee args) (narrow.entered (tb.narrowed callee) words) = record {
@@ -59,7 +79,7 @@ module _ (by : Linked) (l : Named) (tb : Table) (raises : (fault : Fault) → Is
           place = enters.place;
           agree = record { stack = stacks_wider enters.stack frames.stack; locals = locals_wider enters.locals frames.locals };
         } in
-        let waits : Waits by l tb (nheap t) (tb.results callee) (record f { stack = vs }) (record g { next = g.at + 1; stack = ws }) = record {
+        let in_caller : Waits by l tb (nheap t) (tb.results callee) (waits vs) (waiting_at ws) = record {
           ks = facts.ks;
           ls = known;
           code = stands.code;
@@ -69,37 +89,59 @@ module _ (by : Linked) (l : Named) (tb : Table) (raises : (fault : Fault) → Is
           has_room = subst (λ code. HasRoom (tb.results callee ++ facts.ks) (room f) code.max_stack) (sym stands.code) may.has_room;
           catches = facts.catches;
         } in
-        onward (inside (frame_for_call callee args) (record f { stack = vs } ∷ outer) s (narrow.entered (tb.narrowed callee) words) (record g { next = g.at + 1; stack = ws } ∷ others) (with_spent t) same' stands' (a_frame waits waiting))
-    call_both (fails fault vs ws) =
-        let meets : Meets by l tb (nheap t) (record f { stack = vs }) (record g { next = g.at + 1; stack = ws }) = record { ls = known; held = stands.agree.locals; code = stands.code; place = stands.place; catches = facts.catches } in
-        failed_both by l tb (record f { stack = vs }) outer s (record g { next = g.at + 1; stack = ws }) others (with_spent t) same' meets waiting fault (raises fault) (may_raise fault)
+        onward (inside (frame_for_call callee args) (waits vs ∷ outer) s (narrow.entered (tb.narrowed callee) words) (waiting_at ws ∷ others) (with_spent t) same' stands' (a_frame in_caller waiting))
+    call_both (fails fault vs ws) = fails_both fault vs ws
+
+    -- an imported method is answered
+    abbrev pub LandsBoth : (class : List ℕ) → State → NState → Move State → NTurn → Type 0
+    LandsBoth class u v m n = Both by l tb m n
+
+    pub lands_both : IsAnswered by l tb → (vs ws : List Value) → AnswersLand by l LandsBoth (nheap t) (waits vs) outer (waiting_at ws) others
+    lands_both answered vs ws = record {
+      acts = answered.acts;
+      throws = answered.throws;
+      lands = λ class may u v agree keeps otherwise. (let thrown = answered.throws class in raised_both by l tb (waits vs) outer u (waiting_at ws) others v agree (meets_kept by l tb keeps (meets vs ws)) (waiting_kept by l tb keeps waiting) class (thrown.no_fields may) (answered.may_throw class may) otherwise);
+    }
+
+    pub replies_both : (results : List Kind) → MayBeAnswered tb f.method f.at results facts.ks known → (vs ws : List Value) {m : Move State} {u : NTurn} → Replies by l LandsBoth (nheap t) results facts.ks known (waits vs) outer (waiting_at ws) others m u → Both by l tb m u
+    replies_both results may vs ws (goes_on {s = u} {t = v} {vs = after} {ws = after'} agree keeps stack held) =
+        onward (inside (record f { at = f.at + 1; stack = after }) outer u (record (waiting_at ws) { at = g.at + 1; stack = after' }) others v agree
+        (arrived by l tb (waits vs) (waiting_at ws) (nheap v) (f.at + 1) (g.at + 1) (results ++ facts.ks) known after after' f.locals g.locals stands.code (subst (λ k. Arrives tb f.method (f.at + 1) (k + 1) (results ++ facts.ks) known) (sym stands.place) may.resumes) stack held) (waiting_kept by l tb keeps waiting))
+    replies_both results may vs ws (replies.throws class both) = both
+    replies_both results may vs ws (waits_for_answer {s = u} {t = v} agree) = over (report WaitingOutcome u) WaitingOutcome v (report_alike by l tb WaitingOutcome u v agree) (λ e. cc) (λ at e. cc)
+    replies_both results may vs ws (is_unfit {s = u} {t = v} number agree) = over (report (Unfit number) u) (Unfit number) v (report_alike by l tb (Unfit number) u v agree) (λ e. cc) (λ at e. cc)
+
+    pub roomy : (results : List Kind) → MayBeAnswered tb f.method f.at results facts.ks known → HasRoom (results ++ facts.ks) (room f) (let code = g.code in code.max_stack)
+    roomy results may = subst (λ code. HasRoom (results ++ facts.ks) (room f) code.max_stack) (sym stands.code) may.has_room
 
     -- the turn of the call
-    pub call_turn : slice_get (let m = f.method in m.insns) f.at ≡ Some i → CallAgrees by l tb.narrowed MayReach params facts.ks (g.at + 1) f outer s g others (with_spent t) (after_effect by (by_name.Invoke op id) f outer s) (narrow.made (by_label l) (effects.Invoke named) (g.at + 1) g others (with_spent t))
+    pub call_turn : slice_get (let m = f.method in m.insns) f.at ≡ Some i → Both by l tb (after_effect by (by_name.Invoke op id) f outer s) (narrow.made (by_label l) (effects.Invoke named) (g.at + 1) g others (with_spent t))
         → Both by l tb (step by (f ∷ outer) s) (narrow.step (by_label l) (g ∷ others) t)
     call_turn there agrees =
         let here : slice_get (let code = g.code in code.insns) g.at ≡ Some facts.insn = ap (λ code. slice_get code.insns g.at) stands.code ∙ ap (slice_get (let code = code_of tb f.method in code.insns)) stands.place ∙ facts.is_written in
         let both = facts.is_named (let code = g.code in code.max_stack) (g.at + 1) f.stack g.stack f.locals g.locals s.store t.memory in
         let turns = turns_are by l f outer s g others t i facts.insn there here (by_name.Invoke op id) (effects.Invoke named) (ap (λ op. by_name.effect by f.method f.at f.locals s.store op f.stack) facts.is_call ∙ both.named_side) both.narrow_side in
         subst (λ m. Both by l tb m (narrow.step (by_label l) (g ∷ others) t)) (sym turns.by_name)
-        (subst (Both by l tb _) (sym turns.narrow) (both_spent by l tb t.spent (call_both agrees)))
+        (subst (Both by l tb _) (sym turns.narrow) (both_spent by l tb t.spent agrees))
 
-  -- a static method
+  -- ---- a static method
+
   record StaticFacts (m : Method) (at : ℕ) (p : Point) (i : JInsn) (op : ℕ) (id : MemberId) (named : Callee) (params : List Kind) : Type 0 where
-    pub facts : CallsInside by l tb m at p i op id named params
+    pub facts : IsCallAt by l tb m at p i op id named params
     pub call : IsStaticCall by l tb.narrowed (class_of_code m) op id named params
     pub may : MayBeCalled tb m at params facts.ks p.locals call.callee
 
   static_turn : (i : JInsn) (op : ℕ) (id : MemberId) (named : Callee) (params : List Kind) (f : Frame) (outer : List Frame) (s : State) (g : NFrame) (others : List NFrame) (t : NState) → slice_get (let n = f.method in n.insns) f.at ≡ Some i → StatesAgree l s t → (stands : Stands tb (nheap t) f g) → Waiting by l tb (nheap t) (tb.results f.method) outer others
       → StaticFacts f.method f.at stands.point i op id named params → Both by l tb (step by (f ∷ outer) s) (narrow.step (by_label l) (g ∷ others) t)
-  static_turn i op id named params f outer s g others t there same stands waiting known =
-      let facts = known.facts in
+  static_turn i op id named params f outer s g others t there same stands waiting bundle =
+      let facts = bundle.facts in
       let p = stands.point in
       call_turn i op id named params f outer s g others t same stands waiting facts there
-      (static_call by l tb.narrowed (MayBeCalled tb f.method f.at params facts.ks p.locals) op id named params facts.ks p.locals (g.at + 1) f outer s g others (with_spent t) known.call known.may
-      (record { stack = stack_known i op id named params f outer s g others t same stands waiting facts; locals = stands.agree.locals }))
+      (call_both i op id named params f outer s g others t same stands waiting facts
+      (static_call by l tb.narrowed (MayBeCalled tb f.method f.at params facts.ks p.locals) op id named params facts.ks p.locals (g.at + 1) f outer s g others (with_spent t) bundle.call bundle.may
+      (record { stack = stack_known i op id named params f outer s g others t same stands waiting facts; locals = stands.agree.locals })))
 
-  pub static_rule : (m : Method) (at : ℕ) (p : Point) (i : JInsn) (op : ℕ) (id : MemberId) (named : Callee) (params : List Kind) → (facts : CallsInside by l tb m at p i op id named params) → (call : IsStaticCall by l tb.narrowed (class_of_code m) op id named params) → MayBeCalled tb m at params facts.ks p.locals call.callee → Rule by l tb m at p i
+  pub static_rule : (m : Method) (at : ℕ) (p : Point) (i : JInsn) (op : ℕ) (id : MemberId) (named : Callee) (params : List Kind) → (facts : IsCallAt by l tb m at p i op id named params) → (call : IsStaticCall by l tb.narrowed (class_of_code m) op id named params) → MayBeCalled tb m at params facts.ks p.locals call.callee → Rule by l tb m at p i
   static_rule m at p i op id named params facts call may =
       let bundle : StaticFacts m at p i op id named params = record { facts = facts; call = call; may = may } in
       calls (λ f outer s g others t is_method is_at there same stands is_point waiting.
@@ -108,29 +150,87 @@ module _ (by : Linked) (l : Named) (tb : Table) (raises : (fault : Fault) → Is
       (subst (λ k. StaticFacts f.method k p i op id named params) (sym is_at)
       (subst (λ n. StaticFacts n at p i op id named params) (sym is_method) bundle))))
 
-  -- a method that is selected on a receiver
-  record ObjectFacts (m : Method) (at : ℕ) (p : Point) (i : JInsn) (op : ℕ) (id : MemberId) (named : Callee) (within : Shape (List ℕ) → Bool) (params : List Kind) : Type 0 where
-    pub facts : CallsInside by l tb m at p i op id named (Refers within ∷ params)
-    pub call : IsObjectCall by l tb.narrowed (class_of_code m) op id named within params
-    pub may : (kind : Shape (List ℕ)) (is : within kind ≡ true) → let h = call.selects kind is in MayBeCalled tb m at (Refers within ∷ params) facts.ks p.locals h.callee
+  module _ (answered : IsAnswered by l tb) where
+    -- ---- a static imported method
 
-  object_turn : (i : JInsn) (op : ℕ) (id : MemberId) (named : Callee) (within : Shape (List ℕ) → Bool) (params : List Kind) (f : Frame) (outer : List Frame) (s : State) (g : NFrame) (others : List NFrame) (t : NState) → slice_get (let n = f.method in n.insns) f.at ≡ Some i → StatesAgree l s t → (stands : Stands tb (nheap t) f g) → Waiting by l tb (nheap t) (tb.results f.method) outer others
-      → ObjectFacts f.method f.at stands.point i op id named within params → Both by l tb (step by (f ∷ outer) s) (narrow.step (by_label l) (g ∷ others) t)
-  object_turn i op id named within params f outer s g others t there same stands waiting known =
-      let facts = known.facts in
-      let p = stands.point in
-      call_turn i op id named (Refers within ∷ params) f outer s g others t same stands waiting facts there
-      (object_call by l tb.narrowed (MayBeCalled tb f.method f.at (Refers within ∷ params) facts.ks p.locals) op id named within params facts.ks p.locals (g.at + 1) f outer s g others (with_spent t) known.call known.may same.stores
-      (record { stack = stack_known i op id named (Refers within ∷ params) f outer s g others t same stands waiting facts; locals = stands.agree.locals }))
+    record ImportFacts (m : Method) (at : ℕ) (p : Point) (i : JInsn) (op : ℕ) (id event : MemberId) (named : Callee) (types : Signature) (params : List Kind) : Type 0 where
+      pub facts : IsCallAt by l tb m at p i op id named params
+      pub call : IsStaticImport by l (class_of_code m) op id event named types params
+      pub may : MayBeAnswered tb m at (result_kinds l types.result) facts.ks p.locals
 
-  pub object_rule : (m : Method) (at : ℕ) (p : Point) (i : JInsn) (op : ℕ) (id : MemberId) (named : Callee) (within : Shape (List ℕ) → Bool) (params : List Kind) → (facts : CallsInside by l tb m at p i op id named (Refers within ∷ params)) → (call : IsObjectCall by l tb.narrowed (class_of_code m) op id named within params) → ((kind : Shape (List ℕ)) (is : within kind ≡ true) → let h = call.selects kind is in MayBeCalled tb m at (Refers within ∷ params) facts.ks p.locals h.callee) → Rule by l tb m at p i
-  object_rule m at p i op id named within params facts call may =
-      let bundle : ObjectFacts m at p i op id named within params = record { facts = facts; call = call; may = may } in
-      calls (λ f outer s g others t is_method is_at there same stands is_point waiting.
-      object_turn i op id named within params f outer s g others t there same stands waiting
-      (subst (λ q. ObjectFacts f.method f.at q i op id named within params) (sym is_point)
-      (subst (λ k. ObjectFacts f.method k p i op id named within params) (sym is_at)
-      (subst (λ n. ObjectFacts n at p i op id named within params) (sym is_method) bundle))))
+    import_turn : (i : JInsn) (op : ℕ) (id event : MemberId) (named : Callee) (types : Signature) (params : List Kind) (f : Frame) (outer : List Frame) (s : State) (g : NFrame) (others : List NFrame) (t : NState) → slice_get (let n = f.method in n.insns) f.at ≡ Some i → StatesAgree l s t → (stands : Stands tb (nheap t) f g) → Waiting by l tb (nheap t) (tb.results f.method) outer others
+        → ImportFacts f.method f.at stands.point i op id event named types params → Both by l tb (step by (f ∷ outer) s) (narrow.step (by_label l) (g ∷ others) t)
+    import_turn i op id event named types params f outer s g others t there same stands waiting bundle =
+        let facts = bundle.facts in
+        let call = bundle.call in
+        let p = stands.point in
+        let import_is = call.is in
+        let agree = same' i op id named params f outer s g others t same stands waiting facts in
+        let n = length types.params in
+        call_turn i op id named params f outer s g others t same stands waiting facts there
+        (to_static by l op id named types params facts.ks (g.at + 1) f outer s g others (with_spent t) (Both by l tb) (Linked.Abroad event) call.by_name import_is.has_types import_is.passes call.narrow_class call.narrow_words (stack_known i op id named params f outer s g others t same stands waiting facts) (λ plain passed low.
+        let vs = drop n f.stack in
+        let ws = drop n g.stack in
+        replies_both i op id named params f outer s g others t same stands waiting facts (result_kinds l types.result) bundle.may vs ws
+        (static_reached by l (LandsBoth i op id named params f outer s g others t same stands waiting facts) op id event named types params facts.ks p.locals (g.at + 1) f outer s g others (with_spent t) call agree stands.agree.locals (roomy i op id named params f outer s g others t same stands waiting facts (result_kinds l types.result) bundle.may) (reverse (take n f.stack)) (reverse (take n g.stack)) vs ws passed low
+        (lands_both i op id named params f outer s g others t same stands waiting facts answered vs ws))))
+
+    pub import_rule : (m : Method) (at : ℕ) (p : Point) (i : JInsn) (op : ℕ) (id event : MemberId) (named : Callee) (types : Signature) (params : List Kind) → (facts : IsCallAt by l tb m at p i op id named params) → IsStaticImport by l (class_of_code m) op id event named types params → MayBeAnswered tb m at (result_kinds l types.result) facts.ks p.locals → Rule by l tb m at p i
+    import_rule m at p i op id event named types params facts call may =
+        let bundle : ImportFacts m at p i op id event named types params = record { facts = facts; call = call; may = may } in
+        calls (λ f outer s g others t is_method is_at there same stands is_point waiting.
+        import_turn i op id event named types params f outer s g others t there same stands waiting
+        (subst (λ q. ImportFacts f.method f.at q i op id event named types params) (sym is_point)
+        (subst (λ k. ImportFacts f.method k p i op id event named types params) (sym is_at)
+        (subst (λ n. ImportFacts n at p i op id event named types params) (sym is_method) bundle))))
+
+    -- ---- a method that is selected on a receiver
+
+    record ObjectFacts (m : Method) (at : ℕ) (p : Point) (i : JInsn) (op : ℕ) (id : MemberId) (named : Callee) (within : Shape (List ℕ) → Bool) (types : Signature) (params : List Kind) : Type 0 where
+      pub facts : IsCallAt by l tb m at p i op id named (Refers within ∷ params)
+      pub call : IsReceiverCall by l (class_of_code m) op id named within types params
+      pub may : (kind : Shape (List ℕ)) → within kind ≡ true → MaySelectOn by l tb m at id named within types params facts.ks p.locals call.selected kind
+
+    object_turn : (i : JInsn) (op : ℕ) (id : MemberId) (named : Callee) (within : Shape (List ℕ) → Bool) (types : Signature) (params : List Kind) (f : Frame) (outer : List Frame) (s : State) (g : NFrame) (others : List NFrame) (t : NState) → slice_get (let n = f.method in n.insns) f.at ≡ Some i → StatesAgree l s t → (stands : Stands tb (nheap t) f g) → Waiting by l tb (nheap t) (tb.results f.method) outer others
+        → ObjectFacts f.method f.at stands.point i op id named within types params → Both by l tb (step by (f ∷ outer) s) (narrow.step (by_label l) (g ∷ others) t)
+    object_turn i op id named within types params f outer s g others t there same stands waiting bundle =
+        let facts = bundle.facts in
+        let call = bundle.call in
+        let all = Refers within ∷ params in
+        let n = length types.params in
+        call_turn i op id named all f outer s g others t same stands waiting facts there
+        (to_receiver by l op id named within types params facts.ks (g.at + 1) f outer s g others (with_spent t) (Both by l tb) call (stack_known i op id named all f outer s g others t same stands waiting facts) (λ plain passed rest.
+        receive_both by l named within params facts.ks (g.at + 1) f outer s g others (with_spent t) (Both by l tb) call.selected types.result same.stores (fails_both i op id named all f outer s g others t same stands waiting facts NullPointer)
+        (λ k thing there passes args words vs ws passed low. select plain k thing there passes args words vs ws passed low (bundle.may (shape thing) passes))
+        n f.stack g.stack (drop n f.stack) (drop n g.stack) refl refl passed rest))
+      where
+        select : OnBoth params → (k : ℕ) (thing : HeapObject (List ℕ) MemberId) → slice_get (nheap t) k ≡ Some thing → within (shape thing) ≡ true → (args words vs ws : List Value) → Stacks (nheap t) params args words → (let h = bundle.facts in Stacks (nheap t) h.ks vs ws)
+            → (let h = bundle.facts in let p = stands.point in let call = bundle.call in MaySelectOn by l tb f.method f.at id named within types params h.ks p.locals call.selected (shape thing))
+            → (let call = bundle.call in Both by l tb (at_callee by (call.selected (shape_name (shape thing))) types.result (Obj k ∷ args) (record f { stack = vs }) outer s) (narrow.reaches (by_label l) (l.reached named (Some (shape thing))) true (Obj k ∷ words) (record g { next = g.at + 1; stack = ws }) others (with_spent t)))
+        select plain k thing there passes args words vs ws passed low (reached.inside h may) =
+            let facts = bundle.facts in
+            let call = bundle.call in
+            let p = stands.point in
+            let all = Refers within ∷ params in
+            call_both i op id named all f outer s g others t same stands waiting facts
+            (selected_both by l tb.narrowed (MayBeCalled tb f.method f.at all facts.ks p.locals) named within params facts.ks (g.at + 1) f outer s g others (with_spent t) plain call.selected types.result k thing there passes h may args words vs ws passed low)
+        select plain k thing there passes args words vs ws passed low (reached.abroad h may) =
+            let facts = bundle.facts in
+            let call = bundle.call in
+            let p = stands.point in
+            let all = Refers within ∷ params in
+            replies_both i op id named all f outer s g others t same stands waiting facts (result_kinds l types.result) may vs ws
+            (selected_abroad by l (LandsBoth i op id named all f outer s g others t same stands waiting facts) id named types params facts.ks p.locals (g.at + 1) f outer s g others (with_spent t) call.selected (same' i op id named all f outer s g others t same stands waiting facts) stands.agree.locals (roomy i op id named all f outer s g others t same stands waiting facts (result_kinds l types.result) may) k thing h args words vs ws passed low
+            (lands_both i op id named all f outer s g others t same stands waiting facts answered vs ws))
+
+    pub object_rule : (m : Method) (at : ℕ) (p : Point) (i : JInsn) (op : ℕ) (id : MemberId) (named : Callee) (within : Shape (List ℕ) → Bool) (types : Signature) (params : List Kind) → (facts : IsCallAt by l tb m at p i op id named (Refers within ∷ params)) → (call : IsReceiverCall by l (class_of_code m) op id named within types params) → ((kind : Shape (List ℕ)) → within kind ≡ true → MaySelectOn by l tb m at id named within types params facts.ks p.locals call.selected kind) → Rule by l tb m at p i
+    object_rule m at p i op id named within types params facts call may =
+        let bundle : ObjectFacts m at p i op id named within types params = record { facts = facts; call = call; may = may } in
+        calls (λ f outer s g others t is_method is_at there same stands is_point waiting.
+        object_turn i op id named within types params f outer s g others t there same stands waiting
+        (subst (λ q. ObjectFacts f.method f.at q i op id named within types params) (sym is_point)
+        (subst (λ k. ObjectFacts f.method k p i op id named within types params) (sym is_at)
+        (subst (λ n. ObjectFacts n at p i op id named within types params) (sym is_method) bundle))))
 
 -- ---- entries
 

@@ -11,9 +11,9 @@ use Rattle.cjc_script.specs.declared.script.Act.{Act}
 use Rattle.cjc_script.specs.declared.script.Answer.{Answer}
 use Rattle.cjc_script.specs.declared.script.Reply.{Reply}
 use Rattle.cjc_script.specs.declared.script.Reply.TheVariants.{Give, Throw}
-use Rattle.cjc_script.specs.declared.report.Outcome.TheVariants.{Waiting, Unfit}
+use Rattle.cjc_script.specs.declared.report.Outcome.TheVariants.{Unfit}
 use Rattle.cjc_script.specs.declared.report.Thing.{Thing}
-use Rattle.cjc_script.specs.Sorts.{Shape, OfClass, Sort, Boolean, Byte, Short, Int, Reference, NoValue, shape_name, fits, result_fits, lies_in}
+use Rattle.cjc_script.specs.Sorts.{Shape, Sort, Boolean, Byte, Short, Int, Reference, NoValue, shape_name, fits, result_fits, lies_in}
 use Rattle.cjc_bytecode.specs.Runs.{Move, Over}
 use Rattle.cjc_bytecode.specs.Arguments.{result_words}
 use Rattle.cjc_bytecode.specs.Effects.{HeapObject, shape}
@@ -28,10 +28,10 @@ use Rattle.cjc_shrink.specs.Relation.{Kind, Range, Heap, Agrees, number, null, o
 use Rattle.cjc_shrink.specs.Rows.{HasRoom, kind_of, is_word_sort}
 use Rattle.cjc_shrink.specs.Jumps.{Results, no_result, result as result_of}
 use Rattle.cjc_shrink.specs.Calls.{NFrame, NState, NTurn}
-use Rattle.cjc_shrink.specs.Throws.{nheap, HandleAlike}
+use Rattle.cjc_shrink.specs.Throws.{nheap}
 use Rattle.cjc_shrink.specs.Results.{Resumes, resumes}
 use Rattle.cjc_shrink.specs.Acts.{Keeps, SameHeaps, unfit, changed, ActsAlike}
-use Rattle.cjc_shrink.specs.Replies.{StatesAgree, is_of_some, AsksAlike, may_be_thrown, ThrowsAlike, result_kinds, Replies, goes_on, throws, ends, AnswersAlike}
+use Rattle.cjc_shrink.specs.Replies.{StatesAgree, is_of_some, AsksAlike, may_be_thrown, result_kinds, Replies, goes_on, throws, waits, is_unfit, AnswersLand, RaisesAlike, AnswersAlike}
 use Rattle.cjc_shrink.proofs.Begins.{type_shown}
 use Rattle.cjc_shrink.proofs.Keeps.{stacks_kept, locals_kept, slots_kept}
 use Rattle.cjc_shrink.proofs.Results.{resumed}
@@ -63,7 +63,7 @@ module _ (by : Linked) (l : Named) (alike : ActsAlike by l) (number : ℕ) (Meet
       let stores = agree.stores in
       more (with_heap (map (shown l) after) s) (narrow.with_heap (by_label l) after t)
       (record {
-        stores = record { heap = refl; statics = stores.statics; heap_fits = fits; statics_fit = slots_kept keeps l stores.statics_fit };
+        stores = record { heap = refl; statics = stores.statics; heap_fits = fits; statics_fit = slots_kept keeps l stores.statics_fit; cells = stores.cells };
         entries = agree.entries;
         answers = agree.answers;
         notes = agree.notes;
@@ -168,43 +168,55 @@ module _ (by : Linked) (l : Named) (heap : Heap) where
 
 -- ---- replies
 
-module _ (by : Linked) (l : Named) (result : Option Sort) (word : (sort : Sort) → result ≡ Some sort → is_word_sort sort ≡ true) (asks : (kind : Shape (List ℕ)) → result ≡ Some (Reference kind) → AsksAlike by l kind)
-    (ks ls : List Kind) (f : Frame) (outer : List Frame) (g : NFrame) (others : List NFrame) (roomy : HasRoom (result_kinds l result ++ ks) (room f) (let m = g.code in m.max_stack)) where
+module _ (by : Linked) (l : Named) (Lands : (class : List ℕ) → State → NState → Move State → NTurn → Type 0) (result : Option Sort) (word : (sort : Sort) → result ≡ Some sort → is_word_sort sort ≡ true) (asks : (kind : Shape (List ℕ)) → result ≡ Some (Reference kind) → AsksAlike by l kind)
+    (heap : Heap) (ks ls : List Kind) (f : Frame) (outer : List Frame) (g : NFrame) (others : List NFrame) (roomy : HasRoom (result_kinds l result ++ ks) (room f) (let m = g.code in m.max_stack)) (alike : AnswersLand by l Lands heap f outer g others) where
   abbrev Meets : Move State → NTurn → Type 0
-  Meets = Replies by l (result_kinds l result) ks ls f outer g others
+  Meets = Replies by l Lands heap (result_kinds l result) ks ls f outer g others
 
-  on_from : {s : State} {t : NState} {m : Move State} {n : NTurn} → StatesAgree l s t → Locals (nheap t) ls f.locals g.locals → Resumes l (result_kinds l result ++ ks) s t f outer g others m n → Meets m n
-  on_from agree held (resumes stack) = goes_on agree stack held
+  on_from : {s : State} {t : NState} {m : Move State} {n : NTurn} → StatesAgree l s t → Keeps heap (nheap t) → Locals (nheap t) ls f.locals g.locals → Resumes l (result_kinds l result ++ ks) s t f outer g others m n → Meets m n
+  on_from agree keeps held (resumes stack) = goes_on agree keeps stack held
 
-  give_both : (v : Option Value) (ordinal : ℕ) (s : State) (t : NState) → StatesAgree l s t → Locals (nheap t) ls f.locals g.locals → Stacks (nheap t) ks f.stack g.stack → Meets (after_reply by (Give v) ordinal result f outer s) (narrow.replied (by_label l) (Give v) ordinal result g others t)
-  give_both v ordinal s t agree held rest =
+  give_both : (v : Option Value) (ordinal : ℕ) (s : State) (t : NState) → StatesAgree l s t → Keeps heap (nheap t) → Locals (nheap t) ls f.locals g.locals → Stacks (nheap t) ks f.stack g.stack → Meets (after_reply by (Give v) ordinal result f outer s) (narrow.replied (by_label l) (Give v) ordinal result g others t)
+  give_both v ordinal s t agree keeps held rest =
       let stores = agree.stores in
       subst (λ b. Meets (if b then after_result (offset f) v f outer s else Over (report (Unfit ordinal) s)) (narrow.replied (by_label l) (Give v) ordinal result g others t)) (sym (result_told by l (nheap t) (heap_of s) stores.heap result v asks))
       (by_answer (result_fits (narrow.object_fits (by_label l) (nheap t)) result v) refl)
     where
       by_answer : (b : Bool) → result_fits (narrow.object_fits (by_label l) (nheap t)) result v ≡ b → Meets (if b then after_result (offset f) v f outer s else Over (report (Unfit ordinal) s)) (if b then narrow.returned (by_label l) g.at (result_words result v) g others t else Ended (Unfit ordinal) t)
-      by_answer true e = on_from agree held (resumed by l ks f outer s g others t rest (result_kinds l result) v (result_words result v) (offset f) g.at (result_agrees by l (nheap t) result v word asks e) roomy)
-      by_answer false e = ends (Unfit ordinal) agree
+      by_answer true e = on_from agree keeps held (resumed by l ks f outer s g others t rest (result_kinds l result) v (result_words result v) (offset f) g.at (result_agrees by l (nheap t) result v word asks e) roomy)
+      by_answer false e = is_unfit ordinal agree
 
-  throw_both : (class : List ℕ) (ordinal : ℕ) (s : State) (t : NState) → StatesAgree l s t → ThrowsAlike by l class → (may_be_thrown by class ≡ true → HandleAlike by l (nheap t) (OfClass class) (f ∷ outer) (g ∷ others)) → Meets (after_reply by (Throw class) ordinal result f outer s) (narrow.replied (by_label l) (Throw class) ordinal result g others t)
+  throw_both : (class : List ℕ) (ordinal : ℕ) (s : State) (t : NState) → StatesAgree l s t → Keeps heap (nheap t) → Meets (after_reply by (Throw class) ordinal result f outer s) (narrow.replied (by_label l) (Throw class) ordinal result g others t)
   unfolding by_label
-  throw_both class ordinal s t agree alike handle =
-      subst (λ o. Meets (after_reply by (Throw class) ordinal result f outer s) (narrow.raised (by_label l) o g others t (Ended (Unfit ordinal) t))) (sym alike.tells)
+  throw_both class ordinal s t agree keeps =
+      let thrown = alike.throws class in
+      subst (λ o. Meets (after_reply by (Throw class) ordinal result f outer s) (narrow.raised (by_label l) o g others t (Ended (Unfit ordinal) t))) (sym thrown.tells)
       (by_answer (may_be_thrown by class) refl)
     where
       by_answer : (b : Bool) → may_be_thrown by class ≡ b → Meets (if b then after_raise by class f outer s else Over (report (Unfit ordinal) s)) (narrow.raised (by_label l) (if b then Some class else None) g others t (Ended (Unfit ordinal) t))
-      by_answer true e = throws class agree (λ within passes. raised by l within f outer s g others t agree.stores class (alike.no_fields e) passes (handle e) (Ended (Unfit ordinal) t))
-      by_answer false e = ends (Unfit ordinal) agree
+      by_answer true e = throws class (alike.lands class e s t agree keeps (Ended (Unfit ordinal) t))
+      by_answer false e = is_unfit ordinal agree
 
-  reply_both : (reply : Reply) (ordinal : ℕ) (s : State) (t : NState) → StatesAgree l s t → Locals (nheap t) ls f.locals g.locals → Stacks (nheap t) ks f.stack g.stack → AnswersAlike by l t f outer g others → Meets (after_reply by reply ordinal result f outer s) (narrow.replied (by_label l) reply ordinal result g others t)
-  reply_both (Give v) ordinal s t agree held rest alike = give_both v ordinal s t agree held rest
-  reply_both (Throw class) ordinal s t agree held rest alike = throw_both class ordinal s t agree (alike.throws class) (alike.handle class)
+  reply_both : (reply : Reply) (ordinal : ℕ) (s : State) (t : NState) → StatesAgree l s t → Keeps heap (nheap t) → Locals (nheap t) ls f.locals g.locals → Stacks (nheap t) ks f.stack g.stack → Meets (after_reply by reply ordinal result f outer s) (narrow.replied (by_label l) reply ordinal result g others t)
+  reply_both (Give v) ordinal s t agree keeps held rest = give_both v ordinal s t agree keeps held rest
+  reply_both (Throw class) ordinal s t agree keeps held rest = throw_both class ordinal s t agree keeps
 
-  pub answer_both : (answers : List Answer) (s : State) (t : NState) → StatesAgree l s t → Locals (nheap t) ls f.locals g.locals → Stacks (nheap t) ks f.stack g.stack → AnswersAlike by l t f outer g others → Meets (after_answer by answers result f outer s) (narrow.answered (by_label l) answers result g others t)
-  answer_both [] s t agree held rest alike = ends Waiting agree
-  answer_both (a ∷ answers) s t agree held rest alike =
+  pub answer_both : (answers : List Answer) (s : State) (t : NState) → StatesAgree l s t → Keeps heap (nheap t) → Locals (nheap t) ls f.locals g.locals → Stacks (nheap t) ks f.stack g.stack → Meets (after_answer by answers result f outer s) (narrow.answered (by_label l) answers result g others t)
+  answer_both [] s t agree keeps held rest = waits agree
+  answer_both (a ∷ answers) s t agree keeps held rest =
       acts_both by l alike.acts a.number Meets (λ u. after_reply by a.reply a.number result f outer u) (λ v. narrow.replied (by_label l) a.reply a.number result g others v) a.acts (record s { answers = answers }) (record t { answers = answers })
       (record { stores = agree.stores; entries = agree.entries; answers = refl; notes = agree.notes })
-      (λ u v states. ends (Unfit a.number) states)
-      (λ u v states keeps noted. reply_both a.reply a.number u v states (locals_kept keeps held) (stacks_kept keeps rest)
-      (record { acts = alike.acts; throws = alike.throws; handle = λ class may. handle_kept keeps (alike.handle class may) }))
+      (λ u v states. is_unfit a.number states)
+      (λ u v states more noted. reply_both a.reply a.number u v states (keeps_through heap (nheap t) (nheap v) keeps more) (locals_kept more held) (stacks_kept more rest))
+
+-- ---- frames that handle alike
+
+pub land_in_frames : {by : Linked} {l : Named} {t : NState} {f : Frame} {outer : List Frame} {g : NFrame} {others : List NFrame} → AnswersAlike by l t f outer g others → AnswersLand by l (RaisesAlike by l f outer g others) (nheap t) f outer g others
+land_in_frames {by = by} {l = l} {t = t} {f = f} {outer = outer} {g = g} {others = others} alike = record {
+  acts = alike.acts;
+  throws = alike.throws;
+  lands = λ class may s u agree keeps otherwise. (let thrown = alike.throws class in record {
+    agree = agree;
+    raises = λ within passes. raised by l within f outer s g others u agree.stores class (thrown.no_fields may) passes (handle_kept keeps (alike.handle class may)) otherwise;
+  });
+}

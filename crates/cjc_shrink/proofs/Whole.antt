@@ -106,13 +106,13 @@ module _ (by : Linked) (l : Named) (tb : Table) where
     catches = w.catches;
   }
 
-  waiting_kept : {heap after : Heap} {results : List Kind} {outer : List Frame} {others : List NFrame} → Keeps heap after → Waiting by l tb heap results outer others → Waiting by l tb after results outer others
+  pub waiting_kept : {heap after : Heap} {results : List Kind} {outer : List Frame} {others : List NFrame} → Keeps heap after → Waiting by l tb heap results outer others → Waiting by l tb after results outer others
   waiting_kept keeps (no_frame short) = no_frame short
   waiting_kept keeps (a_frame w more) = a_frame (waits_kept keeps w) (waiting_kept keeps more)
 
   -- ---- where both go on
 
-  arrived : (f : Frame) (g : NFrame) (heap : Heap) (at next : ℕ) (ks ls : List Kind) (vs ws : List Value) (locals words : List (Option Value)) → g.code ≡ code_of tb f.method → Arrives tb f.method at next ks ls → Stacks heap ks vs ws → Locals heap ls locals words
+  pub arrived : (f : Frame) (g : NFrame) (heap : Heap) (at next : ℕ) (ks ls : List Kind) (vs ws : List Value) (locals words : List (Option Value)) → g.code ≡ code_of tb f.method → Arrives tb f.method at next ks ls → Stacks heap ks vs ws → Locals heap ls locals words
       → Stands tb heap (record f { at = at; stack = vs; locals = locals }) (record g { at = next; stack = ws; locals = words })
   arrived f g heap at next ks ls vs ws locals words code a stack held = record {
     point = a.point;
@@ -179,7 +179,7 @@ module _ (by : Linked) (l : Named) (tb : Table) where
         → Both by l tb (after_throw by from (f ∷ outer) object (shape_name (shape thing)) s) (narrow.caught (by_label l) at (g ∷ others) object (shape thing) t)
     thrown_both f g outer others meets waiting = handled_both f g outer others meets waiting (unwound (tb.results f.method) outer others waiting)
 
-  meets_kept : {heap after : Heap} {f : Frame} {g : NFrame} → Keeps heap after → Meets heap f g → Meets after f g
+  pub meets_kept : {heap after : Heap} {f : Frame} {g : NFrame} → Keeps heap after → Meets heap f g → Meets after f g
   meets_kept keeps w = record { ls = w.ls; held = locals_kept keeps w.held; code = w.code; place = w.place; catches = w.catches }
 
   module _ (f : Frame) (outer : List Frame) (s : State) (g : NFrame) (others : List NFrame) (t : NState) (same : StatesAgree l s t) (meets : Meets (nheap t) f g) (waiting : Waiting by l tb (nheap t) (tb.results f.method) outer others) where
@@ -310,13 +310,13 @@ module _ (by : Linked) (l : Named) (tb : Table) where
           (record { stores = stores; entries = same.entries; answers = same.answers; notes = same.notes })
           (arrived f g memory.heap (f.at + 1) (g.at + 1) ks ls vs ws locals words stands.code arrives stack held) (waiting_kept keeps waiting))
       row_both ks ls arrives catches _ _ never (raises {fault = fault}) stays =
-          both_spent t.spent (failed_both f outer s g others (with_spent t) same' (meets catches) waiting fault (fine.raises fault) (fine.may_raise fault))
+          both_spent t.spent (failed_both f outer s g others (with_spent t) same' (meets catches) waiting fault (fine.exceptions.raises fault) (fine.exceptions.may_raise fault))
       row_both ks ls arrives catches _ _ never (tosses {object = object}) stays = absurd (never object refl)
 
       throw_both : (within : Shape (List ℕ) → Bool) (ks : List Kind) → ((kind : Shape (List ℕ)) → within kind ≡ true → tb.may_throw kind ≡ true) → Catches by l tb f.method f.at known → (vs ws : List Value) → Stacks (nheap t) (Refers within ∷ ks) vs ws
           → Both by l tb (spend by (after_effect by (by_name.effect by f.method f.at f.locals s.store jop.Throw vs) f outer s)) (narrow.spent_by (by_label l) t.spent (narrow.made (by_label l) (effects.effect (classes l) (operation (insns.Op 0x93)) height (g.at + 1) g.locals t.memory ws) (g.at + 1) g others (with_spent t)))
       unfolding effect meaning
-      throw_both within ks may catches _ _ (cell null rest) = both_spent t.spent (failed_both f outer s g others (with_spent t) same' (meets catches) waiting NullPointer (fine.raises NullPointer) (fine.may_raise NullPointer))
+      throw_both within ks may catches _ _ (cell null rest) = both_spent t.spent (failed_both f outer s g others (with_spent t) same' (meets catches) waiting NullPointer (fine.exceptions.raises NullPointer) (fine.exceptions.may_raise NullPointer))
       throw_both within ks may catches _ _ (cell (object_here {k = k} thing there passes) rest) =
           both_spent t.spent (tossed_both f outer s g others (with_spent t) same' (meets catches) waiting k thing there (may (shape thing) passes))
 

@@ -88,17 +88,20 @@ pub record Selects (l : Named) (narrowed : Method → Start NMethod) (selected :
   pub narrow : l.reached named (Some kind) ≡ Within (narrowed callee)
   pub is_narrowed : IsNarrowed narrowed count callee
 
--- Code of a class calls on a receiver by `op`, and narrow code calls what is written; each type that the receiver may be of
--- selects a method of the package.
-pub record IsObjectCall (by : Linked) (l : Named) (narrowed : Method → Start NMethod) (holder : List ℕ) (op : ℕ) (id : MemberId) (named : Callee) (within : Shape (List ℕ) → Bool) (params : List Kind) : Type 0 where
-  pub types : Signature
+-- Code of a class calls on a receiver by `op`, and narrow code calls what is named, with as many words.
+pub record IsReceiverCall (by : Linked) (l : Named) (holder : List ℕ) (op : ℕ) (id : MemberId) (named : Callee) (within : Shape (List ℕ) → Bool) (types : Signature) (params : List Kind) : Type 0 where
   pub selected : List ℕ → Option Linked.Callee
   pub by_name : by.call holder op id ≡ Some (OnObject selected)
   pub has_types : signature_of id.desc ≡ Some types
   pub passes : Passes types.params params
   pub narrow_object : on_object named ≡ true
   pub narrow_words : l.words named ≡ Some (length (Refers within ∷ params))
-  pub selects : (kind : Shape (List ℕ)) → within kind ≡ true → Selects l narrowed selected named (length (Refers within ∷ params)) kind
+
+-- A call on a receiver, each type of which selects a method of the package.
+pub record IsObjectCall (by : Linked) (l : Named) (narrowed : Method → Start NMethod) (holder : List ℕ) (op : ℕ) (id : MemberId) (named : Callee) (within : Shape (List ℕ) → Bool) (params : List Kind) : Type 0 where
+  pub types : Signature
+  pub call : IsReceiverCall by l holder op id named within types params
+  pub selects : (kind : Shape (List ℕ)) → within kind ≡ true → (let c = call in Selects l narrowed c.selected named (length (Refers within ∷ params)) kind)
 
 -- the methods that a receiver may select
 abbrev pub MaySelect : (l : Named) (narrowed : Method → Start NMethod) (selected : List ℕ → Option Linked.Callee) (named : Callee) (count : ℕ) (within : Shape (List ℕ) → Bool) → ((kind : Shape (List ℕ)) → within kind ≡ true → Selects l narrowed selected named count kind) → Method → Type 0

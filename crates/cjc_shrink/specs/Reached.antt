@@ -1,23 +1,27 @@
 -- What is asked of a call of the package's methods, and of each that it may reach, so that whole runs agree through it.
-use Rattle.std.specs.Prelude.{◌≡◌, ℕ, ◌+◌, List, [], ◌++◌, Option, Some, reverse, slice_get}
+use Rattle.std.specs.Prelude.{◌≡◌, ℕ, ◌+◌, List, [], ◌∷◌, ◌++◌, length, Option, Some, Bool, true, reverse, slice_get}
 use Rattle.cjc_bytes.specs.declared.fault.MemberId.{MemberId}
 use Rattle.cjc_code.specs.declared.insn.JInsn.{JInsn}
 use Rattle.cjc_code.specs.declared.insn.JOp.TheVariants as jop
 use Rattle.cjc_script.specs.declared.value.Value.{Value}
+use Rattle.cjc_script.specs.Sorts.{Shape, OfClass, Signature}
 use Rattle.cjc_ncode.specs.declared.narrow.NInsn.{NInsn}
 use Rattle.cjc_ncode.specs.ByLabel.{Callee, Named}
 use Rattle.cjc_by_name.specs.Linked.{Method, Linked}
+use Rattle.cjc_by_name.specs.Linked
 use Rattle.cjc_by_name.specs.Effects.{Store}
-use Rattle.cjc_shrink.specs.Relation.{Kind, NMemory}
+use Rattle.cjc_shrink.specs.Relation.{Kind, Refers, NMemory}
 use Rattle.cjc_shrink.specs.Rows.{HasRoom}
-use Rattle.cjc_shrink.specs.Calls.{first_locals}
+use Rattle.cjc_shrink.specs.Calls.{first_locals, Selects}
 use Rattle.cjc_shrink.specs.Callees.{Invokes}
 use Rattle.cjc_shrink.specs.Results.{AreShort}
+use Rattle.cjc_shrink.specs.Acts.{ActsAlike}
+use Rattle.cjc_shrink.specs.Replies.{result_kinds, SelectsImport, may_be_thrown, ThrowsAlike}
 use Rattle.cjc_shrink.specs.Tables.{Point, Table, code_of, spot, Arrives, Catches}
 
 -- A call at a place, with arguments of these kinds, the receiver among them, on top of cells that stay; what is written calls what is
 -- named.
-pub record CallsInside (by : Linked) (l : Named) (tb : Table) (m : Method) (at : ℕ) (p : Point) (i : JInsn) (op : ℕ) (id : MemberId) (named : Callee) (params : List Kind) : Type 0 where
+pub record IsCallAt (by : Linked) (l : Named) (tb : Table) (m : Method) (at : ℕ) (p : Point) (i : JInsn) (op : ℕ) (id : MemberId) (named : Callee) (params : List Kind) : Type 0 where
   pub ks : List Kind
   pub insn : NInsn
   pub is_call : i.op ≡ jop.Call op id
@@ -31,6 +35,23 @@ pub record MayBeCalled (tb : Table) (m : Method) (at : ℕ) (params ks ls : List
   pub enters : Arrives tb callee 0 (let start = tb.narrowed callee in start.at) [] (first_locals callee params)
   pub resumes : Arrives tb m (at + 1) (spot tb m at + 1) (tb.results callee ++ ks) ls
   pub has_room : HasRoom (tb.results callee ++ ks) m.max_stack (let code = code_of tb m in code.max_stack)
+
+-- The caller of an imported method goes on behind the call with a result of these kinds.
+pub record MayBeAnswered (tb : Table) (m : Method) (at : ℕ) (results ks ls : List Kind) : Type 0 where
+  pub resumes : Arrives tb m (at + 1) (spot tb m at + 1) (results ++ ks) ls
+  pub has_room : HasRoom (results ++ ks) m.max_stack (let code = code_of tb m in code.max_stack)
+
+-- What both look-ups of a call select on a receiver of a type: a method of the package, which begins with what is known of the arguments, or
+-- an imported one, with whose result its caller goes on.
+pub data MaySelectOn (by : Linked) (l : Named) (tb : Table) (m : Method) (at : ℕ) (id : MemberId) (named : Callee) (within : Shape (List ℕ) → Bool) (types : Signature) (params ks ls : List Kind) (selected : List ℕ → Option Linked.Callee) (kind : Shape (List ℕ)) : Type 0 where
+  inside : (h : Selects l tb.narrowed selected named (length (Refers within ∷ params)) kind) → MayBeCalled tb m at (Refers within ∷ params) ks ls h.callee → MaySelectOn by l tb m at id named within types params ks ls selected kind
+  abroad : SelectsImport by l selected id named types params kind → MayBeAnswered tb m at (result_kinds l types.result) ks ls → MaySelectOn by l tb m at id named within types params ks ls selected kind
+
+-- What a script does is done alike: acts, and answers that throw, of classes that may be thrown.
+pub record IsAnswered (by : Linked) (l : Named) (tb : Table) : Type 0 where
+  pub acts : ActsAlike by l
+  pub throws : (class : List ℕ) → ThrowsAlike by l class
+  pub may_throw : (class : List ℕ) → may_be_thrown by class ≡ true → tb.may_throw (OfClass class) ≡ true
 
 -- A method that an entry stands for begins with what is known of the arguments, and its result is the same on both sides.
 pub record MayBegin (tb : Table) (params : List Kind) (m : Method) : Type 0 where

@@ -118,9 +118,11 @@ HeapFits l heap = (k : ℕ) (thing : HeapObject (List ℕ) MemberId) → slice_g
 abbrev pub shown : Named → HeapObject (List ℕ) MemberId → Thing
 shown l thing = Machine.shown (by_label l) thing
 
--- The heap and the static cells by name are those of narrow code, as a report shows them, and are of sound types.
+-- The heap and the static cells by name are those of narrow code, as a report shows them, and are of sound types. The static cells are those
+-- of the first state.
 pub record Stores (l : Named) (store : Store) (memory : NMemory) : Type 0 where
   pub heap : store.heap ≡ map (shown l) memory.heap
   pub statics : store.statics ≡ map shown_slot memory.statics
   pub heap_fits : HeapFits l memory.heap
   pub statics_fit : SlotsFit l memory.heap memory.statics
+  pub cells : keys memory.statics ≡ keys (let m = l.memory in m.statics)

@@ -2,21 +2,21 @@
 use Rattle.std.specs.Prelude.{◌≡◌, ℕ, ◌+◌, List, [], ◌∷◌, ◌++◌, length, Option, Some, None, Bool, true, false, ◌&&◌, if◌then◌else◌, codes}
 use Rattle.cjc_bytes.specs.declared.fault.MemberId.{MemberId}
 use Rattle.cjc_script.specs.declared.value.Value.{Value}
-use Rattle.cjc_script.specs.declared.report.Outcome.{Outcome}
+use Rattle.cjc_script.specs.declared.report.Outcome.TheVariants.{Waiting, Unfit}
 use Rattle.cjc_script.specs.Sorts.{Shape, OfClass, Sort, Reference, Signature, shape_name, signature_of}
 use Rattle.cjc_bytecode.specs.Runs.{Move, On, Over}
-use Rattle.cjc_bytecode.specs.Machine.{Next, Ended, Abroad, shape_of, failed}
+use Rattle.cjc_bytecode.specs.Machine.{Next, Ended, Abroad, shape_of, failed, raised}
 use Rattle.cjc_ncode.specs.ByLabel.{Callee, Named, on_object, by_label}
-use Rattle.cjc_by_name.specs.Linked.{OnClass, OnObject, Linked}
+use Rattle.cjc_by_name.specs.Linked.{OnClass, Linked}
 use Rattle.cjc_by_name.specs.Linked
 use Rattle.cjc_by_name.specs.Effects.{NullPointer}
-use Rattle.cjc_by_name.specs.Machine.{Frame, State, with_frames, report, after_fault}
-use Rattle.cjc_shrink.specs.Relation.{Kind, Refers, Stacks, Locals, Stores}
+use Rattle.cjc_by_name.specs.Machine.{Frame, State, with_frames, report, after_fault, after_raise}
+use Rattle.cjc_shrink.specs.Relation.{Kind, Heap, Stacks, Locals, Stores}
 use Rattle.cjc_shrink.specs.Rows.{kind_of, is_word_sort, narrow_fault}
-use Rattle.cjc_shrink.specs.Calls.{NFrame, NState, NTurn, Passes}
+use Rattle.cjc_shrink.specs.Calls.{NFrame, NState, NTurn, Passes, IsReceiverCall}
 use Rattle.cjc_shrink.specs.Throws.{nheap, HandleAlike, Raises}
 use Rattle.cjc_shrink.specs.Results.{AreShort}
-use Rattle.cjc_shrink.specs.Acts.{ActsAlike}
+use Rattle.cjc_shrink.specs.Acts.{Keeps, ActsAlike}
 
 -- the same is stored, left of the script and noted on both sides
 pub record StatesAgree (l : Named) (s : State) (t : NState) : Type 0 where
@@ -78,25 +78,31 @@ pub record SelectsImport (by : Linked) (l : Named) (selected : List ℕ → Opti
   pub by_name : selected (shape_name kind) ≡ Some (Linked.Abroad event)
   pub narrow : l.reached named (Some kind) ≡ Abroad event
 
--- Code of a class calls on a receiver by `op`, and narrow code calls what is named; each type that the receiver may be of selects an
--- imported method.
+-- A call on a receiver, each type of which selects an imported method.
 pub record IsObjectImport (by : Linked) (l : Named) (holder : List ℕ) (op : ℕ) (id : MemberId) (named : Callee) (within : Shape (List ℕ) → Bool) (types : Signature) (params : List Kind) : Type 0 where
-  pub selected : List ℕ → Option Linked.Callee
-  pub by_name : by.call holder op id ≡ Some (OnObject selected)
-  pub has_types : signature_of id.desc ≡ Some types
-  pub passes : Passes types.params params
-  pub narrow_object : on_object named ≡ true
-  pub narrow_words : l.words named ≡ Some (length (Refers within ∷ params))
-  pub selects : (kind : Shape (List ℕ)) → within kind ≡ true → SelectsImport by l selected id named types params kind
+  pub call : IsReceiverCall by l holder op id named within types params
+  pub selects : (kind : Shape (List ℕ)) → within kind ≡ true → (let c = call in SelectsImport by l c.selected id named types params kind)
 
 -- ---- what follows
 
--- Both machines go on behind the call, with a result that agrees; or an object is made and thrown on both sides; or both are over
--- with the same outcome.
-pub data Replies (by : Linked) (l : Named) (kinds ks ls : List Kind) (f : Frame) (outer : List Frame) (g : NFrame) (others : List NFrame) : Move State → NTurn → Type 0 where
-  goes_on : {s : State} {t : NState} {vs ws : List Value} → StatesAgree l s t → Stacks (nheap t) (kinds ++ ks) vs ws → Locals (nheap t) ls f.locals g.locals → Replies by l kinds ks ls f outer g others (On (with_frames (record f { at = f.at + 1; stack = vs } ∷ outer) s)) (Next (record t { frames = record g { at = g.next; stack = ws } ∷ others }))
-  throws : {s : State} {t : NState} {m : Move State} {n : NTurn} (class : List ℕ) → StatesAgree l s t → ((within : Shape (List ℕ) → Bool) → within (OfClass class) ≡ true → Raises by l within class s t (f ∷ outer) (g ∷ others) m n) → Replies by l kinds ks ls f outer g others m n
-  ends : {s : State} {t : NState} (outcome : Outcome) → StatesAgree l s t → Replies by l kinds ks ls f outer g others (Over (report outcome s)) (Ended outcome t)
+-- Both machines go on behind the call, with a result that agrees; or an object of a class that an answer throws is made and goes outwards,
+-- where `Lands` says what that leads to; or both are over, since no answer is left or it does not fit. What was on a heap has its type.
+pub data Replies (by : Linked) (l : Named) (Lands : (class : List ℕ) → State → NState → Move State → NTurn → Type 0) (heap : Heap) (kinds ks ls : List Kind) (f : Frame) (outer : List Frame) (g : NFrame) (others : List NFrame) : Move State → NTurn → Type 0 where
+  goes_on : {s : State} {t : NState} {vs ws : List Value} → StatesAgree l s t → Keeps heap (nheap t) → Stacks (nheap t) (kinds ++ ks) vs ws → Locals (nheap t) ls f.locals g.locals → Replies by l Lands heap kinds ks ls f outer g others (On (with_frames (record f { at = f.at + 1; stack = vs } ∷ outer) s)) (Next (record t { frames = record g { at = g.next; stack = ws } ∷ others }))
+  throws : {s : State} {t : NState} {m : Move State} {n : NTurn} (class : List ℕ) → Lands class s t m n → Replies by l Lands heap kinds ks ls f outer g others m n
+  waits : {s : State} {t : NState} → StatesAgree l s t → Replies by l Lands heap kinds ks ls f outer g others (Over (report Waiting s)) (Ended Waiting t)
+  is_unfit : {s : State} {t : NState} (number : ℕ) → StatesAgree l s t → Replies by l Lands heap kinds ks ls f outer g others (Over (report (Unfit number) s)) (Ended (Unfit number) t)
+
+-- What a script does is done alike: acts, and answers that throw, each class that may be thrown where `Lands` says.
+pub record AnswersLand (by : Linked) (l : Named) (Lands : (class : List ℕ) → State → NState → Move State → NTurn → Type 0) (heap : Heap) (f : Frame) (outer : List Frame) (g : NFrame) (others : List NFrame) : Type 0 where
+  pub acts : ActsAlike by l
+  pub throws : (class : List ℕ) → ThrowsAlike by l class
+  pub lands : (class : List ℕ) → may_be_thrown by class ≡ true → (s : State) (t : NState) → StatesAgree l s t → Keeps heap (nheap t) → (otherwise : NTurn) → Lands class s t (after_raise by class f outer s) (raised (by_label l) (Some class) g others t otherwise)
+
+-- An object of a class is made on both sides, where states agree, and goes outwards alike.
+pub record RaisesAlike (by : Linked) (l : Named) (f : Frame) (outer : List Frame) (g : NFrame) (others : List NFrame) (class : List ℕ) (s : State) (t : NState) (m : Move State) (n : NTurn) : Type 0 where
+  pub agree : StatesAgree l s t
+  pub raises : (within : Shape (List ℕ) → Bool) → within (OfClass class) ≡ true → Raises by l within class s t (f ∷ outer) (g ∷ others) m n
 
 -- What a script does is done alike: acts, and answers that throw, into frames that handle each class alike that may be thrown.
 pub record AnswersAlike (by : Linked) (l : Named) (t : NState) (f : Frame) (outer : List Frame) (g : NFrame) (others : List NFrame) : Type 0 where
@@ -107,4 +113,4 @@ pub record AnswersAlike (by : Linked) (l : Named) (t : NState) (f : Frame) (oute
 -- A call on a receiver: null raises in the frame that calls, and else the imported method is noted and answered.
 pub data ImportAgrees (by : Linked) (l : Named) (kinds ks ls : List Kind) (next : ℕ) (f : Frame) (outer : List Frame) (s : State) (g : NFrame) (others : List NFrame) (t : NState) : Move State → NTurn → Type 0 where
   is_null : (vs ws : List Value) → ImportAgrees by l kinds ks ls next f outer s g others t (after_fault by NullPointer (record f { stack = vs }) outer s) (failed (by_label l) (narrow_fault NullPointer) (record g { next = next; stack = ws }) others t)
-  is_answered : (vs ws : List Value) {m : Move State} {n : NTurn} → Replies by l kinds ks ls (record f { stack = vs }) outer (record g { next = next; stack = ws }) others m n → ImportAgrees by l kinds ks ls next f outer s g others t m n
+  is_answered : (vs ws : List Value) {m : Move State} {n : NTurn} → Replies by l (RaisesAlike by l (record f { stack = vs }) outer (record g { next = next; stack = ws }) others) (nheap t) kinds ks ls (record f { stack = vs }) outer (record g { next = next; stack = ws }) others m n → ImportAgrees by l kinds ks ls next f outer s g others t m n

@@ -9,7 +9,7 @@ use Rattle.cjc_script.specs.declared.report.Note.{Note}
 use Rattle.cjc_script.specs.declared.report.Outcome.{Outcome}
 use Rattle.cjc_script.specs.declared.report.Outcome.TheVariants.{Running, Stuck}
 use Rattle.cjc_script.specs.declared.report.Report.{Report}
-use Rattle.cjc_script.specs.Sorts.{Shape, OfClass}
+use Rattle.cjc_script.specs.Sorts.{Shape}
 use Rattle.cjc_bytecode.specs.Runs.{Move, On, Over, Alike}
 use Rattle.cjc_bytecode.specs.Effects as narrow
 use Rattle.cjc_bytecode.specs.Machine.{Next, Ended, report as narrow_report, begins as narrow_begins, step as narrow_step}
@@ -17,7 +17,7 @@ use Rattle.cjc_ncode.specs.declared.narrow.NInsn.{NInsn}
 use Rattle.cjc_ncode.specs.declared.narrow.NInsn.TheVariants as insns
 use Rattle.cjc_ncode.specs.ByLabel.{Named, by_label, classes, operation}
 use Rattle.cjc_by_name.specs.Linked.{Method, Linked}
-use Rattle.cjc_by_name.specs.Effects.{Fault, exception_class, Store, place}
+use Rattle.cjc_by_name.specs.Effects.{Store, place}
 use Rattle.cjc_by_name.specs.Effects as by_name
 use Rattle.cjc_by_name.specs.Machine.{Frame, State, begins, step}
 use Rattle.cjc_shrink.specs.Relation.{Kind, Refers, NMemory, Stacks, Locals, AllWider, Stores}
@@ -25,9 +25,9 @@ use Rattle.cjc_shrink.specs.Rows.{NEffect, Same, GoesOn}
 use Rattle.cjc_shrink.specs.Jumps.{Jumps, Returns}
 use Rattle.cjc_shrink.specs.Switches.{JumpsInTwo}
 use Rattle.cjc_shrink.specs.Calls.{NFrame, NState, NTurn}
-use Rattle.cjc_shrink.specs.Throws.{nheap, IsRaised}
+use Rattle.cjc_shrink.specs.Throws.{nheap}
 use Rattle.cjc_shrink.specs.Replies.{StatesAgree}
-use Rattle.cjc_shrink.specs.Tables.{Point, Table, code_of, written_place, spot, Arrives, Catches, Stands, Waiting, Couple, left, right}
+use Rattle.cjc_shrink.specs.Tables.{Point, Table, MayRaise, code_of, written_place, spot, Arrives, Catches, Stands, Waiting, Couple, left, right}
 
 -- Where a turn of each machine leads: to states that agree, or to the end with reports that are alike.
 pub data Both (by : Linked) (l : Named) (tb : Table) : Move State → NTurn → Type 0 where
@@ -98,6 +98,5 @@ pub record IsFine (by : Linked) (l : Named) (tb : Table) : Type 0 where
   pub rules : (m : Method) (at : ℕ) (p : Point) → tb.point m at ≡ Some p → (i : JInsn) → slice_get m.insns at ≡ Some i → Rule by l tb m at p i
   pub is_there : (m : Method) (at : ℕ) (p : Point) → tb.point m at ≡ Some p → (i : JInsn) × (slice_get m.insns at ≡ Some i)
   pub entries : (e : Entry) (entries : List Entry) (s : State) (t : NState) → StatesAgree l s t → Begins by l tb t.notes (begins by [] (e ∷ entries) s) (narrow_begins (by_label l) [] (e ∷ entries) t)
-  pub raises : (fault : Fault) → IsRaised l fault
-  pub may_raise : (fault : Fault) → tb.may_throw (OfClass (exception_class fault)) ≡ true
+  pub exceptions : MayRaise l tb
   pub starts : Stores l (record { heap = by.heap; statics = by.statics }) l.memory

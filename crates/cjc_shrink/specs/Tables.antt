@@ -1,19 +1,19 @@
 -- What was found of the methods of a package, place by place, and when whole states of both machines agree by it.
 use Rattle.std.specs.Prelude.{◌≡◌, ℕ, ◌+◌, ◌-◌, ◌<◌, List, [], ◌∷◌, ◌++◌, Option, Some, option_map, Bool, true, slice_get}
 use Rattle.cjc_code.specs.declared.insn.JInsn.{JInsn}
-use Rattle.cjc_script.specs.Sorts.{Shape, shape_name}
+use Rattle.cjc_script.specs.Sorts.{Shape, OfClass, shape_name}
 use Rattle.cjc_bytecode.specs.Machine.{Start}
 use Rattle.cjc_ncode.specs.declared.narrow.NMethod.{NMethod}
 use Rattle.cjc_ncode.specs.Written.{Resolution, place_in}
 use Rattle.cjc_ncode.specs.ByLabel.{Named}
 use Rattle.cjc_ncode.specs.ByLabel as labels
 use Rattle.cjc_by_name.specs.Linked.{Method, Linked}
-use Rattle.cjc_by_name.specs.Effects.{place}
+use Rattle.cjc_by_name.specs.Effects.{Fault, exception_class, place}
 use Rattle.cjc_by_name.specs.Machine.{Frame, State, offset_of, handler, room}
 use Rattle.cjc_shrink.specs.Relation.{Kind, Refers, Heap, AllWider}
 use Rattle.cjc_shrink.specs.Rows.{HasRoom}
 use Rattle.cjc_shrink.specs.Calls.{NFrame, NState, Frames}
-use Rattle.cjc_shrink.specs.Throws.{nheap}
+use Rattle.cjc_shrink.specs.Throws.{nheap, IsRaised}
 use Rattle.cjc_shrink.specs.Results.{AreShort}
 use Rattle.cjc_shrink.specs.Replies.{StatesAgree}
 
@@ -55,6 +55,11 @@ pub record Arrives (tb : Table) (m : Method) (at next : ℕ) (ks ls : List Kind)
   pub place : next ≡ spot tb m at
   pub stack : AllWider ks point.stack
   pub locals : AllWider ls point.locals
+
+-- Exceptions of the machine's own are made alike, and each may be thrown.
+pub record MayRaise (l : Named) (tb : Table) : Type 0 where
+  pub raises : (fault : Fault) → IsRaised l fault
+  pub may_raise : (fault : Fault) → tb.may_throw (OfClass (exception_class fault)) ≡ true
 
 -- ---- handlers
 

@@ -33,7 +33,7 @@ ghost use Rattle.cjc_shrink.specs.Relation.{Kind, OnBoth, Range, Refers, boolean
 ghost use Rattle.cjc_shrink.specs.Rows.{narrow_fault, NEffect, GoesOn, HasRoom, Same, RowAgrees, RowOnLocals, IsNotWritten, FieldIsThere, kind_of};
 ghost use Rattle.cjc_shrink.specs.Objects.{IsMade, IsClassThere, IsTypeThere};
 ghost use Rattle.cjc_shrink.specs.Elements.{index_range, IsBytes, IsShorts, IsReferences, AreAll, ElementsLie, ItemsPass, KeepsAlike};
-ghost use Rattle.cjc_shrink.specs.Cells.{CellIsThere, MayBePut, RowOnCells};
+ghost use Rattle.cjc_shrink.specs.Cells.{CellIsThere, IsConstant, MayBePut};
 ghost use Rattle.cjc_shrink.specs.Jumps.{Jumps, JumpAgrees, ReturnAgrees, Results};
 ghost use Rattle.cjc_shrink.specs.Switches.{targets_of, JumpsInTwo, TwoAgree};
 ghost use Rattle.cjc_shrink.specs.Callees.{Names, CallIsWritten};
@@ -45,11 +45,11 @@ ghost use Rattle.cjc_shrink.specs.Types.{TypesStay};
 ghost use Rattle.cjc_shrink.specs.Turns.{TurnAgrees};
 ghost use Rattle.cjc_shrink.specs.Paths.{JumpTurn, SilentTurn, TwoTurns, TurnsAre};
 ghost use Rattle.cjc_shrink.specs.Tosses.{ThrowTurn};
-ghost use Rattle.cjc_shrink.specs.Tables.{Point, Table, class_of_code, code_of, written_place, offset_at, spot, Arrives, Handles, handler_at, CatchesAlike, Catches};
+ghost use Rattle.cjc_shrink.specs.Tables.{Point, Table, MayRaise, class_of_code, code_of, written_place, offset_at, spot, Arrives, Handles, handler_at, CatchesAlike, Catches};
 ghost use Rattle.cjc_shrink.specs.Runs.{Falls, Rule, Begins, IsFine};
-ghost use Rattle.cjc_shrink.specs.Reached.{CallsInside, MayBeCalled, MayBegin};
+ghost use Rattle.cjc_shrink.specs.Reached.{IsCallAt, MayBeCalled, MayBeAnswered, MaySelectOn, IsAnswered, MayBegin};
 ghost use Rattle.cjc_shrink.specs.Throws.{nheap, HandleAlike, Unwinds, Raises, IsRaised};
-ghost use Rattle.cjc_shrink.specs.Calls.{NFrame, NState, Frames, CallAgrees, IsStaticCall, IsObjectCall, MaySelect, IsWrittenAt, HandlesAlike, CatchAgrees};
+ghost use Rattle.cjc_shrink.specs.Calls.{NFrame, NState, Frames, CallAgrees, IsStaticCall, IsReceiverCall, IsObjectCall, MaySelect, IsWrittenAt, HandlesAlike, CatchAgrees};
 
 /// Arithmetic of class files on operands in intervals, and what is written for it: words stay the low words of their
 /// numbers, and each result lies in the interval that its row gives. A quotient, a remainder and a number that is shifted to
@@ -139,10 +139,11 @@ pub fn fields_are_written_alike()
 {}
 
 /// A static field whose values are one word is read and written alike, where the static cells have it: a number is put in the
-/// interval of the field's type, a reference of its type.
+/// interval of the field's type, a reference of its type. Of a constant its number is pushed.
 pub fn static_fields_are_met_alike()
-    ensures getstatic { (by : Linked) (l : Named) (r : Resolution) (m : Method) (named : MemberId) → CellIsThere by r m named → RowOnCells by l r m (jop.Static false named) (r.field named) [] (kind_of l (field_sort named.desc) ∷ []) }
-    ensures putstatic { (by : Linked) (l : Named) (r : Resolution) (m : Method) (named : MemberId) (k : Kind) → CellIsThere by r m named → MayBePut l (field_sort named.desc) k → RowOnCells by l r m (jop.Static true named) (r.field named) (k ∷ []) [] }
+    ensures getstatic { (by : Linked) (l : Named) (r : Resolution) (m : Method) (named : MemberId) → CellIsThere by l r m named → RowAgrees by l r m (jop.Static false named) [] (kind_of l (field_sort named.desc) ∷ []) }
+    ensures putstatic { (by : Linked) (l : Named) (r : Resolution) (m : Method) (named : MemberId) (k : Kind) → CellIsThere by l r m named → MayBePut l (field_sort named.desc) k → RowAgrees by l r m (jop.Static true named) (k ∷ []) [] }
+    ensures constant { (by : Linked) (l : Named) (r : Resolution) (m : Method) (z : ℤ) (s : Span) → Holds s z → (named : MemberId) → IsConstant by r m named z → RowAgrees by l r m (jop.Static false named) [] (Range s ∷ []) }
 {}
 
 /// Where no frame is active the next entry of a script begins alike, after its acts: a static method that it calls, or the one that is
@@ -157,7 +158,7 @@ pub fn entries_begin_alike()
 /// is the one that the call names, or one that the receiver may select.
 pub fn calls_begin_alike()
     ensures static_call { (by : Linked) (l : Named) (narrowed : Method → Start NMethod) (op : ℕ) (id : MemberId) (named : Callee) (params ks ls : List Kind) (next : ℕ) (f : Frame) (outer : List Frame) (s : State) (g : NFrame) (others : List NFrame) (t : NState) → (call : IsStaticCall by l narrowed (holder_of f) op id named params) → Frames (let m = t.memory in m.heap) (reverse params ++ ks) ls f g → CallAgrees by l narrowed (λ m. call.callee ≡ m) params ks next f outer s g others t (after_effect by (effects.Invoke op id) f outer s) (made (by_label l) (Invoke named) next g others t) }
-    ensures object_call { (by : Linked) (l : Named) (narrowed : Method → Start NMethod) (op : ℕ) (id : MemberId) (named : Callee) (within : Shape (List ℕ) → Bool) (params ks ls : List Kind) (next : ℕ) (f : Frame) (outer : List Frame) (s : State) (g : NFrame) (others : List NFrame) (t : NState) → (call : IsObjectCall by l narrowed (holder_of f) op id named within params) → Stores l s.store t.memory → Frames (let m = t.memory in m.heap) (reverse (Refers within ∷ params) ++ ks) ls f g → CallAgrees by l narrowed (MaySelect l narrowed call.selected named (length (Refers within ∷ params)) within call.selects) (Refers within ∷ params) ks next f outer s g others t (after_effect by (effects.Invoke op id) f outer s) (made (by_label l) (Invoke named) next g others t) }
+    ensures object_call { (by : Linked) (l : Named) (narrowed : Method → Start NMethod) (op : ℕ) (id : MemberId) (named : Callee) (within : Shape (List ℕ) → Bool) (params ks ls : List Kind) (next : ℕ) (f : Frame) (outer : List Frame) (s : State) (g : NFrame) (others : List NFrame) (t : NState) → (call : IsObjectCall by l narrowed (holder_of f) op id named within params) → Stores l s.store t.memory → Frames (let m = t.memory in m.heap) (reverse (Refers within ∷ params) ++ ks) ls f g → CallAgrees by l narrowed (MaySelect l narrowed (let c = call.call in c.selected) named (length (Refers within ∷ params)) within call.selects) (Refers within ∷ params) ks next f outer s g others t (after_effect by (effects.Invoke op id) f outer s) (made (by_label l) (Invoke named) next g others t) }
 {}
 
 /// A call of an imported method is noted alike, with the same values, and answered alike: the script's acts change both heaps in the
@@ -294,11 +295,12 @@ pub fn whole_runs_agree()
     ensures { (by : Linked) (l : Named) (table : Table) → IsFine by l table → (script : Script) → Agree 2 (λ n. run by script n) (λ n. narrow_run l script n) }
 {}
 
-/// A call of a method of the package keeps its rule, where each method that it may reach begins with what is known of the arguments,
-/// and gives what its caller goes on with.
+/// A call keeps its rule, where each method of the package that it may reach begins with what is known of the arguments and gives what
+/// its caller goes on with, and where the caller goes on with the result of each imported one. A receiver may select either.
 pub fn calls_keep_rules()
-    ensures static_call { (by : Linked) (l : Named) (table : Table) → ((fault : Fault) → IsRaised l fault) → ((fault : Fault) → table.may_throw (OfClass (exception_class fault)) ≡ true) → (m : Method) (at : ℕ) (p : Point) (i : JInsn) (op : ℕ) (id : MemberId) (named : Callee) (params : List Kind) → (facts : CallsInside by l table m at p i op id named params) → (call : IsStaticCall by l table.narrowed (class_of_code m) op id named params) → MayBeCalled table m at params facts.ks p.locals call.callee → Rule by l table m at p i }
-    ensures object_call { (by : Linked) (l : Named) (table : Table) → ((fault : Fault) → IsRaised l fault) → ((fault : Fault) → table.may_throw (OfClass (exception_class fault)) ≡ true) → (m : Method) (at : ℕ) (p : Point) (i : JInsn) (op : ℕ) (id : MemberId) (named : Callee) (within : Shape (List ℕ) → Bool) (params : List Kind) → (facts : CallsInside by l table m at p i op id named (Refers within ∷ params)) → (call : IsObjectCall by l table.narrowed (class_of_code m) op id named within params) → ((kind : Shape (List ℕ)) (is : within kind ≡ true) → let h = call.selects kind is in MayBeCalled table m at (Refers within ∷ params) facts.ks p.locals h.callee) → Rule by l table m at p i }
+    ensures static_call { (by : Linked) (l : Named) (table : Table) → MayRaise l table → (m : Method) (at : ℕ) (p : Point) (i : JInsn) (op : ℕ) (id : MemberId) (named : Callee) (params : List Kind) → (facts : IsCallAt by l table m at p i op id named params) → (call : IsStaticCall by l table.narrowed (class_of_code m) op id named params) → MayBeCalled table m at params facts.ks p.locals call.callee → Rule by l table m at p i }
+    ensures static_import { (by : Linked) (l : Named) (table : Table) → MayRaise l table → IsAnswered by l table → (m : Method) (at : ℕ) (p : Point) (i : JInsn) (op : ℕ) (id event : MemberId) (named : Callee) (types : Signature) (params : List Kind) → (facts : IsCallAt by l table m at p i op id named params) → IsStaticImport by l (class_of_code m) op id event named types params → MayBeAnswered table m at (result_kinds l types.result) facts.ks p.locals → Rule by l table m at p i }
+    ensures object_call { (by : Linked) (l : Named) (table : Table) → MayRaise l table → IsAnswered by l table → (m : Method) (at : ℕ) (p : Point) (i : JInsn) (op : ℕ) (id : MemberId) (named : Callee) (within : Shape (List ℕ) → Bool) (types : Signature) (params : List Kind) → (facts : IsCallAt by l table m at p i op id named (Refers within ∷ params)) → (call : IsReceiverCall by l (class_of_code m) op id named within types params) → ((kind : Shape (List ℕ)) → within kind ≡ true → MaySelectOn by l table m at id named within types params facts.ks p.locals call.selected kind) → Rule by l table m at p i }
 {}
 
 /// An entry of a script begins as whole runs ask, where one act changes both heaps alike and each method that the entry may stand for

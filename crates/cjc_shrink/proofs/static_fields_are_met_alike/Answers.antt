@@ -1,3 +1,4 @@
+use Rattle.cjc_shrink.proofs.Pushes.{constant_field}
 use Rattle.cjc_shrink.proofs.Puts.{getstatic, putstatic}
 use Rattle.cjc_shrink.proofs.static_fields_are_met_alike.Goals as goal
 
@@ -6,3 +7,6 @@ returns-clause-getstatic c = getstatic
 
 pub returns-clause-putstatic : goal.returns-clause-putstatic
 returns-clause-putstatic c = putstatic
+
+pub returns-clause-constant : goal.returns-clause-constant
+returns-clause-constant c by l r m z s inside named is = constant_field by l r m z s inside named is
