@@ -1,0 +1,4 @@
+pub mod Operands
+pub mod Rows
+pub mod Labels
+pub mod Working

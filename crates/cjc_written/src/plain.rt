@@ -1,0 +1,140 @@
+//! What is written for instructions that name no member. Called by whoever selects code.
+
+ghost use Rattle.std.specs.Prelude.{◌≡◌, ◌≤◌, ◌++◌, ◌∷◌, ◌==◌, if◌then◌else◌, [], false, OnOk};
+ghost use Rattle.cjc_ncode.specs.declared.narrow.NInsn.TheVariants.{Inc, Named, Op};
+ghost use Rattle.cjc_ncode.specs.declared.narrow.PoolKey.TheVariants as keys;
+ghost use Rattle.cjc_ncode.specs.Written.{Resolution, is_byte, local, written};
+ghost use Rattle.cjc_written.specs.Operands.{CanBeSaid, IsByte, names_member};
+ghost use Rattle.cjc_written.specs.Labels.{place_of};
+
+use crate::number::pushed;
+use crate::opcodes::{
+    arithmetic, array_load, array_store, condition, element_number, leaving, on_stack,
+};
+use crate::places::Places;
+use crate::switches::{put_lookup, put_table};
+use crate::type_tests::put_test;
+use cjc_bytes::{Bytes, NoMemory, Row};
+use cjc_code::JOp;
+use cjc_ncode::{NInsn, PoolKey};
+use std::alloc::Global;
+
+/// A local by the opcode of the first short form, or that of the long one.
+fn local(short: u8, long: u8, index: u16) -> NInsn
+    requires short { short ≤ 250 }
+    requires index { IsByte index }
+    ensures { local short long index ≡ result ∷ [] }
+{
+    if index <= 3 {
+        NInsn::Op(short + index as u8)
+    } else {
+        NInsn::Local {
+            op: long,
+            index: index as u8,
+        }
+    }
+}
+
+fn is_byte(z: i16) -> bool
+    ensures { result ≡ is_byte z }
+{
+    -128 <= z && z <= 127
+}
+
+/// iinc, with a number of one byte or of two.
+fn increase(index: u16, by: i16) -> NInsn
+    requires { IsByte index }
+    ensures { result ≡ Inc (if is_byte by then 0x59 else 0x96) index by }
+{
+    NInsn::Inc {
+        op: if is_byte(by) { 0x59 } else { 0x96 },
+        index: index as u8,
+        by,
+    }
+}
+
+/// i2b; nothing for i2s.
+fn put_narrow(out: &mut Row<NInsn>, op: u8) -> Result<(), NoMemory>
+    ensures { OnOk result (out.new ≡ out.old ++ (if op == 0x91 then Op 0x5B ∷ [] else [])) }
+{
+    if op == 0x91 {
+        out.push(NInsn::Op(0x5B))
+    } else {
+        Ok(())
+    }
+}
+
+/// An instruction whose operand is the index of a class.
+fn put_class(out: &mut Row<NInsn>, alloc: Global, op: u8, class: &[u8]) -> Result<(), NoMemory>
+    ensures { OnOk result (out.new ≡ out.old ++ Named op (keys.Class class.now) ∷ []) }
+{
+    let key = PoolKey::Class(Bytes::copy_of(alloc, class)?);
+    out.push(NInsn::Named { op, key })
+}
+
+/// Puts what is written for an instruction at the end; nothing for one that names a member.
+pub fn put_plain(
+    out: &mut Row<NInsn>,
+    alloc: Global,
+    places: &Places<'_>,
+    op: &JOp,
+) -> Result<(), NoMemory>
+    requires { CanBeSaid op.now }
+    ensures { (r : Resolution) → names_member op.now ≡ false → OnOk result (out.new ≡ out.old ++ written r (place_of places.now) op.now) }
+{
+    match op {
+        JOp::Nop => Ok(()),
+        JOp::Null => out.push(NInsn::Op(0x01)),
+        JOp::Number(z) => out.push(pushed(*z)),
+        JOp::Load {
+            refs: true,
+            local: index,
+        } => out.push(local(0x18, 0x15, *index)),
+        JOp::Load {
+            refs: false,
+            local: index,
+        } => out.push(local(0x1C, 0x16, *index)),
+        JOp::Store {
+            refs: true,
+            local: index,
+        } => out.push(local(0x2B, 0x28, *index)),
+        JOp::Store {
+            refs: false,
+            local: index,
+        } => out.push(local(0x2F, 0x29, *index)),
+        JOp::ArrayLoad(op) => out.push(NInsn::Op(array_load(*op))),
+        JOp::ArrayStore(op) => out.push(NInsn::Op(array_store(*op))),
+        JOp::Stack(op) => out.push(on_stack(*op)),
+        JOp::Arith(op) => out.push(NInsn::Op(arithmetic(*op))),
+        JOp::Inc { local, by } => out.push(increase(*local, *by)),
+        JOp::Narrow(op) => put_narrow(out, *op),
+        JOp::If { op, target } => {
+            let target = places.place(*target);
+            out.push(NInsn::Jump {
+                op: condition(*op),
+                target,
+            })
+        }
+        JOp::Goto(target) => {
+            let target = places.place(*target);
+            out.push(NInsn::Jump { op: 0x70, target })
+        }
+        JOp::TableSwitch {
+            other,
+            low,
+            targets,
+        } => put_table(out, alloc, places, *other, *low, targets.items()),
+        JOp::LookupSwitch { other, cases } => {
+            put_lookup(out, alloc, places, *other, cases.items())
+        }
+        JOp::Return(op) => out.push(NInsn::Op(leaving(*op))),
+        JOp::New(class) => put_class(out, alloc, 0x8F, class.items()),
+        JOp::NewArray(number) => out.push(NInsn::NewArray(element_number(*number))),
+        JOp::ANewArray(class) => put_class(out, alloc, 0x91, class.items()),
+        JOp::ArrayLength => out.push(NInsn::Op(0x92)),
+        JOp::Throw => out.push(NInsn::Op(0x93)),
+        JOp::CheckCast(class) => put_test(out, alloc, 0x94, class.items()),
+        JOp::InstanceOf(class) => put_test(out, alloc, 0x95, class.items()),
+        JOp::Static { .. } | JOp::Field { .. } | JOp::Call { .. } => Ok(()),
+    }
+}
