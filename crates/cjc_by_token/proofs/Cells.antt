@@ -1,6 +1,6 @@
 -- Reading and putting a static field by name is reading and putting its cell in the image.
-use Rattle.std.proofs.Common.{◌≡◌, ℕ, suc, ◌+◌, ◌*◌, ◌/◌, ◌%◌, refl, sym, ap, subst, ◌∙◌, arith, Bool, true, false, List, [], ◌∷◌, ◌++◌, length, drop, zero-add, ⊎_elim, inl, inr}
-use Rattle.std.specs.Prelude.{not, Some, None, map, nat_le, slice_get, slice_set, if◌then◌else◌, ◌==◌, ◌&&◌, ◌||◌, ◌-◌, ◌⊎◌, option_map, option_and_then}
+use Rattle.std.proofs.Common.{◌≡◌, ℕ, suc, ◌+◌, ◌*◌, ◌/◌, ◌%◌, refl, sym, ap, subst, ◌∙◌, arith, Bool, true, false, List, [], ◌∷◌, ◌++◌, length, drop, zero-add, ⊎_elim}
+use Rattle.std.specs.Prelude.{not, Some, None, map, nat_le, slice_get, slice_set, if◌then◌else◌, ◌==◌, ◌&&◌, ◌-◌, option_map, option_and_then}
 use Rattle.std.proofs.lemmas.Bool.Decides.{nat_tests}
 use Rattle.cjc_bytes.specs.declared.fault.MemberId.{MemberId}
 use Rattle.cjc_script.specs.declared.value.Value.{Value}
@@ -8,14 +8,14 @@ use Rattle.cjc_script.specs.declared.value.Value.TheVariants.{Num, Null, Obj}
 use Rattle.cjc_script.specs.declared.report.FieldValue.{FieldValue}
 use Rattle.cjc_script.specs.Sorts.{field_sort, zero_of}
 use Rattle.cjc_bytecode.specs.Effects.{Letter, Reference, Byte, Short, Int, slot_of, slots_with, IsOperand, same_kind}
-use Rattle.cjc_bytecode.specs.Renaming.{option_as}
+use Rattle.cjc_bytecode.specs.Renaming.{option_as, keys}
 use Rattle.cjc_card.specs.ByToken.{value_or, shown_cell}
 use Rattle.cjc_card.specs.Statics.{bytes_at, cell_in, cell_put, get_static, number_bytes, number_in, overwritten, put_static}
 use Rattle.cjc_ncode.specs.ByLabel.{put_cell, shown_slot}
 use Rattle.cjc_ncode.specs.ByLabel.{put_static as put_by_name}
 use Rattle.cjc_ncode.specs.PoolOrder.{same_member}
 use Rattle.cjc_by_token.specs.Cells.{letter, width, is_number, Order, fields, offset_from, is_one_of, are_apart, IsOrder, HasCells, fits, are_cells, value_in, value_of, bytes_of, image_of, cell_of, cell_names, same_letter, may_access, CellsAgree}
-use Rattle.cjc_by_token.proofs.Members.{both_left, both_right, negated, member_tells, member_apart, other_slot, own_slot, front_one, behind_one}
+use Rattle.cjc_by_token.proofs.Members.{both_left, both_right, negated, member_tells, member_apart, other_slot, own_slot, front_one, behind_one, front_all, behind_all, either_field, shown_all}
 use Rattle.cjc_by_token.proofs.Image.{Held, HoldsValue, AllHold, AllNumbers, operand_fits, number_read, number_put, other_bytes, other_values, behind, at_first, first_is, apart_first, apart_rest}
 
 -- ---- offsets
@@ -169,14 +169,6 @@ length_map f (x ∷ xs) = ap suc (length_map f xs)
 reference_value : (k : Letter) (v : Value) → k ≡ Reference → fits k v ≡ true → value_in (Some v) ≡ v
 reference_value k v is e = refl
 
-either_field : (gs hs : List MemberId) (f : MemberId) → is_one_of f (gs ++ hs) ≡ true → (is_one_of f gs ≡ true) ⊎ (is_one_of f hs ≡ true)
-either_field [] hs f e = inr e
-either_field (g ∷ gs) hs f e = by (same_member g f) e (either_field gs hs f)
-  where
-    by : (t : Bool) → (t || is_one_of f (gs ++ hs)) ≡ true → (is_one_of f (gs ++ hs) ≡ true → (is_one_of f gs ≡ true) ⊎ (is_one_of f hs ≡ true)) → ((t || is_one_of f gs) ≡ true) ⊎ (is_one_of f hs ≡ true)
-    by true h rest = inl refl
-    by false h rest = rest h
-
 -- a reference is no number
 not_both : (gs : List MemberId) (f : MemberId) (t : Bool) → is_one_of f gs ≡ t → is_number (letter f) ≡ false → AllNumbers gs → is_one_of f gs ≡ false
 not_both gs f false e num nums = e
@@ -218,19 +210,7 @@ kinds_same Int (Num y) (Obj j) e f = cc
 
 module _ (o : Order) (order : IsOrder o) (x : Held) (s : MemberId) (all : AllHold x (fields o)) where
   numbers_hold : AllHold x o.numbers
-  numbers_hold f e = all f (behind_all o.references f e)
-    where
-      behind_all : (gs : List MemberId) (f : MemberId) → is_one_of f o.numbers ≡ true → is_one_of f (gs ++ o.numbers) ≡ true
-      behind_all [] f e = e
-      behind_all (g ∷ gs) f e = behind_one f g (gs ++ o.numbers) (behind_all gs f e)
-
-  front_all : (gs hs : List MemberId) (f : MemberId) → is_one_of f gs ≡ true → is_one_of f (gs ++ hs) ≡ true
-  front_all [] hs f e = cc
-  front_all (g ∷ gs) hs f e = by (same_member g f) e (front_all gs hs f)
-    where
-      by : (t : Bool) → (t || is_one_of f gs) ≡ true → (is_one_of f gs ≡ true → is_one_of f (gs ++ hs) ≡ true) → (t || is_one_of f (gs ++ hs)) ≡ true
-      by true h rest = refl
-      by false h rest = rest h
+  numbers_hold f e = all f (behind_all o.references o.numbers f e)
 
   -- ---- a reference
 
@@ -354,36 +334,29 @@ module _ (o : Order) (all : List MemberId) (has : HasCells o all) where
       let same : slots_with same_member x f v ≡ after = cc in
       subst (λ y. are_cells all y ≡ true) same (cells_kept all x f v fit e)
 
-  -- the report of fields that are found by a look-up as they stand
-  shown_by : (look : MemberId → FieldValue) (gs : List MemberId) (x : Held) → are_cells gs x ≡ true → are_apart gs ≡ true
-      → ((f : MemberId) (v : Value) → is_one_of f gs ≡ true → slot_of same_member x f ≡ Some v → look f ≡ record { field = f; value = v }) → map look gs ≡ map shown_slot x
-  shown_by look [] [] e apart h = refl
-  shown_by look [] (s ∷ x) e apart h = cc
-  shown_by look (g ∷ gs) [] e apart h = cc
-  shown_by look (g ∷ gs) (s ∷ x) e apart h =
-      let first = both_left (same_member s.key g) (fits (letter g) s.value && are_cells gs x) e in
+  -- the keys are the fields
+  keys_are : (gs : List MemberId) (x : Held) → are_cells gs x ≡ true → keys x ≡ gs
+  keys_are [] [] e = refl
+  keys_are [] (s ∷ x) e = cc
+  keys_are (g ∷ gs) [] e = cc
+  keys_are (g ∷ gs) (s ∷ x) e =
       let rest = both_right (fits (letter g) s.value) (are_cells gs x) (both_right (same_member s.key g) (fits (letter g) s.value && are_cells gs x) e) in
-      let key = member_tells s.key g first in
-      let here = h g s.value (front_one g gs) (ap (λ t. if t then Some s.value else slot_of same_member x g) first) in
-      let alone = negated (is_one_of g gs) (are_apart gs) apart in
-      ap (λ v. v ∷ map look gs) (here ∙ ap (λ f. record { field = f; value = s.value }) (sym key))
-      ∙ ap (λ vs. shown_slot s ∷ vs) (shown_by look gs x rest (both_right (not (is_one_of g gs)) (are_apart gs) apart)
-      (λ f v is there. h f v (behind_one f g gs is) (ap (λ t. if t then Some s.value else slot_of same_member x f) (ap (λ k. same_member k f) key ∙ other g gs f alone is) ∙ there)))
-    where
-      other : (g : MemberId) (gs : List MemberId) (f : MemberId) → is_one_of g gs ≡ false → is_one_of f gs ≡ true → same_member g f ≡ false
-      other g gs f alone is = by (same_member g f) refl
-        where
-          by : (t : Bool) → same_member g f ≡ t → same_member g f ≡ false
-          by false e = e
-          by true e = let clash : true ≡ false = sym is ∙ (ap (λ k. is_one_of k gs) (sym (member_tells g f e)) ∙ alone) in cc
+      ap (λ k. k ∷ keys x) (member_tells s.key g (both_left (same_member s.key g) (fits (letter g) s.value && are_cells gs x) e)) ∙ ap (λ ks. g ∷ ks) (keys_are gs x rest)
 
   named : (gs : List MemberId) (x : Held) → map (shown_cell 0 (image_of o x ∷ [])) (cell_names o gs) ≡ map (λ f. shown_cell 0 (image_of o x ∷ []) (record { offset = offset_from 0 (fields o) f; id = f })) gs
   named [] x = refl
   named (g ∷ gs) x = ap (λ vs. shown_cell 0 (image_of o x ∷ []) (record { offset = offset_from 0 (fields o) g; id = g }) ∷ vs) (named gs x)
 
   cells_shown : (x : Held) → are_cells all x ≡ true → map (shown_cell 0 (image_of o x ∷ [])) (cell_names o all) ≡ map shown_slot x
-  cells_shown x e = named all x ∙ shown_by (λ f. shown_cell 0 (image_of o x ∷ []) (record { offset = offset_from 0 (fields o) f; id = f })) all x e has.once look
+  cells_shown x e =
+      let same = keys_are all x e in
+      named all x
+      ∙ (ap (map shown) (sym same)
+      ∙ shown_all shown x (ap are_apart same ∙ has.once) (λ f v is there. look f v (ap (is_one_of f) (sym same) ∙ is) there))
     where
+      shown : MemberId → FieldValue
+      shown f = shown_cell 0 (image_of o x ∷ []) (record { offset = offset_from 0 (fields o) f; id = f })
+
       look : (f : MemberId) (v : Value) → is_one_of f all ≡ true → slot_of same_member x f ≡ Some v → shown_cell 0 (image_of o x ∷ []) (record { offset = offset_from 0 (fields o) f; id = f }) ≡ record { field = f; value = v }
       look f v is there =
           ap (λ l. record { field = f; value = value_or (zero_of (field_sort f.desc)) (option_and_then (λ k. get_static k (cell_of o f) (image_of o x ∷ [])) l) }) (has.typed f is)

@@ -1,3 +1,5 @@
 mod Members
 mod Image
 mod Cells
+mod Slots
+mod Objects

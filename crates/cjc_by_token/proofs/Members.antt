@@ -1,13 +1,16 @@
 -- Members by their class, name and descriptor, and what is held under them.
-use Rattle.std.proofs.Common.{◌≡◌, refl, sym, ap, ◌∙◌, arith, Bool, true, false, List, [], ◌∷◌}
-use Rattle.std.specs.Prelude.{ℕ, Some, if◌then◌else◌, ◌&&◌, ◌||◌, not}
+use Rattle.std.proofs.Common.{◌≡◌, refl, sym, ap, ◌∙◌, arith, Bool, true, false, List, [], ◌∷◌, ◌++◌, map, inl, inr}
+use Rattle.std.specs.Prelude.{ℕ, Some, if◌then◌else◌, ◌&&◌, ◌||◌, not, ◌⊎◌}
 use Rattle.std.specs.Str.{bytes_eq}
 use Rattle.std.proofs.lemmas.Slice.Eq.{bytes_eq-Decides}
 use Rattle.cjc_bytes.specs.declared.fault.MemberId.{MemberId}
 use Rattle.cjc_script.specs.declared.value.Value.{Value}
+use Rattle.cjc_script.specs.declared.report.FieldValue.{FieldValue}
 use Rattle.cjc_bytecode.specs.Effects.{Slot, slot_of, slots_with}
+use Rattle.cjc_bytecode.specs.Renaming.{keys}
+use Rattle.cjc_ncode.specs.ByLabel.{shown_slot}
 use Rattle.cjc_ncode.specs.PoolOrder.{same_member}
-use Rattle.cjc_by_token.specs.Cells.{is_one_of}
+use Rattle.cjc_by_token.specs.Cells.{is_one_of, are_apart}
 
 -- ---- conjunctions
 
@@ -78,6 +81,13 @@ module _ (s : MemberId) (v : Value) where
 
 -- ---- lists of members
 
+pub other_one : (g : MemberId) (fields : List MemberId) (f : MemberId) → is_one_of g fields ≡ false → is_one_of f fields ≡ true → same_member g f ≡ false
+other_one g fields f alone is = by (same_member g f) refl
+  where
+    by : (t : Bool) → same_member g f ≡ t → same_member g f ≡ false
+    by false e = e
+    by true e = let clash : true ≡ false = sym is ∙ (ap (λ k. is_one_of k fields) (sym (member_tells g f e)) ∙ alone) in cc
+
 pub front_one : (f : MemberId) (fields : List MemberId) → is_one_of f (f ∷ fields) ≡ true
 front_one f fields = ap (λ t. t || is_one_of f fields) (member_same f)
 
@@ -87,3 +97,34 @@ behind_one f g fields e = by (same_member g f)
     by : (t : Bool) → (t || is_one_of f fields) ≡ true
     by true = refl
     by false = e
+
+pub front_all : (gs hs : List MemberId) (f : MemberId) → is_one_of f gs ≡ true → is_one_of f (gs ++ hs) ≡ true
+front_all [] hs f e = cc
+front_all (g ∷ gs) hs f e = by (same_member g f) e (front_all gs hs f)
+  where
+    by : (t : Bool) → (t || is_one_of f gs) ≡ true → (is_one_of f gs ≡ true → is_one_of f (gs ++ hs) ≡ true) → (t || is_one_of f (gs ++ hs)) ≡ true
+    by true h rest = refl
+    by false h rest = rest h
+
+pub behind_all : (gs hs : List MemberId) (f : MemberId) → is_one_of f hs ≡ true → is_one_of f (gs ++ hs) ≡ true
+behind_all [] hs f e = e
+behind_all (g ∷ gs) hs f e = behind_one f g (gs ++ hs) (behind_all gs hs f e)
+
+pub either_field : (gs hs : List MemberId) (f : MemberId) → is_one_of f (gs ++ hs) ≡ true → (is_one_of f gs ≡ true) ⊎ (is_one_of f hs ≡ true)
+either_field [] hs f e = inr e
+either_field (g ∷ gs) hs f e = by (same_member g f) e (either_field gs hs f)
+  where
+    by : (t : Bool) → (t || is_one_of f (gs ++ hs)) ≡ true → (is_one_of f (gs ++ hs) ≡ true → (is_one_of f gs ≡ true) ⊎ (is_one_of f hs ≡ true)) → ((t || is_one_of f gs) ≡ true) ⊎ (is_one_of f hs ≡ true)
+    by true h rest = inl refl
+    by false h rest = rest h
+
+-- the report of fields that a look-up finds as they stand
+pub shown_all : (look : MemberId → FieldValue) (x : List (Slot MemberId)) → are_apart (keys x) ≡ true
+    → ((f : MemberId) (v : Value) → is_one_of f (keys x) ≡ true → slot_of same_member x f ≡ Some v → look f ≡ record { field = f; value = v }) → map look (keys x) ≡ map shown_slot x
+shown_all look [] apart h = refl
+shown_all look (s ∷ x) apart h =
+    let here = h s.key s.value (front_one s.key (keys x)) (ap (λ t. if t then Some s.value else slot_of same_member x s.key) (member_same s.key)) in
+    let alone = negated (is_one_of s.key (keys x)) (are_apart (keys x)) apart in
+    ap (λ v. v ∷ map look (keys x)) here
+    ∙ ap (λ vs. shown_slot s ∷ vs) (shown_all look x (both_right (not (is_one_of s.key (keys x))) (are_apart (keys x)) apart)
+    (λ f v is there. h f v (behind_one f s.key (keys x) is) (ap (λ t. if t then Some s.value else slot_of same_member x f) (other_one s.key (keys x) f alone is) ∙ there)))
