@@ -7,6 +7,7 @@ mod activation;
 mod arithmetic;
 mod branches;
 mod calculation;
+mod calls;
 mod deed;
 mod locals;
 mod method;
@@ -17,6 +18,7 @@ mod stack;
 
 pub use activation::{Activation, is_kind, is_same_kind};
 pub use calculation::{Calculation, calculate};
+pub use calls::Caller;
 pub use deed::{Deed, Exception};
 pub use method::Method;
 pub use pile::Pile;

@@ -1,6 +1,6 @@
 //! A method of a class file, as the machine runs it.
 
-ghost use Rattle.std.specs.Prelude.{◌≡◌};
+ghost use Rattle.std.specs.Prelude.{◌≡◌, ◌<◌, ◌^◌, length};
 ghost use Rattle.cjc_by_name.specs.Effects.{place};
 
 use cjc_classfile::Catch;
@@ -42,6 +42,13 @@ impl<'a> Method<'a> {
         ensures { result ≡ self.now.max_stack }
     {
         self.max_stack as usize
+    }
+
+    /// Its instructions are counted by 32 bits.
+    pub fn count(&self)
+        ensures { length self.now.insns < 2 ^ 32 }
+    {
+        let _insns = self.insns;
     }
 
     /// The place of the instruction at an offset, or the place behind the last where none stands there.

@@ -1,6 +1,6 @@
 //! Lists that grow and shrink at their head: operand stacks.
 
-ghost use Rattle.std.specs.Prelude.{◌≡◌, ◌≤◌, [], ◌∷◌, ◌++◌, length, take, drop, reverse, slice_get, OnOk};
+ghost use Rattle.std.specs.Prelude.{◌≡◌, ◌≤◌, [], ◌∷◌, ◌++◌, length, take, drop, reverse, slice_get, IfSome, IfNone, OnOk};
 
 use cjc_bytes::NoMemory;
 use std::alloc::Global;
@@ -44,6 +44,15 @@ impl<T: Drop> Pile<T> {
     {
         let len = self.items.len();
         self.items.truncate(len - count);
+    }
+
+    /// Takes the top off.
+    pub fn pop(&mut self) -> Option<T>
+        ensures some { IfSome result (λ item. self.old ≡ item ∷ self.new) }
+        ensures none { IfNone result (self.old ≡ []) }
+        ensures same { IfNone result (self.new ≡ []) }
+    {
+        self.items.pop()
     }
 
     /// Puts an item on top.
