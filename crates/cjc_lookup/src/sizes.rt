@@ -9,7 +9,7 @@ ghost use Rattle.cjc_sentences.specs.Complete.{applet_size, package_size, interf
 use crate::along::{Item, total};
 use cjc_capread::{
     Applet, AppletEntry, ArrayInit, CapTree, ClassDescriptor, ClassEntry, ClassInfo, ClassRef,
-    ConstantPool, Descriptor, Export, ExportedClass, FieldDescriptor, Header, ImplementedInterface,
+    ConstantPool, Descriptor, Export, ExportedClass, FieldDescriptor, Handler, Header, ImplementedInterface,
     Import, ImportedPackage, InterfaceEntry, Method, MethodDescriptor, PoolEntry,
     ReferenceLocation, StaticField, TypeDescriptor,
 };
@@ -97,6 +97,22 @@ impl Item for u64 {
 
     fn size(&self) -> u32 {
         2
+    }
+}
+
+impl Item for u8 {
+    ghost bytes = { λ n. 1 };
+
+    fn size(&self) -> u32 {
+        1
+    }
+}
+
+impl Item for Handler {
+    ghost bytes = { λ x. 8 };
+
+    fn size(&self) -> u32 {
+        8
     }
 }
 

@@ -1,0 +1,11 @@
+use Rattle.std.proofs.Common.{◌≡◌, ◌+◌, drop, length, map}
+use Rattle.cjc_sentences.specs.Codes.{codes_from}
+use Rattle.cjc_codes.specs.Walked.{AreBodies, behind, code_of}
+use Rattle.cjc_codes.proofs.cutting.codes_from.Given as goal
+
+abbrev pub invariant-loop-method : goal.invariant-loop-method
+invariant-loop-method l = record {
+  place : l.at + length l.rest ≡ l.from + length l.bytes;
+  walked : behind (map code_of l.bodies) (codes_from l.at (drop l.method-index l.methods) l.rest) ≡ codes_from l.from l.methods l.bytes;
+  kept : AreBodies l.bodies;
+}
