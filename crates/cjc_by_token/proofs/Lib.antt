@@ -3,3 +3,5 @@ mod Image
 mod Cells
 mod Slots
 mod Objects
+mod Above
+mod Classes

@@ -1,2 +1,4 @@
 pub mod Cells
 pub mod Objects
+pub mod Above
+pub mod Classes

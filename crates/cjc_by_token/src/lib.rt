@@ -4,10 +4,18 @@
 //! or code was made.
 #![tactic(auto)]
 
-ghost use Rattle.std.specs.Prelude.{◌≡◌, ℕ, true, Bool, List};
+ghost use Rattle.std.specs.Prelude.{◌≡◌, ◌↔◌, ℕ, true, Bool, List};
 ghost use Rattle.cjc_bytes.specs.declared.fault.MemberId.{MemberId};
-ghost use Rattle.cjc_lower.specs.Naming.{Naming};
+ghost use Rattle.cjc_card.specs.Classes.{Class, is_kind_of};
+ghost use Rattle.cjc_card.specs.Loaded.{Loaded};
+ghost use Rattle.cjc_bytecode.specs.Renaming.{AreAlike};
+ghost use Rattle.cjc_card.specs.ByToken.{classes as by_token};
+ghost use Rattle.cjc_ncode.specs.ByLabel.{Named, classes as by_name};
+ghost use Rattle.cjc_lower.specs.Agreement.{known_by};
+ghost use Rattle.cjc_lower.specs.Naming.{Naming, field};
+ghost use Rattle.cjc_by_token.specs.Above.{IsAtOrAbove};
 ghost use Rattle.cjc_by_token.specs.Cells.{CellsAgree, HasCells, Order};
+ghost use Rattle.cjc_by_token.specs.Classes.{Names, SaysClasses, memories, tests};
 ghost use Rattle.cjc_by_token.specs.Objects.{HasObjects, ObjectsAgree};
 
 /// What instructions and reports ask of static fields is the same by name and in the static field image, whose cells are
@@ -21,4 +29,16 @@ pub fn static_fields_agree()
 /// of the class infos.
 pub fn objects_agree()
     ensures { (n : Naming) (may_name : MemberId → Bool) (c : List ℕ) (fields : List MemberId) → HasObjects n may_name c fields → ObjectsAgree n may_name c fields }
+{}
+
+/// A class is told as a kind of another exactly where that one is the class or stands above it, over what class infos and
+/// export files list: the steps of going upwards are enough in every group.
+pub fn kinds_are_told()
+    ensures { (l : Loaded) (c d : Class) → (is_kind_of l c d ≡ true) ↔ IsAtOrAbove l c d }
+{}
+
+/// All that instructions ask of classes, objects and static fields is the same by name and by token, for names that code and
+/// objects may have, where class infos, their names and the static field image say what the look-ups find.
+pub fn classes_are_alike()
+    ensures { (n : Naming) (l : Named) (names : Names) → SaysClasses n l names → (let m = memories n names in AreAlike (known_by (tests names)) n.class (field n) m.slots n.cell m.statics (by_name l) (by_token n.loaded)) }
 {}
