@@ -11,32 +11,32 @@ use Rattle.cjc_by_token.proofs.Slots.{class_tells, class_same}
 
 -- ---- membership
 
-head_in : (c : Class) (cs : List Class) → is_in c (c ∷ cs) ≡ true
+pub head_in : (c : Class) (cs : List Class) → is_in c (c ∷ cs) ≡ true
 head_in c cs = ap (λ t. t || is_in c cs) (class_same c)
 
-later_in : (c d : Class) (cs : List Class) → is_in c cs ≡ true → is_in c (d ∷ cs) ≡ true
+pub later_in : (c d : Class) (cs : List Class) → is_in c cs ≡ true → is_in c (d ∷ cs) ≡ true
 later_in c d cs e = by (same_class c d)
   where
     by : (t : Bool) → (t || is_in c cs) ≡ true
     by true = refl
     by false = e
 
-first_or_later : (c d : Class) (cs : List Class) → is_in c (d ∷ cs) ≡ true → (c ≡ d) ⊎ (is_in c cs ≡ true)
+pub first_or_later : (c d : Class) (cs : List Class) → is_in c (d ∷ cs) ≡ true → (c ≡ d) ⊎ (is_in c cs ≡ true)
 first_or_later c d cs e = by (same_class c d) refl e
   where
     by : (t : Bool) → same_class c d ≡ t → (t || is_in c cs) ≡ true → (c ≡ d) ⊎ (is_in c cs ≡ true)
     by true is h = inl (class_tells c d is)
     by false is h = inr h
 
-front_in : (c : Class) (xs ys : List Class) → is_in c xs ≡ true → is_in c (xs ++ ys) ≡ true
+pub front_in : (c : Class) (xs ys : List Class) → is_in c xs ≡ true → is_in c (xs ++ ys) ≡ true
 front_in c [] ys e = cc
 front_in c (x ∷ xs) ys e = ⊎_elim (λ is. subst (λ y. is_in c (y ∷ (xs ++ ys)) ≡ true) is (head_in c (xs ++ ys))) (λ h. later_in c x (xs ++ ys) (front_in c xs ys h)) (first_or_later c x xs e)
 
-behind_in : (c : Class) (xs ys : List Class) → is_in c ys ≡ true → is_in c (xs ++ ys) ≡ true
+pub behind_in : (c : Class) (xs ys : List Class) → is_in c ys ≡ true → is_in c (xs ++ ys) ≡ true
 behind_in c [] ys e = e
 behind_in c (x ∷ xs) ys e = later_in c x (xs ++ ys) (behind_in c xs ys e)
 
-either_in : (c : Class) (xs ys : List Class) → is_in c (xs ++ ys) ≡ true → (is_in c xs ≡ true) ⊎ (is_in c ys ≡ true)
+pub either_in : (c : Class) (xs ys : List Class) → is_in c (xs ++ ys) ≡ true → (is_in c xs ≡ true) ⊎ (is_in c ys ≡ true)
 either_in c [] ys e = inr e
 either_in c (x ∷ xs) ys e = ⊎_elim
     (λ is. inl (subst (λ y. is_in c (y ∷ xs) ≡ true) is (head_in c xs)))

@@ -5,3 +5,4 @@ mod Slots
 mod Objects
 mod Above
 mod Classes
+mod Subtypes

@@ -2,3 +2,4 @@ pub mod Cells
 pub mod Objects
 pub mod Above
 pub mod Classes
+pub mod Supers

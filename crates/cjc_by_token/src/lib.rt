@@ -9,6 +9,7 @@ ghost use Rattle.cjc_bytes.specs.declared.fault.MemberId.{MemberId};
 ghost use Rattle.cjc_card.specs.Classes.{Class, is_kind_of};
 ghost use Rattle.cjc_card.specs.Loaded.{Loaded};
 ghost use Rattle.cjc_bytecode.specs.Renaming.{AreAlike};
+ghost use Rattle.cjc_world.specs.Classes.{Class as WorldClass};
 ghost use Rattle.cjc_card.specs.ByToken.{classes as by_token};
 ghost use Rattle.cjc_ncode.specs.ByLabel.{Named, classes as by_name};
 ghost use Rattle.cjc_lower.specs.Agreement.{known_by};
@@ -17,6 +18,7 @@ ghost use Rattle.cjc_by_token.specs.Above.{IsAtOrAbove};
 ghost use Rattle.cjc_by_token.specs.Cells.{CellsAgree, HasCells, Order};
 ghost use Rattle.cjc_by_token.specs.Classes.{Names, SaysClasses, memories, tests};
 ghost use Rattle.cjc_by_token.specs.Objects.{HasObjects, ObjectsAgree};
+ghost use Rattle.cjc_by_token.specs.Supers.{KindsAgree, SaysKinds};
 
 /// What instructions and reports ask of static fields is the same by name and in the static field image, whose cells are
 /// references and numbers behind them, each field's once: each letter reads and puts what the field holds.
@@ -41,4 +43,11 @@ pub fn kinds_are_told()
 /// objects may have, where class infos, their names and the static field image say what the look-ups find.
 pub fn classes_are_alike()
     ensures { (n : Naming) (l : Named) (names : Names) → SaysClasses n l names → (let m = memories n names in AreAlike (known_by (tests names)) n.class (field n) m.slots n.cell m.statics (by_name l) (by_token n.loaded)) }
+{}
+
+/// A type is of another by token exactly where it is a subtype by the class files and export files, for classes that some
+/// file has: a class info's class_refs are those of what stands above its class, and arrays are java/lang/Object and what
+/// stands above it.
+pub fn kinds_are_subtypes()
+    ensures { (w : List WorldClass) (n : Naming) → SaysKinds w n → KindsAgree w n }
 {}
