@@ -42,7 +42,7 @@ impl Numbers {
     }
 
     /// Puts the key behind the others, where it is not among them.
-    pub(crate) fn add(&mut self, alloc: Global, key: &Key<'_>) -> Result<(), NoMemory>
+    pub fn add(&mut self, alloc: Global, key: &Key<'_>) -> Result<(), NoMemory>
         ensures { OnOk result (self.new ≡ insert_key same_key self.old key.now) }
     {
         if self.set.contains(key) {
