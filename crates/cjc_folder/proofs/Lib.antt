@@ -1,0 +1,4 @@
+pub mod Along
+pub mod Files
+pub mod Gathers
+pub mod Ordered
