@@ -14,17 +14,18 @@ use Rattle.cjc_ncode.specs.ByLabel.{Named}
 use Rattle.cjc_by_name.specs.Linked.{Method, Linked}
 use Rattle.cjc_by_name.specs.Effects.{Store, effect}
 use Rattle.cjc_by_name.specs.Effects as by_name
-use Rattle.cjc_shrink.specs.Relation.{Kind, OnBoth, no_cell, a_range, a_reference, NMemory, Stacks, Locals, Stores}
+use Rattle.cjc_shrink.specs.Relation.{Kind, OnBoth, no_cell, a_range, a_reference, an_unused, NMemory, Stacks, Locals, Stores}
 use Rattle.cjc_shrink.specs.Rows.{HasRoom, Same, RowAgrees, goes}
 use Rattle.cjc_shrink.proofs.Plain.{RowIs, as_written}
 use Rattle.cjc_shrink.proofs.Gets.{heights}
-use Rattle.cjc_shrink.proofs.Passed.{Here, nothing, range, refers, here_before, taken, dropped, high_enough, joined, length_both, take_all, drop_all, append_in_turn}
+use Rattle.cjc_shrink.proofs.Passed.{Here, nothing, range, refers, unread, here_before, taken, dropped, high_enough, joined, length_both, take_all, drop_all, append_in_turn}
 
 here_fewer : {tops : List Kind} (ks : List Kind) (n : ℕ) → OnBoth tops → n ≤ length tops → Here n (tops ++ ks)
 here_fewer ks zero p h = nothing
 here_fewer ks (suc n) no_cell h = absurd (omega arith)
 here_fewer ks (suc n) (a_range p) h = range (here_fewer ks n p (omega arith))
 here_fewer ks (suc n) (a_reference p) h = refers (here_fewer ks n p (omega arith))
+here_fewer ks (suc n) (an_unused p) h = unread (here_fewer ks n p (omega arith))
 
 take_few : {A : Type 0} (n : ℕ) (xs ys : List A) → n ≤ length xs → take n (xs ++ ys) ≡ take n xs
 take_few zero xs ys h = refl

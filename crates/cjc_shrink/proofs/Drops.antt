@@ -20,7 +20,7 @@ use Rattle.cjc_ncode.specs.ByLabel.{Named}
 use Rattle.cjc_by_name.specs.Linked.{Method, Linked}
 use Rattle.cjc_by_name.specs.Effects.{Store, effect}
 use Rattle.cjc_by_name.specs.Effects as by_name
-use Rattle.cjc_shrink.specs.Relation.{Kind, Range, OnBoth, no_cell, a_range, a_reference, NMemory, Agrees, number, Stacks, cell, Locals, Stores}
+use Rattle.cjc_shrink.specs.Relation.{Kind, Range, OnBoth, no_cell, a_range, a_reference, an_unused, NMemory, Agrees, number, Stacks, cell, Locals, Stores}
 use Rattle.cjc_shrink.specs.Rows.{Same, RowAgrees, GoesOn, IsNotWritten, goes}
 use Rattle.cjc_shrink.proofs.Plain.{RowIs, as_written}
 use Rattle.cjc_shrink.proofs.Gets.{heights}
@@ -67,8 +67,13 @@ module _ (by : Linked) (l : Named) (r : Resolution) (m : Method) where
   unfolding effect meaning
   swap_is _ _ (a_range (a_range no_cell)) room at next ks ls _ _ locals words store memory roomy stores held (cell a (cell b s)) = swapped at next stores held a b s
   swap_is _ _ (a_range (a_reference no_cell)) room at next ks ls _ _ locals words store memory roomy stores held (cell a (cell b s)) = swapped at next stores held a b s
+  swap_is _ _ (a_range (an_unused no_cell)) room at next ks ls _ _ locals words store memory roomy stores held (cell a (cell b s)) = swapped at next stores held a b s
   swap_is _ _ (a_reference (a_range no_cell)) room at next ks ls _ _ locals words store memory roomy stores held (cell a (cell b s)) = swapped at next stores held a b s
   swap_is _ _ (a_reference (a_reference no_cell)) room at next ks ls _ _ locals words store memory roomy stores held (cell a (cell b s)) = swapped at next stores held a b s
+  swap_is _ _ (a_reference (an_unused no_cell)) room at next ks ls _ _ locals words store memory roomy stores held (cell a (cell b s)) = swapped at next stores held a b s
+  swap_is _ _ (an_unused (a_range no_cell)) room at next ks ls _ _ locals words store memory roomy stores held (cell a (cell b s)) = swapped at next stores held a b s
+  swap_is _ _ (an_unused (a_reference no_cell)) room at next ks ls _ _ locals words store memory roomy stores held (cell a (cell b s)) = swapped at next stores held a b s
+  swap_is _ _ (an_unused (an_unused no_cell)) room at next ks ls _ _ locals words store memory roomy stores held (cell a (cell b s)) = swapped at next stores held a b s
 
   pub swap : (a b : Kind) → OnBoth (a ∷ b ∷ []) → RowAgrees by l r m (jop.Stack 0x5F) (a ∷ b ∷ []) (b ∷ a ∷ [])
   swap a b plain = as_written by l r m (jop.Stack 0x5F) (insns.Words 0x40 1 1) (a ∷ b ∷ []) (b ∷ a ∷ []) (λ place. refl) (swap_is a b plain)

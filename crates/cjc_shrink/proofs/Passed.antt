@@ -7,7 +7,7 @@ use Rattle.cjc_script.specs.declared.value.Value.TheVariants.{Num}
 use Rattle.cjc_script.specs.Sorts.{Shape, Sort, Boolean, Byte, Short, Int, Reference, NoValue}
 use Rattle.cjc_range.specs.Span.{Span}
 use Rattle.cjc_by_name.specs.Machine.{is_of_sort, are_of_sorts}
-use Rattle.cjc_shrink.specs.Relation.{OnBoth, no_cell, a_range, a_reference as both_reference, Kind, Range, Refers, Free, Away, Heap, number, null, object, Stacks, bottom, cell, left_out, Locals, no_more, local, unused}
+use Rattle.cjc_shrink.specs.Relation.{OnBoth, no_cell, a_range, a_reference as both_reference, an_unused, Kind, Range, Refers, Free, Away, Heap, number, null, object, Stacks, bottom, cell, left_out, Locals, no_more, local, unused}
 use Rattle.cjc_shrink.specs.Calls.{is_number_sort, Passes, no_parameter, a_number, a_reference}
 
 -- the top cells are on both stacks
@@ -15,6 +15,7 @@ pub data Here : ℕ → List Kind → Type 0 where
   nothing : {ks : List Kind} → Here zero ks
   range : {n : ℕ} {numbers : Span} {ks : List Kind} → Here n ks → Here (suc n) (Range numbers ∷ ks)
   refers : {n : ℕ} {within : Shape (List ℕ) → Bool} {ks : List Kind} → Here n ks → Here (suc n) (Refers within ∷ ks)
+  unread : {n : ℕ} {ks : List Kind} → Here n ks → Here (suc n) (Free ∷ ks)
 
 rev : {A : Type 0} (x : A) (xs : List A) → reverse (x ∷ xs) ≡ reverse xs ++ x ∷ []
 rev x xs = reverse-append (x ∷ []) xs
@@ -63,16 +64,19 @@ pub here_before : {ks : List Kind} (js : List Kind) → OnBoth ks → Here (leng
 here_before js no_cell = nothing
 here_before js (a_range p) = range (here_before js p)
 here_before js (both_reference p) = refers (here_before js p)
+here_before js (an_unused p) = unread (here_before js p)
 
 plain_both : {ks js : List Kind} → OnBoth ks → OnBoth js → OnBoth (ks ++ js)
 plain_both no_cell q = q
 plain_both (a_range p) q = a_range (plain_both p q)
 plain_both (both_reference p) q = both_reference (plain_both p q)
+plain_both (an_unused p) q = an_unused (plain_both p q)
 
 pub plain_reverse : {ks : List Kind} → OnBoth ks → OnBoth (reverse ks)
 plain_reverse no_cell = no_cell
 plain_reverse (a_range {numbers = n} {ks = ks} p) = subst OnBoth (sym (rev (Range n) ks)) (plain_both (plain_reverse p) (a_range no_cell))
 plain_reverse (both_reference {within = w} {ks = ks} p) = subst OnBoth (sym (rev (Refers w) ks)) (plain_both (plain_reverse p) (both_reference no_cell))
+plain_reverse (an_unused {ks = ks} p) = subst OnBoth (sym (rev Free ks)) (plain_both (plain_reverse p) (an_unused no_cell))
 
 pub passed_plain : {types : List Sort} {ks : List Kind} → Passes types ks → OnBoth ks
 passed_plain no_parameter = no_cell
@@ -89,16 +93,19 @@ module _ {heap : Heap} where
   taken nothing s = bottom
   taken (range h) (cell a s) = cell a (taken h s)
   taken (refers h) (cell a s) = cell a (taken h s)
+  taken (unread h) (cell a s) = cell a (taken h s)
 
   pub dropped : {n : ℕ} {ks : List Kind} {vs ws : List Value} → Here n ks → Stacks heap ks vs ws → Stacks heap (drop n ks) (drop n vs) (drop n ws)
   dropped nothing s = s
   dropped (range h) (cell a s) = dropped h s
   dropped (refers h) (cell a s) = dropped h s
+  dropped (unread h) (cell a s) = dropped h s
 
   pub high_enough : {n : ℕ} {ks : List Kind} {vs ws : List Value} → Here n ks → Stacks heap ks vs ws → n ≤ length ws
   high_enough nothing s = omega arith
   high_enough (range h) (cell a s) = let r = high_enough h s in omega arith
   high_enough (refers h) (cell a s) = let r = high_enough h s in omega arith
+  high_enough (unread h) (cell a s) = let r = high_enough h s in omega arith
 
   pub joined : {ks js : List Kind} {vs ws xs ys : List Value} → Stacks heap ks vs ws → Stacks heap js xs ys → Stacks heap (ks ++ js) (vs ++ xs) (ws ++ ys)
   joined bottom t = t
@@ -152,11 +159,13 @@ module _ {heap : Heap} where
   first n no_cell bottom = unset n
   first n (a_range p) (cell a s) = local a (first n p s)
   first n (both_reference p) (cell a s) = local a (first n p s)
+  first n (an_unused p) (cell a s) = local a (first n p s)
 
   pub both_long : {params : List Kind} {args words : List Value} → OnBoth params → Stacks heap params args words → (length args ≡ length params) × (length words ≡ length params)
   both_long no_cell bottom = (refl, refl)
   both_long (a_range p) (cell a s) = let r = both_long p s in (ap suc r.0, ap suc r.1)
   both_long (both_reference p) (cell a s) = let r = both_long p s in (ap suc r.0, ap suc r.1)
+  both_long (an_unused p) (cell a s) = let r = both_long p s in (ap suc r.0, ap suc r.1)
 
 -- as many cells as words and further locals
 pub filled : (words : List Value) (further whole : ℕ) → length words + further ≤ whole → take (length words + further) (map (λ v. Some v) words ++ replicate whole None) ≡ map (λ v. Some v) words ++ replicate further None

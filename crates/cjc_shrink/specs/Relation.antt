@@ -54,11 +54,12 @@ pub data Locals (heap : Heap) : List Kind → List (Option Value) → List (Opti
   local : {k : Kind} {v w : Value} {ks : List Kind} {vs ws : List (Option Value)} → Agrees heap k v w → Locals heap ks vs ws → Locals heap (k ∷ ks) (Some v ∷ vs) (Some w ∷ ws)
   unused : {v w : Option Value} {ks : List Kind} {vs ws : List (Option Value)} → Locals heap ks vs ws → Locals heap (Free ∷ ks) (v ∷ vs) (w ∷ ws)
 
--- cells that are on both stacks, a number or a reference each
+-- cells that are on both stacks: a number, a reference, or what no code reads
 pub data OnBoth : List Kind → Type 0 where
   no_cell : OnBoth []
   a_range : {numbers : Span} {ks : List Kind} → OnBoth ks → OnBoth (Range numbers ∷ ks)
   a_reference : {within : Shape (List ℕ) → Bool} {ks : List Kind} → OnBoth ks → OnBoth (Refers within ∷ ks)
+  an_unused : {ks : List Kind} → OnBoth ks → OnBoth (Free ∷ ks)
 
 -- ---- less is known
 
