@@ -1,0 +1,10 @@
+pub mod Placed
+pub mod Calm
+pub mod Told
+pub mod Typed
+pub mod Arrivals
+pub mod Bounded
+pub mod Methods
+pub mod Rows
+pub mod Plain
+pub mod Points

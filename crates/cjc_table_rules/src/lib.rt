@@ -1,0 +1,42 @@
+//! Tables of a package keep the rules by which whole runs of class files and of narrow code agree: from closed type and
+//! range tables that break no rule, instruction by instruction. It has definitions and laws alone, for whoever proves
+//! that what is written for a package behaves as its class files. It knows no tokens and no components, and not how a
+//! table was computed.
+#![tactic(auto)]
+
+ghost use Rattle.std.specs.Prelude.{◌≡◌, ◌≢◌, ℕ, suc, ◌+◌, List, length, flat_map, slice_get, Option, Some};
+ghost use Rattle.cjc_code.specs.declared.insn.JInsn.{JInsn};
+ghost use Rattle.cjc_code.specs.declared.insn.JOp.{JOp as Op};
+ghost use Rattle.cjc_code.specs.declared.insn.JOp.TheVariants as jop;
+ghost use Rattle.cjc_script.specs.declared.value.Value.{Value};
+ghost use Rattle.cjc_ncode.specs.declared.narrow.NInsn.{NInsn};
+ghost use Rattle.cjc_ncode.specs.Written.{Resolution, written, reached, place_in};
+ghost use Rattle.cjc_by_name.specs.Linked.{Method, Linked};
+ghost use Rattle.cjc_by_name.specs.Effects.{Store, Toss, effect};
+ghost use Rattle.cjc_types.specs.declared.state.State.{State as Typed};
+ghost use Rattle.cjc_world.specs.Classes.{Class};
+ghost use Rattle.cjc_ncode.specs.ByLabel.{Named};
+ghost use Rattle.cjc_shrink.specs.Tables.{Point};
+ghost use Rattle.cjc_shrink.specs.Runs.{Rule};
+ghost use Rattle.cjc_table_rules.specs.Analysis.{Analysis, Ascend, IsDecoded, IsSound, IsRead, CatchesAreTold, table_of};
+ghost use Rattle.cjc_table_rules.specs.Supported.{IsPlain};
+
+/// No instruction of a class file but athrow throws what is on the stack.
+pub fn only_athrow_throws()
+    ensures { (l : Linked) (m : Method) (at : ℕ) (locals : List (Option Value)) (store : Store) (op : Op) → op ≢ jop.Throw → (s : List Value) (object : ℕ) → effect l m at locals store op s ≡ Toss object → ⊥ }
+{}
+
+/// What is written for a reached instruction stands in narrow code at the place of its offset, and what is written behind it begins
+/// at the place of the next instruction's offset, whether that is reached or not.
+pub fn written_code_stands_in_order()
+    ensures stands { (r : Resolution) (p : ℕ → ℕ) (insns : List JInsn) (rows : List (Option Typed)) → Ascend insns → (at : ℕ) (i : JInsn) (row : Typed) → slice_get insns at ≡ Some i → slice_get rows at ≡ Some (Some row) → (j : ℕ) (insn : NInsn) → slice_get (written r p i.op) j ≡ Some insn → slice_get (flat_map (λ i. written r p i.op) (reached insns rows)) (place_in r (reached insns rows) i.at + j) ≡ Some insn }
+    ensures behind { (r : Resolution) (insns : List JInsn) (rows : List (Option Typed)) → Ascend insns → (at : ℕ) (i n : JInsn) (row : Typed) → slice_get insns at ≡ Some i → slice_get insns (suc at) ≡ Some n → slice_get rows at ≡ Some (Some row) → place_in r (reached insns rows) n.at ≡ place_in r (reached insns rows) i.at + length (written r (λ o. 0) i.op) }
+{}
+
+/// In a method that was read as the machine by name has it, whose code is written from its least type table, and whose type table
+/// and range table are closed and break no rule, each reached instruction that names nothing keeps its rule: constants,
+/// loads, stores and increases of locals, the stack's instructions, all arithmetic, i2b and i2s, jumps and switches. Handlers
+/// are found there as whole runs ask, where types are told alike.
+pub fn plain_instructions_keep_rules()
+    ensures { (by : Linked) (l : Named) (w : List Class) (a : Analysis) (m : Method) → IsRead a m → IsDecoded (let f = a.found m in f.body) → IsSound w (let r = a.resolution m in r.constant) (a.found m) → CatchesAreTold by l a m → (at : ℕ) (i : JInsn) (p : Point) → slice_get (let f = a.found m in let b = f.body in b.insns) at ≡ Some i → (let tb = table_of l a in tb.point m at ≡ Some p) → IsPlain i.op → Rule by l (table_of l a) m at p i }
+{}
