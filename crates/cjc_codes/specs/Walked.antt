@@ -7,7 +7,7 @@ use Rattle.cjc_capread.specs.declared.tree.ClassInfo.{ClassInfo}
 use Rattle.cjc_capread.specs.declared.tree.ClassDescriptor.{ClassDescriptor}
 use Rattle.cjc_capread.specs.declared.tree.MethodDescriptor.{MethodDescriptor}
 use Rattle.cjc_decode.specs.Decoded.{instruction_of}
-use Rattle.cjc_decode.specs.Shapes.{form_of}
+use Rattle.cjc_decode.specs.Shapes.{form_of, matches_in}
 use Rattle.cjc_sentences.specs.Spots.{Placed}
 use Rattle.cjc_sentences.specs.Classes.{is_own_class}
 use Rattle.cjc_sentences.specs.Codes.{Code, onto}
@@ -40,9 +40,10 @@ abbrev pub cut_of : Cutting → Result (List Code) ℕ
 cut_of (cuts.Whole bodies) = Ok (map code_of bodies)
 cut_of (cuts.Ends at) = Err at
 
--- an instruction has its opcode's shape, and offsets in it have 32 bits
+-- an instruction has its opcode's shape and a table of that, and offsets in it have 32 bits
 pub record IsAt (a : At) : Type 0 where
   pub shape : form_of a.insn.shape ≡ form a.insn.opcode
+  pub matches : a.insn.table.matches ≡ matches_in a.insn.shape
   pub size : a.insn.size ≡ size (instruction_of a.insn)
   pub room : 3 + a.at + a.insn.size < 2 ^ 32
 

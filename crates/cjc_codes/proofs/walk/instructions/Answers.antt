@@ -40,7 +40,7 @@ loop-left-preserved c =
           ∙ ap (λ xs. behind (map placed_of xs) (instructions (c.args.count - length c.loop-left.insns - 1) (c.loop-left.left - i.size) (c.loop-left.at + i.size) (drop i.size rest))) p
           ∙ walk_more (c.args.count - length c.loop-left.insns) c.loop-left.left c.loop-left.at rest c.loop-left.insns a _ c.decode.result
           (omega (arith, h1)) (omega arith) refl front.size (c.decode.ensures.is ∙ ap (λ k. decode (take k rest)) least ∙ ap decode (take_min c.loop-left.left rest)) c.in-Some.is h.walked;
-      kept = subst AllAt (sym p) (each_more IsAt c.loop-left.insns a h.kept (record { shape = front.shape; size = front.size; room = omega (arith, fits, h2) }));
+      kept = subst AllAt (sym p) (each_more IsAt c.loop-left.insns a h.kept (record { shape = front.shape; matches = front.matches; size = front.size; room = omega (arith, fits, h2) }));
     }
 
 pub returns-in-None-clause-is : goal.returns-in-None-clause-is

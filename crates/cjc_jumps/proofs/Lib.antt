@@ -1,0 +1,5 @@
+pub mod Flat
+pub mod Lands
+pub mod Indexed
+pub mod Listed
+pub mod Stands

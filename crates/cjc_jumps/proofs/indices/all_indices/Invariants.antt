@@ -1,0 +1,12 @@
+use Rattle.std.proofs.Common.{◌≡◌, ◌++◌, drop, map}
+use Rattle.std.specs.Prelude.{flat_map}
+use Rattle.cjc_codes.specs.Walked.{code_of}
+use Rattle.cjc_sentences.specs.Instructions.{indices}
+use Rattle.cjc_jumps.specs.Offsets.{AreNear, operand_at}
+use Rattle.cjc_jumps.proofs.indices.all_indices.Given as goal
+
+abbrev pub invariant-loop-body : goal.invariant-loop-body
+invariant-loop-body l = record {
+  put : map operand_at l.all ++ flat_map (λ code. flat_map indices code.instructions) (map code_of (drop l.body-index l.bodies)) ≡ flat_map (λ code. flat_map indices code.instructions) (map code_of l.bodies);
+  near : AreNear l.all;
+}

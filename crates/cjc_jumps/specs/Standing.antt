@@ -1,0 +1,19 @@
+-- What a handler stands on, of codes and a constant pool.
+use Rattle.std.specs.Prelude.{ℕ, ◌+◌, List, ◌++◌, Bool, ◌==◌, ◌||◌, slice_get}
+use Rattle.std.specs.List.{find}
+use Rattle.cjc_capread.specs.declared.tree.Handler.{Handler}
+use Rattle.cjc_capread.specs.declared.tree.PoolEntry.{PoolEntry}
+use Rattle.cjc_sentences.specs.declared.spot.Spot.{Spot}
+use Rattle.cjc_sentences.specs.Spots.{in_info, unless}
+use Rattle.cjc_sentences.specs.Codes.{Code}
+use Rattle.cjc_sentences.specs.Handlers.{in_code, is_classref}
+use Rattle.cjc_sentences.specs.Instructions.{has_start}
+
+-- the range of a handler ends at an instruction or at the end
+abbrev pub range_ends : Code → Handler → Bool
+range_ends code h = has_start code (h.start + h.length) || h.start + h.length == code.end
+
+abbrev pub handler_stands : List Code → List PoolEntry → (at : ℕ) → Handler → List Spot
+handler_stands codes entries at h =
+    in_code at h (find (λ code. has_start code h.start) codes)
+    ++ unless (h.catch_index == 0 || is_classref (slice_get entries h.catch_index)) (in_info 7 (at + 6))
