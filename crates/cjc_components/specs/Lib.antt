@@ -1,0 +1,12 @@
+pub mod Package
+pub mod Methods
+pub mod Class
+pub mod Statics
+pub mod Names
+pub mod Types
+pub mod Descriptor
+pub mod Written
+pub mod Exports
+pub mod Components
+pub mod ExportFile
+pub mod Limits
