@@ -6,3 +6,4 @@ mod Objects
 mod Above
 mod Classes
 mod Subtypes
+mod Names

@@ -3,3 +3,4 @@ pub mod Objects
 pub mod Above
 pub mod Classes
 pub mod Supers
+pub mod Names

@@ -7,7 +7,7 @@
 ghost use Rattle.std.specs.Prelude.{◌≡◌, ◌↔◌, ℕ, true, Bool, List};
 ghost use Rattle.cjc_bytes.specs.declared.fault.MemberId.{MemberId};
 ghost use Rattle.cjc_card.specs.Classes.{Class, is_kind_of};
-ghost use Rattle.cjc_card.specs.Loaded.{Loaded};
+ghost use Rattle.cjc_card.specs.Loaded.{Loaded, Part};
 ghost use Rattle.cjc_bytecode.specs.Renaming.{AreAlike};
 ghost use Rattle.cjc_world.specs.Classes.{Class as WorldClass};
 ghost use Rattle.cjc_card.specs.ByToken.{classes as by_token};
@@ -17,6 +17,7 @@ ghost use Rattle.cjc_lower.specs.Naming.{Naming, field};
 ghost use Rattle.cjc_by_token.specs.Above.{IsAtOrAbove};
 ghost use Rattle.cjc_by_token.specs.Cells.{CellsAgree, HasCells, Order};
 ghost use Rattle.cjc_by_token.specs.Classes.{Names, SaysClasses, memories, tests};
+ghost use Rattle.cjc_by_token.specs.Names.{HasLang, NamesAgree, SaysNames};
 ghost use Rattle.cjc_by_token.specs.Objects.{HasObjects, ObjectsAgree};
 ghost use Rattle.cjc_by_token.specs.Supers.{KindsAgree, SaysKinds};
 
@@ -50,4 +51,11 @@ pub fn classes_are_alike()
 /// stands above it.
 pub fn kinds_are_subtypes()
     ensures { (w : List WorldClass) (n : Naming) → SaysKinds w n → KindsAgree w n }
+{}
+
+/// Names of scripts, of exceptions and of reports stand for the same by the files and on the card, where the names of class
+/// infos and of export files are those of the package that is loaded alone: classes, imported classes that are no
+/// interfaces, subclasses of Throwable, the exceptions of the machine's own, and what a report calls a class.
+pub fn names_agree()
+    ensures { (w : List WorldClass) (n : Naming) (part : Part) → SaysNames w n part → HasLang w → KindsAgree w n → NamesAgree w n }
 {}
