@@ -25,7 +25,7 @@ use Rattle.cjc_export.specs.ExportFile.{export_file}
 use Rattle.cjc_export.specs.declared.tree.ExportTree.{ExportTree}
 use Rattle.cjc_folder.specs.declared.folder.Parts.{Parts}
 use Rattle.cjc_sentences.specs.Consistent.{file_name}
-use Rattle.cjc_folder.specs.Breaks.{break_in, component_breaks, component_place, export_breaks, export_trees, kept_tree, part_breaks, with_component, with_components, with_read}
+use Rattle.cjc_folder.specs.Breaks.{break_in, component_breaks, component_place, export_breaks, export_trees, kept_tree, part_breaks, unless_broken, with_component, with_components, with_read}
 use Rattle.cjc_folder.specs.Reads.{read_component, has_size, tags_in, tags_of, tags_with_size}
 use Rattle.cjc_folder.specs.Working.Heads.{IsForemost}
 
@@ -42,9 +42,17 @@ pub foremost_in_front : (front more bs : List Break) (e : Fault) → bs ≡ fron
 foremost_in_front front more bs e is (inl none) = inl none
 foremost_in_front front more bs e is (inr (b, rest, parts, told)) = inr (b, rest ++ more, is ∙ ap (λ (xs : List Break). xs ++ more) parts, told)
 
--- where nothing in front is broken, it is the foremost of what stands behind
-pub foremost_behind : (front more bs : List Break) (e : Fault) → bs ≡ front ++ more → front ≡ [] → IsForemost more e → IsForemost bs e
-foremost_behind front more bs e is none h = subst (λ (xs : List Break). IsForemost xs e) (sym (is ∙ ap (λ (xs : List Break). xs ++ more) none)) h
+-- it is that of both
+pub foremost_left : (xs ys : List Break) (e : Fault) → IsForemost xs e → IsForemost (unless_broken xs ys) e
+foremost_left xs ys e (inl none) = inl none
+foremost_left xs ys e (inr (b, rest, parts, told)) = inr (b, rest, ap (λ (bs : List Break). unless_broken bs ys) parts, told)
+
+-- where the first has none, it is that of the second
+pub foremost_right : (xs ys : List Break) (e : Fault) → xs ≡ [] → IsForemost ys e → IsForemost (unless_broken xs ys) e
+foremost_right xs ys e none h = subst (λ (bs : List Break). IsForemost (unless_broken bs ys) e) (sym none) h
+
+pub none_broken : (xs ys : List Break) → xs ≡ [] → ys ≡ [] → unless_broken xs ys ≡ []
+none_broken xs ys e f = ap (λ (bs : List Break). unless_broken bs ys) e ∙ f
 
 -- ---- components
 

@@ -13,7 +13,7 @@ use Rattle.cjc_capread.specs.declared.tree.Component.{Component}
 use Rattle.cjc_capread.specs.declared.tree.Component.TheVariants as components
 use Rattle.cjc_export.specs.ExportFile.{export_file}
 use Rattle.cjc_export.specs.declared.tree.ExportTree.{ExportTree}
-use Rattle.cjc_folder.specs.Breaks.{break_in, component_breaks, component_place, export_breaks, file_breaks, file_spot}
+use Rattle.cjc_folder.specs.Breaks.{break_in, component_breaks, component_place, export_breaks, file_breaks, file_spot, part_breaks, unless_broken}
 use Rattle.cjc_folder.specs.declared.folder.Folder.{Folder}
 use Rattle.cjc_folder.specs.Reads.{export_places, has_size, read_component, tags_in, tags_of, tags_with_size}
 use Rattle.cjc_folder.specs.Working.Heads.{IsForemost}
@@ -55,15 +55,6 @@ behind_both file xs ys h g a among = elim (among_either a xs ys among) [
   | inr right ↦ g a right
 ]
 
--- those of the first list are of files up to a number, and those of the second behind it
-abbrev pub AreUpToFile : (file : ℕ) → List Break → Type 0
-AreUpToFile file bs = (a : Break) → Among a bs → a.rank.file ≤ file
-
-pub ordered_both : (file : ℕ) (xs ys : List Break) → AreUpToFile file xs → AreOrdered xs → AreBehind file ys → AreOrdered ys → AreOrdered (xs ++ ys)
-ordered_both file [] ys up o behind p = p
-ordered_both file (x ∷ xs) ys up o behind p =
-    (o.0, behind_both x.rank.file xs ys o.1 (behind_more x.rank.file file ys (up x foremost) behind), ordered_both file xs ys (λ a among. up a (after among)) o.2 behind p)
-
 -- ---- one file
 
 in_one : {A : Type 0} (rule : ℕ) (f : FilePlace) (r : Result A ℕ) (a : Break) → Among a (break_in rule f r) → (rule / 100 ≡ a.rank.family) × (file_number f.key ≡ a.rank.file)
@@ -95,36 +86,28 @@ no_file [] = refl
 no_file (f ∷ places) = refl
 
 -- what holds of the breaks of the export files among these lines, the first of which has this number
-record AreInLines (n size : ℕ) (bs : List Break) : Type 0 where
+record AreInLines (n : ℕ) (bs : List Break) : Type 0 where
   ordered : AreOrdered bs
   behind : AreBehind n bs
-  up_to : AreUpToFile (n + size) bs
 
-empty_lines : (n size : ℕ) → AreInLines n size []
-empty_lines n size = record { ordered = tt; behind = none_behind n; up_to = λ a among. elim among [ ] }
+empty_lines : (n : ℕ) → AreInLines n []
+empty_lines n = record { ordered = tt; behind = none_behind n }
 
 no_lines : (n : ℕ) (files : List (List ℕ)) → export_breaks (export_places n []) files ≡ []
 unfolding export_places
 no_lines n files = no_place files
 
 abbrev LaterLines : (n : ℕ) → List FileLine → Type 0
-LaterLines n lines = (files : List (List ℕ)) → AreInLines (n + 1) (length lines) (export_breaks (export_places (n + 1) lines) files)
+LaterLines n lines = (files : List (List ℕ)) → AreInLines (n + 1) (export_breaks (export_places (n + 1) lines) files)
 
-up_to_append : (file : ℕ) (xs ys : List Break) → AreUpToFile file xs → AreUpToFile file ys → AreUpToFile file (xs ++ ys)
-up_to_append file xs ys h g a among = elim (among_either a xs ys among) [
-  | inl left ↦ h a left
-  | inr right ↦ g a right
-]
-
-passed_by : (n : ℕ) (lines : List FileLine) (files : List (List ℕ)) → LaterLines n lines → AreInLines n (suc (length lines)) (export_breaks (export_places (n + 1) lines) files)
+passed_by : (n : ℕ) (lines : List FileLine) (files : List (List ℕ)) → LaterLines n lines → AreInLines n (export_breaks (export_places (n + 1) lines) files)
 passed_by n lines files later = let h = later files in record {
   ordered = h.ordered;
   behind = behind_more n (n + 1) (export_breaks (export_places (n + 1) lines) files) (omega arith) h.behind;
-  up_to = λ a among. let x = h.up_to a among in omega (arith, x);
 }
 
 one_line : (n : ℕ) (line : FileLine) (lines : List FileLine) (bytes : List ℕ) (files : List (List ℕ)) → LaterLines n lines
-    → AreInLines n (suc (length lines)) (break_in 104 (record { key = keys.Line n; name = line.name }) (read_file export_file bytes) ++ export_breaks (export_places (n + 1) lines) files)
+    → AreInLines n (break_in 104 (record { key = keys.Line n; name = line.name }) (read_file export_file bytes) ++ export_breaks (export_places (n + 1) lines) files)
 one_line n line lines bytes files later =
     let f : FilePlace = record { key = keys.Line n; name = line.name } in
     let r = read_file export_file bytes in
@@ -133,19 +116,18 @@ one_line n line lines bytes files later =
     record {
       ordered = one_then 104 f r rest refl h.behind h.ordered;
       behind = one_behind n 104 f r rest refl (omega arith) (behind_more n (n + 1) rest (omega arith) h.behind);
-      up_to = up_to_append (n + suc (length lines)) (break_in 104 f r) rest (λ a among. let x = in_one 104 f r a among in omega (arith, x.1)) (λ a among. let x = h.up_to a among in omega (arith, x));
     }
 
 in_line : (n : ℕ) (line : FileLine) (lines : List FileLine) (b : Bool) → line.class_file ≡ b → (files : List (List ℕ)) → LaterLines n lines
-    → AreInLines n (suc (length lines)) (export_breaks (export_places n (line ∷ lines)) files)
-in_line n line lines true e files later = subst (λ (ps : List FilePlace). AreInLines n (suc (length lines)) (export_breaks ps files)) (sym (passed n line lines e)) (passed_by n lines files later)
-in_line n line lines false e [] later = subst (AreInLines n (suc (length lines))) (sym (no_file (export_places n (line ∷ lines)))) (empty_lines n (suc (length lines)))
+    → AreInLines n (export_breaks (export_places n (line ∷ lines)) files)
+in_line n line lines true e files later = subst (λ (ps : List FilePlace). AreInLines n (export_breaks ps files)) (sym (passed n line lines e)) (passed_by n lines files later)
+in_line n line lines false e [] later = subst (AreInLines n) (sym (no_file (export_places n (line ∷ lines)))) (empty_lines n)
 in_line n line lines false e (bytes ∷ files) later =
     let split = ap (λ (ps : List FilePlace). export_breaks ps (bytes ∷ files)) (kept_place n line lines e) ∙ export_step (record { key = keys.Line n; name = line.name }) (export_places (n + 1) lines) bytes files in
-    subst (AreInLines n (suc (length lines))) (sym split) (one_line n line lines bytes files later)
+    subst (AreInLines n) (sym split) (one_line n line lines bytes files later)
 
-in_lines : (n : ℕ) (lines : List FileLine) (files : List (List ℕ)) → AreInLines n (length lines) (export_breaks (export_places n lines) files)
-in_lines n [] files = subst (AreInLines n 0) (sym (no_lines n files)) (empty_lines n 0)
+in_lines : (n : ℕ) (lines : List FileLine) (files : List (List ℕ)) → AreInLines n (export_breaks (export_places n lines) files)
+in_lines n [] files = subst (AreInLines n) (sym (no_lines n files)) (empty_lines n)
 in_lines n (line ∷ lines) files = in_line n line lines line.class_file refl files (λ more. in_lines (n + 1) lines more)
 
 -- ---- components
@@ -222,9 +204,16 @@ in_tags low (tag ∷ tags) (bytes ∷ files) h =
 
 -- ---- all files
 
+-- The breaks of export files stand in this order, however many there are.
+pub exports_ordered : (lines : List FileLine) (files : List (List ℕ)) → AreOrdered (export_breaks (export_places 0 lines) files)
+exports_ordered lines files = (in_lines 0 lines files).ordered
+
+unless_ordered : (xs ys : List Break) → AreOrdered xs → AreOrdered ys → AreOrdered (unless_broken xs ys)
+unless_ordered [] ys o p = p
+unless_ordered (x ∷ xs) ys o p = o
+
 -- The breaks of the files of a folder stand in the order of refusals.
-pub files_ordered : (f : Folder) → length f.list.lines < 2 ^ 64 → f.parts.tags ≡ tags_of f.parts.directory → AreOrdered (file_breaks f)
-files_ordered f few tags =
-    let exports = in_lines 0 f.list.lines f.exports in
+pub files_ordered : (f : Folder) → f.parts.tags ≡ tags_of f.parts.directory → AreOrdered (file_breaks f)
+files_ordered f tags =
     let parts = in_tags 0 (1 ∷ 2 ∷ f.parts.tags) (f.parts.header ∷ f.parts.directory ∷ f.parts.others) (omega arith, (omega arith, subst (IsAscending 2) (sym tags) (tags_ascend f.parts.directory))) in
-    ordered_both (2 ^ 64) _ _ (λ a among. let x = exports.up_to a among in omega (arith, x, few)) exports.ordered (behind_more (2 ^ 64) (2 ^ 64 + 0) _ (omega arith) parts.behind) parts.ordered
+    unless_ordered (export_breaks (export_places 0 f.list.lines) f.exports) (part_breaks f.parts) (exports_ordered f.list.lines f.exports) parts.ordered

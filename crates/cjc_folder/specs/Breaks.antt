@@ -47,9 +47,14 @@ component_breaks _ _ = []
 abbrev pub part_breaks : Parts → List Break
 part_breaks p = component_breaks (1 ∷ 2 ∷ p.tags) (p.header ∷ p.directory ∷ p.others)
 
--- the rules that files break by themselves, in the order of refusals
+-- what is broken of the first; where nothing is, of the second
+abbrev pub unless_broken : List Break → List Break → List Break
+unless_broken [] others = others
+unless_broken (b ∷ bs) others = b ∷ bs
+
+-- the rules that files break by themselves: export files, and where none does components
 abbrev pub file_breaks : Folder → List Break
-file_breaks f = export_breaks (export_places 0 f.list.lines) f.exports ++ part_breaks f.parts
+file_breaks f = unless_broken (export_breaks (export_places 0 f.list.lines) f.exports) (part_breaks f.parts)
 
 -- ---- what the files say, where none breaks
 

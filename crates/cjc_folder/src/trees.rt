@@ -148,8 +148,7 @@ pub fn folder_trees(alloc: Global, folder: &Folder) -> Result<FolderTrees, Fault
     ensures read { IfOk result (AreTrees folder.now) }
     ensures refused { IfErr result (IsFirstRefusal (file_breaks folder.now)) }
 {
-    let lines = folder.list.lines.items();
-    let names = export_names(alloc, lines)?;
+    let names = export_names(alloc, folder.list.lines.items())?;
     let exports = export_files(alloc, names.items(), folder.exports.items())?;
     let cap = cap_of(alloc, &folder.parts)?;
     Ok(FolderTrees { exports, cap })

@@ -1,0 +1,7 @@
+//! What `check LIST DIR` reads, and what it answers of that: whether the components of a folder are consistent with each other and
+//! with the export files that a list names. The program's top call is to name it; it knows no class file and no machine.
+#![tactic(auto)]
+
+mod laws;
+
+pub use laws::one_answer;
