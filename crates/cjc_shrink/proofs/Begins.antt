@@ -20,9 +20,10 @@ use Rattle.cjc_by_name.specs.Linked
 use Rattle.cjc_by_name.specs.Effects.{NullPointer, type_of}
 use Rattle.cjc_by_name.specs.Effects as effects
 use Rattle.cjc_by_name.specs.Machine.{Frame, State, with_frames, frame_for_call, heap_of, holder_of, offset, stuck_at, at_callee, at_selected, on_receiver, with_types, after_lookup, after_effect, after_fault}
-use Rattle.cjc_shrink.specs.Relation.{OnBoth, a_reference as both_reference, Kind, Refers, Heap, Agrees, null, object, Stacks, bottom, cell, Locals, shown, Stores}
+use Rattle.cjc_shrink.specs.Relation.{OnBoth, a_reference as both_reference, Kind, Refers, Heap, Agrees, null, object, Stacks, bottom, cell, Locals, shown, IsMadeOf, Stores}
 use Rattle.cjc_shrink.specs.Rows.{narrow_fault}
 use Rattle.cjc_shrink.specs.Calls.{NFrame, NState, NTurn, Frames, first_locals, CallAgrees, begins, fails, IsNarrowed, IsStaticCall, Passes, Selects, IsReceiverCall, IsObjectCall}
+use Rattle.cjc_shrink.proofs.Keeps.{made_there}
 use Rattle.cjc_shrink.proofs.Passed.{passed_plain, passed_length, args_agree, below_agree, enough_words, of_sorts, first, both_long, filled, receiver_first, receiver_off, receiver_below}
 
 -- an array or object has one type on both sides
@@ -118,8 +119,8 @@ static_call by l narrowed may_begin op id named params ks ls next f outer s g ot
 -- what an array or object of a type selects is reached on both sides; null raises
 module _ (by : Linked) (l : Named) (named : Callee) (within : Shape (List ℕ) → Bool) (params ks : List Kind) (next : ℕ) (f : Frame) (outer : List Frame) (s : State) (g : NFrame) (others : List NFrame) (t : NState) (Meets : Move State → NTurn → Type 0) (selected : List ℕ → Option Linked.Callee) (result : Option Sort) (stores : Stores l s.store t.memory)
     (null_raises : (vs ws : List Value) → Meets (after_fault by NullPointer (record f { stack = vs }) outer s) (narrow.failed (by_label l) (narrow_fault NullPointer) (record g { next = next; stack = ws }) others t))
-    (reaches : (k : ℕ) (thing : HeapObject (List ℕ) MemberId) → slice_get (let m = t.memory in m.heap) k ≡ Some thing → within (shape thing) ≡ true → (args words vs ws : List Value) → Stacks (let m = t.memory in m.heap) params args words → Stacks (let m = t.memory in m.heap) ks vs ws
-        → Meets (at_callee by (selected (shape_name (shape thing))) result (Obj k ∷ args) (record f { stack = vs }) outer s) (narrow.reaches (by_label l) (l.reached named (Some (shape thing))) true (Obj k ∷ words) (record g { next = next; stack = ws }) others t)) where
+    (reaches : (k : ℕ) (thing : HeapObject (List ℕ) MemberId) → slice_get (let m = t.memory in m.heap) k ≡ Some thing → within (shape thing) ≡ true → IsMadeOf l (shape thing) → (args words vs ws : List Value) → Stacks (let m = t.memory in m.heap) params args words → Stacks (let m = t.memory in m.heap) ks vs ws
+    → Meets (at_callee by (selected (shape_name (shape thing))) result (Obj k ∷ args) (record f { stack = vs }) outer s) (narrow.reaches (by_label l) (l.reached named (Some (shape thing))) true (Obj k ∷ words) (record g { next = next; stack = ws }) others t)) where
   -- by the type of the receiver
   select_both : (k : ℕ) (thing : HeapObject (List ℕ) MemberId) → slice_get (let m = t.memory in m.heap) k ≡ Some thing → within (shape thing) ≡ true → (args words vs ws : List Value) → Stacks (let m = t.memory in m.heap) params args words → Stacks (let m = t.memory in m.heap) ks vs ws
       → Meets (at_selected by selected (slice_get (heap_of s) k) result (Obj k ∷ args) (record f { stack = vs }) outer s) (narrow.reaches_on (by_label l) named (slice_get (let m = t.memory in m.heap) k) (Obj k ∷ words) (record g { next = next; stack = ws }) others t)
@@ -131,7 +132,7 @@ module _ (by : Linked) (l : Named) (named : Callee) (within : Shape (List ℕ) �
       subst (λ o. Meets (at_selected by selected o result (Obj k ∷ args) waits outer s) narrow_side) (sym (thing_shown l (let m = t.memory in m.heap) k thing stores.heap is))
       (subst (λ name. Meets (at_callee by (selected name) result (Obj k ∷ args) waits outer s) narrow_side) (sym (type_shown l thing))
       (subst (λ o. Meets (at_callee by (selected (shape_name (shape thing))) result (Obj k ∷ args) waits outer s) (narrow.reaches_on (by_label l) named o (Obj k ∷ words) waiting others t)) (sym is)
-      (reaches k thing is passes args words vs ws passed low)))
+      (reaches k thing is passes (made_there l thing (stores.heap_fits k thing is)) args words vs ws passed low)))
 
   -- with the receiver below the arguments
   pub receive_both : (n : ℕ) (vs ws vs' ws' : List Value) → drop n vs ≡ vs' → drop n ws ≡ ws' → Stacks (let m = t.memory in m.heap) params (reverse (take n vs)) (reverse (take n ws)) → Stacks (let m = t.memory in m.heap) (Refers within ∷ ks) vs' ws'
@@ -187,7 +188,7 @@ selected_both by l narrowed may_begin named within params ks next f outer s g ot
     (reach_both by l narrowed may_begin (Refers within ∷ params) ks next f outer s g others t (both_reference plain) result true may h.is_narrowed (cell (object thing is passes) passed) low))
 
 -- a call on a receiver
-pub object_call : (by : Linked) (l : Named) (narrowed : Method → Start NMethod) (may_begin : Method → Type 0) (op : ℕ) (id : MemberId) (named : Callee) (within : Shape (List ℕ) → Bool) (params ks ls : List Kind) (next : ℕ) (f : Frame) (outer : List Frame) (s : State) (g : NFrame) (others : List NFrame) (t : NState) → (call : IsObjectCall by l narrowed (holder_of f) op id named within params) → ((kind : Shape (List ℕ)) (is : within kind ≡ true) → let h = call.selects kind is in may_begin h.callee) → Stores l s.store t.memory → Frames (let m = t.memory in m.heap) (reverse (Refers within ∷ params) ++ ks) ls f g
+pub object_call : (by : Linked) (l : Named) (narrowed : Method → Start NMethod) (may_begin : Method → Type 0) (op : ℕ) (id : MemberId) (named : Callee) (within : Shape (List ℕ) → Bool) (params ks ls : List Kind) (next : ℕ) (f : Frame) (outer : List Frame) (s : State) (g : NFrame) (others : List NFrame) (t : NState) → (call : IsObjectCall by l narrowed (holder_of f) op id named within params) → ((kind : Shape (List ℕ)) (is : within kind ≡ true) (made : IsMadeOf l kind) → let h = call.selects kind is made in may_begin h.callee) → Stores l s.store t.memory → Frames (let m = t.memory in m.heap) (reverse (Refers within ∷ params) ++ ks) ls f g
     → CallAgrees by l narrowed may_begin (Refers within ∷ params) ks next f outer s g others t (after_effect by (effects.Invoke op id) f outer s) (narrow.made (by_label l) (Invoke named) next g others t)
 object_call by l narrowed may_begin op id named within params ks ls next f outer s g others t call may stores agree =
     let types = call.types in
@@ -195,5 +196,5 @@ object_call by l narrowed may_begin op id named within params ks ls next f outer
     let Meets = CallAgrees by l narrowed may_begin (Refers within ∷ params) ks next f outer s g others t in
     to_receiver by l op id named within types params ks next f outer s g others t Meets on agree.stack (λ plain passed rest.
     receive_both by l named within params ks next f outer s g others t Meets on.selected types.result stores (fails NullPointer)
-    (λ k thing is passes. selected_both by l narrowed may_begin named within params ks next f outer s g others t plain on.selected types.result k thing is passes (call.selects (shape thing) passes) (may (shape thing) passes))
+    (λ k thing is passes made. selected_both by l narrowed may_begin named within params ks next f outer s g others t plain on.selected types.result k thing is passes (call.selects (shape thing) passes made) (may (shape thing) passes made))
     (length types.params) f.stack g.stack (drop (length types.params) f.stack) (drop (length types.params) g.stack) refl refl passed rest)

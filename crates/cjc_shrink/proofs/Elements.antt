@@ -27,10 +27,11 @@ use Rattle.cjc_ncode.specs.ByLabel.{Named, by_label}
 use Rattle.cjc_by_name.specs.Linked.{Method, Linked}
 use Rattle.cjc_by_name.specs.Effects.{Store, Moves, AByte, AShort, effect, serves, load_of, cut}
 use Rattle.cjc_by_name.specs.Effects as by_name
-use Rattle.cjc_shrink.specs.Relation.{Kind, Range, Refers, boolean_range, NMemory, Agrees, number, null, object, Stacks, cell, Locals, element_range, ThingFits, numbers, shown, Stores}
+use Rattle.cjc_shrink.specs.Relation.{Kind, Range, Refers, boolean_range, NMemory, Agrees, number, null, object, Stacks, cell, Locals, element_range, ThingFits, numbers, shown, IsMadeOf, Stores}
 use Rattle.cjc_shrink.specs.Rows.{HasRoom, NEffect, Same, RowAgrees, goes, raises}
 use Rattle.cjc_shrink.specs.Elements.{index_range, IsBytes, IsShorts, IsReferences, AreAll, ElementsLie, ItemsPass, KeepsAlike}
 use Rattle.cjc_shrink.specs.Elements as elements
+use Rattle.cjc_shrink.proofs.Keeps.{made_there}
 use Rattle.cjc_shrink.proofs.Plain.{RowIs, as_written}
 use Rattle.cjc_shrink.proofs.Begins.{thing_shown}
 use Rattle.cjc_shrink.proofs.Fields.{holds_word, is_word_held}
@@ -137,30 +138,30 @@ module _ (by : Linked) (l : Named) (m : Method) (room at next : ℕ) (t : Span) 
   load_item (Object class slots) s wide fits = let e = s.is in cc
 
   -- of the array of a reference; null raises
-  pub load_at : (within : Shape (List ℕ) → Bool) → ((kind : Shape (List ℕ)) → within kind ≡ true → ServesKind letter moves kind) → ElementsLie within t → (v w : Value) → Agrees memory.heap (Refers within) v w → Loads (by_name.thing_at store.heap v (λ k. named_load)) (narrow.thing_of memory.heap w (λ k. narrow_load))
+  pub load_at : (within : Shape (List ℕ) → Bool) → ((kind : Shape (List ℕ)) → within kind ≡ true → IsMadeOf l kind → ServesKind letter moves kind) → ElementsLie within t → (v w : Value) → Agrees memory.heap (Refers within) v w → Loads (by_name.thing_at store.heap v (λ k. named_load)) (narrow.thing_of memory.heap w (λ k. narrow_load))
   load_at within all lie _ _ null = raises {fault = by_name.NullPointer}
   load_at within all lie _ _ (object {k = k} thing is passes) =
       subst (λ o. Loads (by_name.with_some o named_load) (narrow.with_some narrow.Stick (slice_get memory.heap k) narrow_load)) (sym (thing_shown l memory.heap k thing stores.heap is))
       (subst (λ o. Loads (named_load (shown l thing)) (narrow.with_some narrow.Stick o narrow_load)) (sym is)
-      (load_item thing (all (shape thing) passes) (λ element e. lie element (ap within (sym e) ∙ passes)) (stores.heap_fits k thing is)))
+      (load_item thing (all (shape thing) passes (made_there l thing (stores.heap_fits k thing is))) (λ element e. lie element (ap within (sym e) ∙ passes)) (stores.heap_fits k thing is)))
 
 module _ (by : Linked) (l : Named) (r : Resolution) (m : Method) (i t : Span) (near : Within i index_range) (within : Shape (List ℕ) → Bool) (lie : ElementsLie within t) where
-  byte_load_is : AreAll IsBytes within → RowIs by l m (jop.ArrayLoad 0x33) (insns.Op 0x25) (Range i ∷ Refers within ∷ []) (Range t ∷ [])
+  byte_load_is : AreAll l IsBytes within → RowIs by l m (jop.ArrayLoad 0x33) (insns.Op 0x25) (Range i ∷ Refers within ∷ []) (Range t ∷ [])
   unfolding effect meaning
   byte_load_is all room at next ks ls _ _ locals words store memory roomy stores held (cell (number {x = x} e h) (cell {v = v} {w = w} {vs = vs} {ws = ws} agree rest)) =
       subst (λ j. Same l (Range t ∷ ks) ls (at + 1) next (by_name.thing_at store.heap v (λ k. named_load by l m room at next t ks ls vs ws locals words store memory roomy stores held rest narrow.Byte AByte x (held_wider i index_range x near h))) (narrow.thing_of memory.heap w (λ k. narrow.numbers_in narrow.Byte (λ element items. narrow.item_at (narrow.Raise Calculations.IndexOutside) items j (λ n x. words_of narrow.Byte (Num x) narrow.Stick (λ new. narrow.onward new room next words memory ws)))))) (sym e)
-      (load_at by l m room at next t ks ls vs ws locals words store memory roomy stores held rest narrow.Byte AByte x (held_wider i index_range x near h) within (λ kind p. bytes_kind kind (all kind p)) lie v w agree)
+      (load_at by l m room at next t ks ls vs ws locals words store memory roomy stores held rest narrow.Byte AByte x (held_wider i index_range x near h) within (λ kind p made. bytes_kind kind (all kind p made)) lie v w agree)
 
-  pub baload : AreAll IsBytes within → RowAgrees by l r m (jop.ArrayLoad 0x33) (Range i ∷ Refers within ∷ []) (Range t ∷ [])
+  pub baload : AreAll l IsBytes within → RowAgrees by l r m (jop.ArrayLoad 0x33) (Range i ∷ Refers within ∷ []) (Range t ∷ [])
   baload all = as_written by l r m (jop.ArrayLoad 0x33) (insns.Op 0x25) (Range i ∷ Refers within ∷ []) (Range t ∷ []) (λ place. refl) (byte_load_is all)
 
-  short_load_is : AreAll IsShorts within → RowIs by l m (jop.ArrayLoad 0x35) (insns.Op 0x26) (Range i ∷ Refers within ∷ []) (Range t ∷ [])
+  short_load_is : AreAll l IsShorts within → RowIs by l m (jop.ArrayLoad 0x35) (insns.Op 0x26) (Range i ∷ Refers within ∷ []) (Range t ∷ [])
   unfolding effect meaning
   short_load_is all room at next ks ls _ _ locals words store memory roomy stores held (cell (number {x = x} e h) (cell {v = v} {w = w} {vs = vs} {ws = ws} agree rest)) =
       subst (λ j. Same l (Range t ∷ ks) ls (at + 1) next (by_name.thing_at store.heap v (λ k. named_load by l m room at next t ks ls vs ws locals words store memory roomy stores held rest narrow.Short AShort x (held_wider i index_range x near h))) (narrow.thing_of memory.heap w (λ k. narrow.numbers_in narrow.Short (λ element items. narrow.item_at (narrow.Raise Calculations.IndexOutside) items j (λ n x. words_of narrow.Short (Num x) narrow.Stick (λ new. narrow.onward new room next words memory ws)))))) (sym e)
-      (load_at by l m room at next t ks ls vs ws locals words store memory roomy stores held rest narrow.Short AShort x (held_wider i index_range x near h) within (λ kind p. shorts_kind kind (all kind p)) lie v w agree)
+      (load_at by l m room at next t ks ls vs ws locals words store memory roomy stores held rest narrow.Short AShort x (held_wider i index_range x near h) within (λ kind p made. shorts_kind kind (all kind p made)) lie v w agree)
 
-  pub saload : AreAll IsShorts within → RowAgrees by l r m (jop.ArrayLoad 0x35) (Range i ∷ Refers within ∷ []) (Range t ∷ [])
+  pub saload : AreAll l IsShorts within → RowAgrees by l r m (jop.ArrayLoad 0x35) (Range i ∷ Refers within ∷ []) (Range t ∷ [])
   saload all = as_written by l r m (jop.ArrayLoad 0x35) (insns.Op 0x26) (Range i ∷ Refers within ∷ []) (Range t ∷ []) (λ place. refl) (short_load_is all)
 
 -- ---- stores of numbers
@@ -238,34 +239,34 @@ module _ (by : Linked) (l : Named) (m : Method) (at next : ℕ) (ks ls : List Ki
   write_item k (Object class slots) is c fits = let e = c.is in cc
 
   -- of the array of a reference; null raises
-  pub write_at : (within : Shape (List ℕ) → Bool) → ((kind : Shape (List ℕ)) → within kind ≡ true → CutsKind letter moves z kind) → (v w : Value) → Agrees memory.heap (Refers within) v w → Writes (by_name.thing_at store.heap v named_write) (narrow.thing_of memory.heap w narrow_write)
+  pub write_at : (within : Shape (List ℕ) → Bool) → ((kind : Shape (List ℕ)) → within kind ≡ true → IsMadeOf l kind → CutsKind letter moves z kind) → (v w : Value) → Agrees memory.heap (Refers within) v w → Writes (by_name.thing_at store.heap v named_write) (narrow.thing_of memory.heap w narrow_write)
   write_at within all _ _ null = raises {fault = by_name.NullPointer}
   write_at within all _ _ (object {k = k} thing is passes) =
       subst (λ o. Writes (by_name.with_some o (named_write k)) (narrow.with_some narrow.Stick (slice_get memory.heap k) (narrow_write k))) (sym (thing_shown l memory.heap k thing stores.heap is))
       (subst (λ o. Writes (named_write k (shown l thing)) (narrow.with_some narrow.Stick o (narrow_write k))) (sym is)
-      (write_item k thing is (all (shape thing) passes) (stores.heap_fits k thing is)))
+      (write_item k thing is (all (shape thing) passes (made_there l thing (stores.heap_fits k thing is))) (stores.heap_fits k thing is)))
 
 module _ (by : Linked) (l : Named) (r : Resolution) (m : Method) (i s : Span) (near : Within i index_range) (within : Shape (List ℕ) → Bool) where
-  byte_store_is : AreAll IsBytes within → (within (OfNumbers Booleans) ≡ true → Within s boolean_range) → RowIs by l m (jop.ArrayStore 0x54) (insns.Op 0x38) (Range s ∷ Range i ∷ Refers within ∷ []) []
+  byte_store_is : AreAll l IsBytes within → (within (OfNumbers Booleans) ≡ true → Within s boolean_range) → RowIs by l m (jop.ArrayStore 0x54) (insns.Op 0x38) (Range s ∷ Range i ∷ Refers within ∷ []) []
   unfolding effect meaning
   byte_store_is all small room at next ks ls _ _ locals words store memory roomy stores held (cell (number {x = z} {y = y} e h) (cell (number {x = x} {y = j} f h') (cell {v = v} {w = w} {vs = vs} {ws = ws} agree rest))) =
       let named_side = by_name.thing_at store.heap v (named_write by l m at next ks ls vs ws locals words store memory stores held rest narrow.Byte AByte x (held_wider i index_range x near h') z) in
       let put : Value → List Value → NEffect = λ v under. Calculations.one_number narrow.Stick under (λ i below. Calculations.one_value narrow.Stick below (λ r rest. narrow.thing_of memory.heap r (λ k. narrow.numbers_in narrow.Byte (λ element items. narrow.item_at (narrow.Raise Calculations.IndexOutside) items i (λ n old. narrow.Go next rest words (narrow.with_thing memory k (Numbers element (slice_set items n (narrow.item_of v))))))))) in
       subst (Same l ks ls (at + 1) next named_side) (sym (byte_taken z y e (Num j ∷ w ∷ ws) put))
       (subst (λ a. Same l ks ls (at + 1) next named_side (put (Num (low_byte z)) (Num a ∷ w ∷ ws))) (sym f)
-      (write_at by l m at next ks ls vs ws locals words store memory stores held rest narrow.Byte AByte x (held_wider i index_range x near h') z within (λ kind p. bytes_cut within s z small h kind p (all kind p)) v w agree))
+      (write_at by l m at next ks ls vs ws locals words store memory stores held rest narrow.Byte AByte x (held_wider i index_range x near h') z within (λ kind p made. bytes_cut within s z small h kind p (all kind p made)) v w agree))
 
-  pub bastore : AreAll IsBytes within → (within (OfNumbers Booleans) ≡ true → Within s boolean_range) → RowAgrees by l r m (jop.ArrayStore 0x54) (Range s ∷ Range i ∷ Refers within ∷ []) []
+  pub bastore : AreAll l IsBytes within → (within (OfNumbers Booleans) ≡ true → Within s boolean_range) → RowAgrees by l r m (jop.ArrayStore 0x54) (Range s ∷ Range i ∷ Refers within ∷ []) []
   bastore all small = as_written by l r m (jop.ArrayStore 0x54) (insns.Op 0x38) (Range s ∷ Range i ∷ Refers within ∷ []) [] (λ place. refl) (byte_store_is all small)
 
-  short_store_is : AreAll IsShorts within → RowIs by l m (jop.ArrayStore 0x56) (insns.Op 0x39) (Range s ∷ Range i ∷ Refers within ∷ []) []
+  short_store_is : AreAll l IsShorts within → RowIs by l m (jop.ArrayStore 0x56) (insns.Op 0x39) (Range s ∷ Range i ∷ Refers within ∷ []) []
   unfolding effect meaning
   short_store_is all room at next ks ls _ _ locals words store memory roomy stores held (cell (number {x = z} {y = y} e h) (cell (number {x = x} {y = j} f h') (cell {v = v} {w = w} {vs = vs} {ws = ws} agree rest))) =
       let named_side = by_name.thing_at store.heap v (named_write by l m at next ks ls vs ws locals words store memory stores held rest narrow.Short AShort x (held_wider i index_range x near h') z) in
       let put : Value → List Value → NEffect = λ v under. Calculations.one_number narrow.Stick under (λ i below. Calculations.one_value narrow.Stick below (λ r rest. narrow.thing_of memory.heap r (λ k. narrow.numbers_in narrow.Short (λ element items. narrow.item_at (narrow.Raise Calculations.IndexOutside) items i (λ n old. narrow.Go next rest words (narrow.with_thing memory k (Numbers element (slice_set items n (narrow.item_of v))))))))) in
       subst (Same l ks ls (at + 1) next named_side) (sym (short_taken z y e (Num j ∷ w ∷ ws) put))
       (subst (λ a. Same l ks ls (at + 1) next named_side (put (Num (low_word z)) (Num a ∷ w ∷ ws))) (sym f)
-      (write_at by l m at next ks ls vs ws locals words store memory stores held rest narrow.Short AShort x (held_wider i index_range x near h') z within (λ kind p. shorts_cut z kind (all kind p)) v w agree))
+      (write_at by l m at next ks ls vs ws locals words store memory stores held rest narrow.Short AShort x (held_wider i index_range x near h') z within (λ kind p made. shorts_cut z kind (all kind p made)) v w agree))
 
-  pub sastore : AreAll IsShorts within → RowAgrees by l r m (jop.ArrayStore 0x56) (Range s ∷ Range i ∷ Refers within ∷ []) []
+  pub sastore : AreAll l IsShorts within → RowAgrees by l r m (jop.ArrayStore 0x56) (Range s ∷ Range i ∷ Refers within ∷ []) []
   sastore all = as_written by l r m (jop.ArrayStore 0x56) (insns.Op 0x39) (Range s ∷ Range i ∷ Refers within ∷ []) [] (λ place. refl) (short_store_is all)

@@ -20,8 +20,9 @@ use Rattle.cjc_ncode.specs.ByLabel.{Named, by_label, classes, naming, shown_slot
 use Rattle.cjc_by_name.specs.Linked.{Method, Instance, Linked}
 use Rattle.cjc_by_name.specs.Effects.{Store, value_in, effect}
 use Rattle.cjc_by_name.specs.Effects as by_name
-use Rattle.cjc_shrink.specs.Relation.{Kind, Refers, Heap, NMemory, Agrees, null, object, Stacks, bottom, cell, left_out, Locals, ThingFits, of_class, shown, Stores}
+use Rattle.cjc_shrink.specs.Relation.{Kind, Refers, Heap, NMemory, Agrees, null, object, Stacks, bottom, cell, left_out, Locals, ThingFits, of_class, shown, IsMadeOf, Stores}
 use Rattle.cjc_shrink.specs.Rows.{HasRoom, NEffect, Same, goes, raises, RowAgrees, HasField, is_word_sort, kind_of, lists, FieldIsThere}
+use Rattle.cjc_shrink.proofs.Keeps.{made_there}
 use Rattle.cjc_shrink.proofs.Plain.{RowIs, as_written}
 use Rattle.cjc_shrink.proofs.Fields.{value_shown, Found, found, cell_agrees, letter_of, get_means, words_here}
 
@@ -80,16 +81,16 @@ module _ (by : Linked) (l : Named) (m : Method) (f : MemberId) (room at next : �
       pushed slots (found l memory.heap f fit (subst (λ fs. lists fs f ≡ true) fields has.has))
 
   -- of the object of a reference; null raises
-  pub read_at : (within : Shape (List ℕ) → Bool) (v w : Value) → ((kind : Shape (List ℕ)) → within kind ≡ true → HasField l f kind) → Agrees memory.heap (Refers within) v w → Reads (by_name.thing_at store.heap v (λ k. by_thing)) (narrow.thing_of memory.heap w (λ k. narrow_thing))
+  pub read_at : (within : Shape (List ℕ) → Bool) (v w : Value) → ((kind : Shape (List ℕ)) → within kind ≡ true → IsMadeOf l kind → HasField l f kind) → Agrees memory.heap (Refers within) v w → Reads (by_name.thing_at store.heap v (λ k. by_thing)) (narrow.thing_of memory.heap w (λ k. narrow_thing))
   read_at within _ _ has null = raises
   read_at within _ _ has (object {k = k} thing is passes) =
       subst (λ o. Reads (by_name.with_some o by_thing) (narrow.with_some narrow.Stick (slice_get memory.heap k) narrow_thing)) (sym (ap (λ heap. slice_get heap k) stores.heap ∙ get_map (shown l) memory.heap k ∙ ap (option_as (shown l)) is))
       (subst (λ o. Reads (by_thing (shown l thing)) (narrow.with_some narrow.Stick o narrow_thing)) (sym is)
-      (read_of thing (has (shape thing) passes) (stores.heap_fits k thing is)))
+      (read_of thing (has (shape thing) passes (made_there l thing (stores.heap_fits k thing is))) (stores.heap_fits k thing is)))
 
 -- ---- the row
 
-get_is : (by : Linked) (l : Named) (m : Method) (named f : MemberId) (near : Bool) (within : Shape (List ℕ) → Bool) → by.field (let id = m.id in id.class) named ≡ Some (Instance f) → is_word_sort (field_sort f.desc) ≡ true → ((kind : Shape (List ℕ)) → within kind ≡ true → HasField l f kind)
+get_is : (by : Linked) (l : Named) (m : Method) (named f : MemberId) (near : Bool) (within : Shape (List ℕ) → Bool) → by.field (let id = m.id in id.class) named ≡ Some (Instance f) → is_word_sort (field_sort f.desc) ≡ true → ((kind : Shape (List ℕ)) → within kind ≡ true → IsMadeOf l kind → HasField l f kind)
     → RowIs by l m (jop.Field false named) (insns.Named (field_access false near (field_sort f.desc)) (pool.Field f)) (Refers within ∷ []) (kind_of l (field_sort f.desc) ∷ [])
 unfolding effect
 get_is by l m named f near within is one has room at next ks ls _ _ locals words store memory roomy stores held (cell {v = v} {w = w} {vs = vs} {ws = ws} agree rest) =

@@ -146,5 +146,5 @@ object_import by l op id named within types params ks ls next f outer s g others
     let Meets = ImportAgrees by l (result_kinds l types.result) ks ls next f outer s g others t in
     to_receiver by l op id named within types params ks next f outer s g others t Meets on agree.stack (λ plain passed rest.
     receive_both by l named within params ks next f outer s g others t Meets on.selected types.result states.stores is_null
-    (λ k thing there passes args words vs ws passed low. is_answered vs ws (selected_abroad by l (RaisesAlike by l (record f { stack = vs }) outer (record g { next = next; stack = ws }) others) id named types params ks ls next f outer s g others t on.selected states agree.locals roomy k thing (call.selects (shape thing) passes) args words vs ws passed low (land_in_frames (alike vs ws))))
+    (λ k thing there passes made args words vs ws passed low. is_answered vs ws (selected_abroad by l (RaisesAlike by l (record f { stack = vs }) outer (record g { next = next; stack = ws }) others) id named types params ks ls next f outer s g others t on.selected states agree.locals roomy k thing (call.selects (shape thing) passes made) args words vs ws passed low (land_in_frames (alike vs ws))))
     n f.stack g.stack (drop n f.stack) (drop n g.stack) refl refl passed rest)

@@ -8,7 +8,7 @@ use Rattle.cjc_bytecode.specs.Effects.{Slot, HeapObject, shape}
 use Rattle.cjc_bytecode.proofs.Natural.{map_last, set_map}
 use Rattle.cjc_ncode.specs.ByLabel.{Named}
 use Rattle.cjc_by_name.specs.Effects.{Store}
-use Rattle.cjc_shrink.specs.Relation.{Kind, Heap, NMemory, Agrees, number, null, object, free, Stacks, bottom, cell, left_out, Locals, no_more, local, unused, CellFits, a_boolean, a_byte, a_short, an_int, a_null, an_object, SlotsFit, no_slots, slot, ThingFits, numbers, references, of_class, HeapFits, shown, Stores}
+use Rattle.cjc_shrink.specs.Relation.{Kind, Heap, NMemory, Agrees, number, null, object, free, Stacks, bottom, cell, left_out, Locals, no_more, local, unused, CellFits, a_boolean, a_byte, a_short, an_int, a_null, an_object, SlotsFit, no_slots, slot, ThingFits, numbers, references, of_class, IsMadeOf, HeapFits, shown, Stores}
 use Rattle.cjc_shrink.specs.Acts.{IsAt, Keeps}
 
 module _ {heap after : Heap} (keeps : Keeps heap after) where
@@ -44,6 +44,12 @@ module _ {heap after : Heap} (keeps : Keeps heap after) where
   thing_kept l (numbers few fits) = numbers few fits
   thing_kept l (references few fits) = references few (λ k d low. cell_kept l (fits k d low))
   thing_kept l (of_class is fits) = of_class is (slots_kept l fits)
+
+-- what is there is of a type of which something may be there
+pub made_there : (l : Named) {heap : Heap} (thing : HeapObject (List ℕ) MemberId) → ThingFits l heap thing → IsMadeOf l (shape thing)
+made_there l _ (numbers few fits) = tt
+made_there l _ (references few fits) = tt
+made_there l _ (of_class is fits) = (_, is)
 
 -- ---- a new array or object
 

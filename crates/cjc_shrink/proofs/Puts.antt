@@ -26,7 +26,7 @@ use Rattle.cjc_ncode.specs.ByLabel.{Named, by_label, classes, naming, put_static
 use Rattle.cjc_by_name.specs.Linked.{Method, Static, Instance, Linked}
 use Rattle.cjc_by_name.specs.Effects.{Store, effect, value_in, values_with, is_same_kind, is_same_field}
 use Rattle.cjc_by_name.specs.Effects as by_name
-use Rattle.cjc_shrink.specs.Relation.{Kind, Refers, Away, Heap, NMemory, Agrees, number, null, object, Stacks, cell, left_out, Locals, CellFits, a_boolean, a_byte, a_short, an_int, a_null, an_object, SlotsFit, no_slots, slot, ThingFits, of_class, shown, Stores}
+use Rattle.cjc_shrink.specs.Relation.{Kind, Refers, Away, Heap, NMemory, Agrees, number, null, object, Stacks, cell, left_out, Locals, CellFits, a_boolean, a_byte, a_short, an_int, a_null, an_object, SlotsFit, no_slots, slot, ThingFits, of_class, shown, IsMadeOf, Stores}
 use Rattle.cjc_shrink.specs.Rows.{NEffect, Same, goes, raises, RowAgrees, HasField, is_word_sort, kind_of, lists, FieldIsThere}
 use Rattle.cjc_shrink.specs.Objects.{class_of}
 use Rattle.cjc_shrink.specs.Cells.{MayBePut, CellIsThere}
@@ -35,7 +35,7 @@ use Rattle.cjc_shrink.proofs.Plain.{RowIs, as_written}
 use Rattle.cjc_shrink.proofs.Divides.{same_word}
 use Rattle.cjc_shrink.proofs.Gets.{heights}
 use Rattle.cjc_shrink.proofs.Fields.{fields_same, desc_told, value_shown, found, cell_agrees, letter_of, words_here}
-use Rattle.cjc_shrink.proofs.Keeps.{stacks_kept, locals_kept, set_keeps, set_stores}
+use Rattle.cjc_shrink.proofs.Keeps.{made_there, stacks_kept, locals_kept, set_keeps, set_stores}
 
 -- ---- what is put
 
@@ -245,14 +245,14 @@ module _ (by : Linked) (l : Named) (m : Method) (f : MemberId) (at next : ℕ) (
       (goes (stacks_kept keeps rest) (locals_kept keeps held) (set_stores l store memory k (Object class slots) new there refl stores new_fits))))))
 
   -- of the object of a reference; null raises
-  pub write_at : (within : Shape (List ℕ) → Bool) (x y : Value) → ((kind : Shape (List ℕ)) → within kind ≡ true → HasField l f kind) → Agrees memory.heap (Refers within) x y → Writes (by_name.thing_at store.heap x by_thing) (narrow.thing_of memory.heap y narrow_thing)
+  pub write_at : (within : Shape (List ℕ) → Bool) (x y : Value) → ((kind : Shape (List ℕ)) → within kind ≡ true → IsMadeOf l kind → HasField l f kind) → Agrees memory.heap (Refers within) x y → Writes (by_name.thing_at store.heap x by_thing) (narrow.thing_of memory.heap y narrow_thing)
   write_at within _ _ has null = raises {fault = by_name.NullPointer}
   write_at within _ _ has (object {k = k} thing is passes) =
       subst (λ o. Writes (by_name.with_some o (by_thing k)) (narrow.with_some narrow.Stick (slice_get memory.heap k) (narrow_thing k))) (sym (ap (λ heap. slice_get heap k) stores.heap ∙ get_map (shown l) memory.heap k ∙ ap (option_as (shown l)) is))
       (subst (λ o. Writes (by_thing k (shown l thing)) (narrow.with_some narrow.Stick o (narrow_thing k))) (sym is)
-      (write_of k thing is (has (shape thing) passes) (stores.heap_fits k thing is)))
+      (write_of k thing is (has (shape thing) passes (made_there l thing (stores.heap_fits k thing is))) (stores.heap_fits k thing is)))
 
-put_is : (by : Linked) (l : Named) (m : Method) (named f : MemberId) (near : Bool) (k : Kind) (within : Shape (List ℕ) → Bool) → by.field (class_of m) named ≡ Some (Instance f) → MayBePut l (field_sort f.desc) k → ((kind : Shape (List ℕ)) → within kind ≡ true → HasField l f kind)
+put_is : (by : Linked) (l : Named) (m : Method) (named f : MemberId) (near : Bool) (k : Kind) (within : Shape (List ℕ) → Bool) → by.field (class_of m) named ≡ Some (Instance f) → MayBePut l (field_sort f.desc) k → ((kind : Shape (List ℕ)) → within kind ≡ true → IsMadeOf l kind → HasField l f kind)
     → RowIs by l m (jop.Field true named) (insns.Named (field_access true near (field_sort f.desc)) (pool.Field f)) (k ∷ Refers within ∷ []) []
 unfolding effect
 put_is by l m named f near _ within is may_be has room at next ks ls _ _ locals words store memory roomy stores held (left_out a rest) = absurd (never_away l (field_sort f.desc) _ may_be)

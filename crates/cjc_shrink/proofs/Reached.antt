@@ -19,7 +19,7 @@ use Rattle.cjc_by_name.specs.Linked
 use Rattle.cjc_by_name.specs.Effects.{Fault, NullPointer}
 use Rattle.cjc_by_name.specs.Effects as by_name
 use Rattle.cjc_by_name.specs.Machine.{Frame, State, frame_for_call, at_callee, after_fault, after_effect, step, room, report, begins as named_begins}
-use Rattle.cjc_shrink.specs.Relation.{OnBoth, Kind, Refers, Stacks}
+use Rattle.cjc_shrink.specs.Relation.{OnBoth, Kind, Refers, Stacks, IsMadeOf}
 use Rattle.cjc_shrink.specs.Rows.{HasRoom, narrow_fault}
 use Rattle.cjc_shrink.specs.Calls.{NFrame, NState, NTurn, CallAgrees, begins, fails, IsStaticCall, IsReceiverCall}
 use Rattle.cjc_shrink.specs.Throws.{nheap}
@@ -189,7 +189,7 @@ module _ (by : Linked) (l : Named) (tb : Table) (may_raise : MayRaise l tb) wher
     record ObjectFacts (m : Method) (at : ℕ) (p : Point) (i : JInsn) (op : ℕ) (id : MemberId) (named : Callee) (within : Shape (List ℕ) → Bool) (types : Signature) (params : List Kind) : Type 0 where
       pub facts : IsCallAt by l tb m at p i op id named (Refers within ∷ params)
       pub call : IsReceiverCall by l (class_of_code m) op id named within types params
-      pub may : (kind : Shape (List ℕ)) → within kind ≡ true → MaySelectOn by l tb m at id named within types params facts.ks p.locals call.selected kind
+      pub may : (kind : Shape (List ℕ)) → within kind ≡ true → IsMadeOf l kind → MaySelectOn by l tb m at id named within types params facts.ks p.locals call.selected kind
 
     object_turn : (i : JInsn) (op : ℕ) (id : MemberId) (named : Callee) (within : Shape (List ℕ) → Bool) (types : Signature) (params : List Kind) (f : Frame) (outer : List Frame) (s : State) (g : NFrame) (others : List NFrame) (t : NState) → slice_get (let n = f.method in n.insns) f.at ≡ Some i → StatesAgree l s t → (stands : Stands tb (nheap t) f g) → Waiting by l tb (nheap t) (tb.results f.method) outer others
         → ObjectFacts f.method f.at stands.point i op id named within types params → Both by l tb (step by (f ∷ outer) s) (narrow.step (by_label l) (g ∷ others) t)
@@ -201,7 +201,7 @@ module _ (by : Linked) (l : Named) (tb : Table) (may_raise : MayRaise l tb) wher
         call_turn i op id named all f outer s g others t same stands waiting facts there
         (to_receiver by l op id named within types params facts.ks (g.at + 1) f outer s g others (with_spent t) (Both by l tb) call (stack_known i op id named all f outer s g others t same stands waiting facts) (λ plain passed rest.
         receive_both by l named within params facts.ks (g.at + 1) f outer s g others (with_spent t) (Both by l tb) call.selected types.result same.stores (fails_both i op id named all f outer s g others t same stands waiting facts NullPointer)
-        (λ k thing there passes args words vs ws passed low. select plain k thing there passes args words vs ws passed low (bundle.may (shape thing) passes))
+        (λ k thing there passes made args words vs ws passed low. select plain k thing there passes args words vs ws passed low (bundle.may (shape thing) passes made))
         n f.stack g.stack (drop n f.stack) (drop n g.stack) refl refl passed rest))
       where
         select : OnBoth params → (k : ℕ) (thing : HeapObject (List ℕ) MemberId) → slice_get (nheap t) k ≡ Some thing → within (shape thing) ≡ true → (args words vs ws : List Value) → Stacks (nheap t) params args words → (let h = bundle.facts in Stacks (nheap t) h.ks vs ws)
@@ -223,7 +223,7 @@ module _ (by : Linked) (l : Named) (tb : Table) (may_raise : MayRaise l tb) wher
             (selected_abroad by l (LandsBoth i op id named all f outer s g others t same stands waiting facts) id named types params facts.ks p.locals (g.at + 1) f outer s g others (with_spent t) call.selected (same' i op id named all f outer s g others t same stands waiting facts) stands.agree.locals (roomy i op id named all f outer s g others t same stands waiting facts (result_kinds l types.result) may) k thing h args words vs ws passed low
             (lands_both i op id named all f outer s g others t same stands waiting facts answered vs ws))
 
-    pub object_rule : (m : Method) (at : ℕ) (p : Point) (i : JInsn) (op : ℕ) (id : MemberId) (named : Callee) (within : Shape (List ℕ) → Bool) (types : Signature) (params : List Kind) → (facts : IsCallAt by l tb m at p i op id named (Refers within ∷ params)) → (call : IsReceiverCall by l (class_of_code m) op id named within types params) → ((kind : Shape (List ℕ)) → within kind ≡ true → MaySelectOn by l tb m at id named within types params facts.ks p.locals call.selected kind) → Rule by l tb m at p i
+    pub object_rule : (m : Method) (at : ℕ) (p : Point) (i : JInsn) (op : ℕ) (id : MemberId) (named : Callee) (within : Shape (List ℕ) → Bool) (types : Signature) (params : List Kind) → (facts : IsCallAt by l tb m at p i op id named (Refers within ∷ params)) → (call : IsReceiverCall by l (class_of_code m) op id named within types params) → ((kind : Shape (List ℕ)) → within kind ≡ true → IsMadeOf l kind → MaySelectOn by l tb m at id named within types params facts.ks p.locals call.selected kind) → Rule by l tb m at p i
     object_rule m at p i op id named within types params facts call may =
         let bundle : ObjectFacts m at p i op id named within types params = record { facts = facts; call = call; may = may } in
         calls (λ f outer s g others t is_method is_at there same stands is_point waiting.

@@ -28,6 +28,7 @@ use Rattle.cjc_shrink.specs.Rows.{HasRoom, NEffect, Same, RowAgrees, goes, raise
 use Rattle.cjc_shrink.specs.Objects.{class_of}
 use Rattle.cjc_shrink.specs.Elements.{index_range, IsReferences, AreAll, ItemsPass, KeepsAlike}
 use Rattle.cjc_shrink.specs.Elements as elements
+use Rattle.cjc_shrink.proofs.Keeps.{made_there}
 use Rattle.cjc_shrink.proofs.Plain.{RowIs, as_written}
 use Rattle.cjc_shrink.proofs.Begins.{thing_shown, type_shown}
 use Rattle.cjc_shrink.proofs.Gets.{heights}
@@ -80,14 +81,14 @@ module _ (by : Linked) (l : Named) (m : Method) (room at next : ℕ) (items : Sh
   load_item (Object class slots) is pass fits = absurd (elim is [ ])
 
   -- of the array of a reference; null raises
-  pub load_at : (within : Shape (List ℕ) → Bool) → AreAll IsReferences within → ItemsPass l within items → (v w : Value) → Agrees memory.heap (Refers within) v w → Loads (by_name.thing_at store.heap v (λ k. named_load)) (narrow.thing_of memory.heap w (λ k. narrow_load))
+  pub load_at : (within : Shape (List ℕ) → Bool) → AreAll l IsReferences within → ItemsPass l within items → (v w : Value) → Agrees memory.heap (Refers within) v w → Loads (by_name.thing_at store.heap v (λ k. named_load)) (narrow.thing_of memory.heap w (λ k. narrow_load))
   load_at within all pass _ _ null = raises {fault = by_name.NullPointer}
   load_at within all pass _ _ (object {k = k} thing is passes) =
       subst (λ o. Loads (by_name.with_some o named_load) (narrow.with_some narrow.Stick (slice_get memory.heap k) narrow_load)) (sym (thing_shown l memory.heap k thing stores.heap is))
       (subst (λ o. Loads (named_load (shown l thing)) (narrow.with_some narrow.Stick o narrow_load)) (sym is)
-      (load_item thing (all (shape thing) passes) (λ class e. pass class (ap within (sym e) ∙ passes)) (stores.heap_fits k thing is)))
+      (load_item thing (all (shape thing) passes (made_there l thing (stores.heap_fits k thing is))) (λ class e. pass class (ap within (sym e) ∙ passes)) (stores.heap_fits k thing is)))
 
-module _ (by : Linked) (l : Named) (r : Resolution) (m : Method) (i : Span) (near : Within i index_range) (within items : Shape (List ℕ) → Bool) (all : AreAll IsReferences within) (pass : ItemsPass l within items) where
+module _ (by : Linked) (l : Named) (r : Resolution) (m : Method) (i : Span) (near : Within i index_range) (within items : Shape (List ℕ) → Bool) (all : AreAll l IsReferences within) (pass : ItemsPass l within items) where
   load_is : RowIs by l m (jop.ArrayLoad 0x32) (insns.Op 0x24) (Range i ∷ Refers within ∷ []) (Refers items ∷ [])
   unfolding effect meaning
   load_is room at next ks ls _ _ locals words store memory roomy stores held (cell (number {x = x} e h) (cell {v = v} {w = w} {vs = vs} {ws = ws} agree rest)) =
@@ -151,14 +152,14 @@ module _ (by : Linked) (l : Named) (m : Method) (at next : ℕ) (values : Shape 
   write_item v w agree k (Object class slots) is array tells fits = absurd (elim array [ ])
 
   -- of the array of a reference; null raises
-  pub write_at : (x y : Value) → Agrees memory.heap (Refers values) x y → (within : Shape (List ℕ) → Bool) → AreAll IsReferences within → KeepsAlike by l m within values → (v w : Value) → Agrees memory.heap (Refers within) v w → Writes (by_name.thing_at store.heap v (named_write x)) (narrow.thing_of memory.heap w (narrow_write y))
+  pub write_at : (x y : Value) → Agrees memory.heap (Refers values) x y → (within : Shape (List ℕ) → Bool) → AreAll l IsReferences within → KeepsAlike by l m within values → (v w : Value) → Agrees memory.heap (Refers within) v w → Writes (by_name.thing_at store.heap v (named_write x)) (narrow.thing_of memory.heap w (narrow_write y))
   write_at x y put within all tells _ _ null = raises {fault = by_name.NullPointer}
   write_at x y put within all tells _ _ (object {k = k} thing is passes) =
       subst (λ o. Writes (by_name.with_some o (named_write x k)) (narrow.with_some narrow.Stick (slice_get memory.heap k) (narrow_write y k))) (sym (thing_shown l memory.heap k thing stores.heap is))
       (subst (λ o. Writes (named_write x k (shown l thing)) (narrow.with_some narrow.Stick o (narrow_write y k))) (sym is)
-      (write_item x y put k thing is (all (shape thing) passes) (λ class e. tells class (ap within (sym e) ∙ passes)) (stores.heap_fits k thing is)))
+      (write_item x y put k thing is (all (shape thing) passes (made_there l thing (stores.heap_fits k thing is))) (λ class e. tells class (ap within (sym e) ∙ passes)) (stores.heap_fits k thing is)))
 
-module _ (by : Linked) (l : Named) (r : Resolution) (m : Method) (i : Span) (near : Within i index_range) (within values : Shape (List ℕ) → Bool) (all : AreAll IsReferences within) (tells : KeepsAlike by l m within values) where
+module _ (by : Linked) (l : Named) (r : Resolution) (m : Method) (i : Span) (near : Within i index_range) (within values : Shape (List ℕ) → Bool) (all : AreAll l IsReferences within) (tells : KeepsAlike by l m within values) where
   store_is : RowIs by l m (jop.ArrayStore 0x53) (insns.Op 0x37) (Refers values ∷ Range i ∷ Refers within ∷ []) []
   unfolding effect meaning
   store_is room at next ks ls _ _ locals words store memory roomy stores held (cell null (cell (number {x = x} {y = j} f h') (cell {v = v} {w = w} {vs = vs} {ws = ws} agree rest))) =

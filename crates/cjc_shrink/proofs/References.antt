@@ -1,5 +1,5 @@
 -- Instructions on references: athrow and arraylength.
-use Rattle.std.proofs.Common.{◌≡◌, ℕ, ◌+◌, ◌≤◌, refl, sym, ap, subst, ◌∙◌, arith, Bool, true, false, List, [], ◌∷◌, length, pos}
+use Rattle.std.proofs.Common.{◌≡◌, ℕ, ◌+◌, ◌≤◌, refl, sym, ap, subst, ◌∙◌, arith, Bool, List, [], ◌∷◌, length, pos}
 use Rattle.std.specs.Prelude.{Option, slice_get}
 use Rattle.std.proofs.lemmas.Int.{ints}
 use Rattle.cjc_bytes.specs.declared.fault.MemberId.{MemberId}
@@ -20,7 +20,9 @@ use Rattle.cjc_ncode.specs.ByLabel.{Named, by_label}
 use Rattle.cjc_by_name.specs.Linked.{Method, Linked}
 use Rattle.cjc_by_name.specs.Effects.{Store, effect}
 use Rattle.cjc_by_name.specs.Effects as by_name
-use Rattle.cjc_shrink.specs.Relation.{Kind, Range, Refers, NMemory, Agrees, number, null, object, Stacks, cell, Locals, ThingFits, numbers, references, shown, Stores}
+use Rattle.cjc_shrink.specs.Relation.{Kind, Range, Refers, NMemory, Agrees, number, null, object, Stacks, cell, Locals, ThingFits, numbers, references, shown, IsMadeOf, Stores}
+use Rattle.cjc_shrink.specs.Elements.{AreArrays}
+use Rattle.cjc_shrink.proofs.Keeps.{made_there}
 use Rattle.cjc_shrink.specs.Rows.{NEffect, Same, RowAgrees, goes, raises, tosses}
 use Rattle.cjc_shrink.proofs.Plain.{RowIs, as_written}
 use Rattle.cjc_shrink.proofs.Begins.{thing_shown}
@@ -47,21 +49,21 @@ module _ (by : Linked) (l : Named) (m : Method) (at next : ℕ) (ks ls : List Ki
   counted : (n : ℕ) → n ≤ 32767 → Counts (by_name.onward by m at locals store (Num (pos n) ∷ vs)) (narrow.Go next (Num (low_word (pos n)) ∷ ws) words memory)
   counted n h = goes (cell (number refl (record { above = omega (arith, ints); below = omega (arith, ints) })) rest) held stores
 
-  count_of : (thing : HeapObject (List ℕ) MemberId) → ((class : List ℕ) → shape thing ≡ OfClass class → false ≡ true) → ThingFits l memory.heap thing → Counts (by_thing (shown l thing)) (narrow_thing thing)
+  count_of : (thing : HeapObject (List ℕ) MemberId) → ((class : List ℕ) → shape thing ≡ OfClass class → ⊥) → ThingFits l memory.heap thing → Counts (by_thing (shown l thing)) (narrow_thing thing)
   unfolding by_label
   count_of (Numbers element items) array (numbers few fits) =
       subst (λ n. Counts (by_name.onward by m at locals store (Num (pos n) ∷ vs)) (narrow.Go next (Num (low_word (pos (length items))) ∷ ws) words memory)) (sym (length_as Num items)) (counted (length items) few)
   count_of (References class items) array (references few fits) = counted (length items) few
-  count_of (Object class slots) array fits = let e = array class refl in cc
+  count_of (Object class slots) array fits = absurd (array class refl)
 
-  pub count_at : (within : Shape (List ℕ) → Bool) → ((class : List ℕ) → within (OfClass class) ≡ false) → (v w : Value) → Agrees memory.heap (Refers within) v w → Counts (by_name.thing_at store.heap v (λ k. by_thing)) (narrow.thing_of memory.heap w (λ k. narrow_thing))
+  pub count_at : (within : Shape (List ℕ) → Bool) → AreArrays l within → (v w : Value) → Agrees memory.heap (Refers within) v w → Counts (by_name.thing_at store.heap v (λ k. by_thing)) (narrow.thing_of memory.heap w (λ k. narrow_thing))
   count_at within arrays _ _ null = raises {fault = by_name.NullPointer}
   count_at within arrays _ _ (object {k = k} thing is passes) =
       subst (λ o. Counts (by_name.with_some o by_thing) (narrow.with_some narrow.Stick (slice_get memory.heap k) narrow_thing)) (sym (thing_shown l memory.heap k thing stores.heap is))
       (subst (λ o. Counts (by_thing (shown l thing)) (narrow.with_some narrow.Stick o narrow_thing)) (sym is)
-      (count_of thing (λ class e. sym (arrays class) ∙ ap within (sym e) ∙ passes) (stores.heap_fits k thing is)))
+      (count_of thing (λ class e. arrays class (ap within (sym e) ∙ passes) (subst (IsMadeOf l) e (made_there l thing (stores.heap_fits k thing is)))) (stores.heap_fits k thing is)))
 
-module _ (by : Linked) (l : Named) (r : Resolution) (m : Method) (within : Shape (List ℕ) → Bool) (arrays : (class : List ℕ) → within (OfClass class) ≡ false) where
+module _ (by : Linked) (l : Named) (r : Resolution) (m : Method) (within : Shape (List ℕ) → Bool) (arrays : AreArrays l within) where
   length_is : RowIs by l m jop.ArrayLength (insns.Op 0x92) (Refers within ∷ []) (Range (span (pos 0) (pos 32767)) ∷ [])
   unfolding effect meaning
   length_is room at next ks ls _ _ locals words store memory roomy stores held (cell {v = v} {w = w} {vs = vs} {ws = ws} agree rest) =

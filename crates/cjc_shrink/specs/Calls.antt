@@ -17,7 +17,7 @@ use Rattle.cjc_by_name.specs.Linked.{Method, Inside, Call, OnClass, OnObject, Li
 use Rattle.cjc_by_name.specs.Linked
 use Rattle.cjc_by_name.specs.Effects.{Fault, place}
 use Rattle.cjc_by_name.specs.Machine.{Frame, State, with_frames, frame_for_call, after_fault, after_throw, offset, holder_of, room}
-use Rattle.cjc_shrink.specs.Relation.{Kind, Range, Refers, Free, Heap, Stacks, Locals}
+use Rattle.cjc_shrink.specs.Relation.{Kind, Range, Refers, Free, Heap, Stacks, Locals, IsMadeOf}
 use Rattle.cjc_shrink.specs.Rows.{narrow_fault}
 
 -- a method under way, the whole state, and what a turn gives, of narrow code
@@ -101,11 +101,11 @@ pub record IsReceiverCall (by : Linked) (l : Named) (holder : List ℕ) (op : �
 pub record IsObjectCall (by : Linked) (l : Named) (narrowed : Method → Start NMethod) (holder : List ℕ) (op : ℕ) (id : MemberId) (named : Callee) (within : Shape (List ℕ) → Bool) (params : List Kind) : Type 0 where
   pub types : Signature
   pub call : IsReceiverCall by l holder op id named within types params
-  pub selects : (kind : Shape (List ℕ)) → within kind ≡ true → (let c = call in Selects l narrowed c.selected named (length (Refers within ∷ params)) kind)
+  pub selects : (kind : Shape (List ℕ)) → within kind ≡ true → IsMadeOf l kind → (let c = call in Selects l narrowed c.selected named (length (Refers within ∷ params)) kind)
 
 -- the methods that a receiver may select
-abbrev pub MaySelect : (l : Named) (narrowed : Method → Start NMethod) (selected : List ℕ → Option Linked.Callee) (named : Callee) (count : ℕ) (within : Shape (List ℕ) → Bool) → ((kind : Shape (List ℕ)) → within kind ≡ true → Selects l narrowed selected named count kind) → Method → Type 0
-MaySelect l narrowed selected named count within selects m = (kind : Shape (List ℕ)) × ((is : within kind ≡ true) × ((let h = selects kind is in h.callee) ≡ m))
+abbrev pub MaySelect : (l : Named) (narrowed : Method → Start NMethod) (selected : List ℕ → Option Linked.Callee) (named : Callee) (count : ℕ) (within : Shape (List ℕ) → Bool) → ((kind : Shape (List ℕ)) → within kind ≡ true → IsMadeOf l kind → Selects l narrowed selected named count kind) → Method → Type 0
+MaySelect l narrowed selected named count within selects m = (kind : Shape (List ℕ)) × ((is : within kind ≡ true) × ((made : IsMadeOf l kind) × ((let h = selects kind is made in h.callee) ≡ m)))
 
 -- ---- handlers
 

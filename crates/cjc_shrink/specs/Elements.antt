@@ -4,7 +4,7 @@ use Rattle.cjc_range.specs.Span.{Span, span, Within}
 use Rattle.cjc_script.specs.Sorts.{Element, Booleans, Bytes, Shorts, Shape, OfClass, OfNumbers, OfReferences, shape_name, shape_named}
 use Rattle.cjc_ncode.specs.ByLabel.{Named}
 use Rattle.cjc_by_name.specs.Linked.{Method, Linked}
-use Rattle.cjc_shrink.specs.Relation.{element_range}
+use Rattle.cjc_shrink.specs.Relation.{element_range, IsMadeOf}
 use Rattle.cjc_shrink.specs.Objects.{class_of}
 
 -- The numbers of an index whose low word finds the same item of an array of at most 32,767: the word of -32,769 is 32,767.
@@ -24,9 +24,13 @@ pub data IsShorts : Shape (List ℕ) → Type 0 where
 pub data IsReferences : Shape (List ℕ) → Type 0 where
   references : (class : List ℕ) → shape_named (shape_name (OfReferences class)) ≡ Some (OfReferences class) → IsReferences (OfReferences class)
 
--- all arrays that pass the test are of such types
-abbrev pub AreAll : (Shape (List ℕ) → Type 0) → (within : Shape (List ℕ) → Bool) → Type 0
-AreAll Is within = (kind : Shape (List ℕ)) → within kind ≡ true → Is kind
+-- all that may be there and passes the test is of such types
+abbrev pub AreAll : Named → (Shape (List ℕ) → Type 0) → (within : Shape (List ℕ) → Bool) → Type 0
+AreAll l Is within = (kind : Shape (List ℕ)) → within kind ≡ true → IsMadeOf l kind → Is kind
+
+-- no object passes the test
+abbrev pub AreArrays : Named → (within : Shape (List ℕ) → Bool) → Type 0
+AreArrays l within = (class : List ℕ) → within (OfClass class) ≡ true → IsMadeOf l (OfClass class) → ⊥
 
 -- the numbers of the elements of each array that passes the test lie in an interval
 abbrev pub ElementsLie : (within : Shape (List ℕ) → Bool) → Span → Type 0

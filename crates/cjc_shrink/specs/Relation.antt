@@ -7,7 +7,7 @@ use Rattle.cjc_range.specs.Span.{Span, span, Holds, Within, byte_range, short_ra
 use Rattle.cjc_script.specs.declared.value.Value.{Value}
 use Rattle.cjc_script.specs.declared.value.Value.TheVariants.{Num, Null, Obj}
 use Rattle.cjc_script.specs.declared.report.Thing.{Thing}
-use Rattle.cjc_script.specs.Sorts.{Element, Booleans, Bytes, Shorts, Ints, Shape, OfClass, Sort, Boolean, Byte, Short, Int, Reference, field_sort}
+use Rattle.cjc_script.specs.Sorts.{Element, Booleans, Bytes, Shorts, Ints, Shape, OfClass, OfNumbers, OfReferences, Sort, Boolean, Byte, Short, Int, Reference, field_sort}
 use Rattle.cjc_bytecode.specs.Effects.{Slot, HeapObject, Numbers, References, Object, Memory, shape}
 use Rattle.cjc_bytecode.specs.Renaming.{keys}
 use Rattle.cjc_bytecode.specs.Machine
@@ -110,6 +110,12 @@ pub data ThingFits (l : Named) (heap : Heap) : HeapObject (List ℕ) MemberId �
   numbers : {element : Element} {items : List ℤ} → length items ≤ 32767 → All (Holds (element_range element)) items → ThingFits l heap (Numbers element items)
   references : {class : List ℕ} {items : List Value} → length items ≤ 32767 → All (CellFits l heap (Reference (OfClass class))) items → ThingFits l heap (References class items)
   of_class : {class : List ℕ} {slots : List (Slot MemberId)} → l.fields class ≡ Some (keys slots) → SlotsFit l heap slots → ThingFits l heap (Object class slots)
+
+-- a type of which something may be there: an array, or a class of which objects are made
+abbrev pub IsMadeOf : Named → Shape (List ℕ) → Type 0
+IsMadeOf l (OfClass class) = (fields : List MemberId) × (l.fields class ≡ Some fields)
+IsMadeOf l (OfNumbers element) = Unit {0}
+IsMadeOf l (OfReferences class) = Unit {0}
 
 -- each array and object
 abbrev pub HeapFits : Named → Heap → Type 0

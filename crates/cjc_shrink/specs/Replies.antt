@@ -11,7 +11,7 @@ use Rattle.cjc_by_name.specs.Linked.{OnClass, Linked}
 use Rattle.cjc_by_name.specs.Linked
 use Rattle.cjc_by_name.specs.Effects.{NullPointer}
 use Rattle.cjc_by_name.specs.Machine.{Frame, State, with_frames, report, after_fault, after_raise}
-use Rattle.cjc_shrink.specs.Relation.{Kind, Heap, Stacks, Locals, Stores}
+use Rattle.cjc_shrink.specs.Relation.{Kind, Heap, Stacks, Locals, IsMadeOf, Stores}
 use Rattle.cjc_shrink.specs.Rows.{kind_of, is_word_sort, narrow_fault}
 use Rattle.cjc_shrink.specs.Calls.{NFrame, NState, NTurn, Passes, IsReceiverCall}
 use Rattle.cjc_shrink.specs.Throws.{nheap, HandleAlike, Raises}
@@ -81,7 +81,7 @@ pub record SelectsImport (by : Linked) (l : Named) (selected : List ℕ → Opti
 -- A call on a receiver, each type of which selects an imported method.
 pub record IsObjectImport (by : Linked) (l : Named) (holder : List ℕ) (op : ℕ) (id : MemberId) (named : Callee) (within : Shape (List ℕ) → Bool) (types : Signature) (params : List Kind) : Type 0 where
   pub call : IsReceiverCall by l holder op id named within types params
-  pub selects : (kind : Shape (List ℕ)) → within kind ≡ true → (let c = call in SelectsImport by l c.selected id named types params kind)
+  pub selects : (kind : Shape (List ℕ)) → within kind ≡ true → IsMadeOf l kind → (let c = call in SelectsImport by l c.selected id named types params kind)
 
 -- ---- what follows
 

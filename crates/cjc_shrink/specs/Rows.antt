@@ -16,7 +16,7 @@ use Rattle.cjc_ncode.specs.ByLabel.{Callee, Named, classes, operation}
 use Rattle.cjc_by_name.specs.Linked.{Method, Instance, Linked}
 use Rattle.cjc_by_name.specs.Effects.{Fault, Arithmetic, NullPointer, IndexOutside, NegativeSize, ClassCast, ArrayStore, Store}
 use Rattle.cjc_by_name.specs.Effects as by_name
-use Rattle.cjc_shrink.specs.Relation.{Kind, Range, Refers, Free, boolean_range, NMemory, Stacks, Locals, Stores}
+use Rattle.cjc_shrink.specs.Relation.{Kind, Range, Refers, Free, boolean_range, NMemory, Stacks, Locals, IsMadeOf, Stores}
 
 -- an exception of the machine's own, as narrow code raises it
 abbrev pub narrow_fault : Fault → Calculations.Fault
@@ -101,10 +101,10 @@ pub record HasField (l : Named) (f : MemberId) (kind : Shape (List ℕ)) : Type 
   pub are : l.fields class ≡ Some fields
   pub has : lists fields f ≡ true
 
--- Code of m names a field whose values are one word; narrow code names it as it is found, and each object that passes the
+-- Code of m names a field whose values are one word; narrow code names it as it is found, and each object that may be there and passes the
 -- test has it.
 pub record FieldIsThere (by : Linked) (l : Named) (r : Resolution) (m : Method) (named : MemberId) (within : Shape (List ℕ) → Bool) : Type 0 where
   pub is_found : by.field (let id = m.id in id.class) named ≡ Some (Instance (r.field named))
   pub type : field_sort (let f = r.field named in f.desc) ≡ field_sort named.desc
   pub one_word : is_word_sort (field_sort named.desc) ≡ true
-  pub has : (kind : Shape (List ℕ)) → within kind ≡ true → HasField l (r.field named) kind
+  pub has : (kind : Shape (List ℕ)) → within kind ≡ true → IsMadeOf l kind → HasField l (r.field named) kind

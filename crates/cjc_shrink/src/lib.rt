@@ -29,10 +29,10 @@ ghost use Rattle.cjc_by_name.specs.Linked.{Method, Linked};
 ghost use Rattle.cjc_by_name.specs.Effects.{Fault, NullPointer, exception_class, Store, place};
 ghost use Rattle.cjc_by_name.specs.Effects as effects;
 ghost use Rattle.cjc_by_name.specs.Machine.{Frame, State, room, holder_of, handler, after_throw, after_effect, begins, step, run};
-ghost use Rattle.cjc_shrink.specs.Relation.{Kind, OnBoth, Range, Refers, boolean_range, Heap, NMemory, Stacks, Locals, AllWider, Stores};
+ghost use Rattle.cjc_shrink.specs.Relation.{Kind, OnBoth, Range, Refers, boolean_range, Heap, NMemory, Stacks, Locals, AllWider, IsMadeOf, Stores};
 ghost use Rattle.cjc_shrink.specs.Rows.{narrow_fault, NEffect, GoesOn, HasRoom, Same, RowAgrees, RowOnLocals, IsNotWritten, FieldIsThere, kind_of};
 ghost use Rattle.cjc_shrink.specs.Objects.{IsMade, IsClassThere, IsTypeThere};
-ghost use Rattle.cjc_shrink.specs.Elements.{index_range, IsBytes, IsShorts, IsReferences, AreAll, ElementsLie, ItemsPass, KeepsAlike};
+ghost use Rattle.cjc_shrink.specs.Elements.{index_range, IsBytes, IsShorts, IsReferences, AreAll, AreArrays, ElementsLie, ItemsPass, KeepsAlike};
 ghost use Rattle.cjc_shrink.specs.Cells.{CellIsThere, IsConstant, MayBePut};
 ghost use Rattle.cjc_shrink.specs.Jumps.{Jumps, JumpAgrees, ReturnAgrees, Results};
 ghost use Rattle.cjc_shrink.specs.Switches.{targets_of, JumpsInTwo, TwoAgree};
@@ -111,19 +111,19 @@ pub fn locals_are_written_alike()
 /// An object is thrown and the elements of an array are counted alike; null raises.
 pub fn references_are_met_alike()
     ensures athrow { (by : Linked) (l : Named) (r : Resolution) (m : Method) (within : Shape (List ℕ) → Bool) → RowAgrees by l r m jop.Throw (Refers within ∷ []) [] }
-    ensures arraylength { (by : Linked) (l : Named) (r : Resolution) (m : Method) (within : Shape (List ℕ) → Bool) → ((class : List ℕ) → within (OfClass class) ≡ false) → RowAgrees by l r m jop.ArrayLength (Refers within ∷ []) (Range (span (pos 0) (pos 32767)) ∷ []) }
+    ensures arraylength { (by : Linked) (l : Named) (r : Resolution) (m : Method) (within : Shape (List ℕ) → Bool) → AreArrays l within → RowAgrees by l r m jop.ArrayLength (Refers within ∷ []) (Range (span (pos 0) (pos 32767)) ∷ []) }
 {}
 
 /// Elements of arrays are read and written alike, at indices whose low words find the same items: null, an index outside and a
 /// reference that the array's class does not have raise. A byte or boolean keeps eight bits of a number and a short sixteen; a
 /// number that is put into an array that may be one of booleans is 0 or 1.
 pub fn elements_are_met_alike()
-    ensures baload { (by : Linked) (l : Named) (r : Resolution) (m : Method) (i t : Span) (within : Shape (List ℕ) → Bool) → Within i index_range → AreAll IsBytes within → ElementsLie within t → RowAgrees by l r m (jop.ArrayLoad 0x33) (Range i ∷ Refers within ∷ []) (Range t ∷ []) }
-    ensures saload { (by : Linked) (l : Named) (r : Resolution) (m : Method) (i t : Span) (within : Shape (List ℕ) → Bool) → Within i index_range → AreAll IsShorts within → ElementsLie within t → RowAgrees by l r m (jop.ArrayLoad 0x35) (Range i ∷ Refers within ∷ []) (Range t ∷ []) }
-    ensures aaload { (by : Linked) (l : Named) (r : Resolution) (m : Method) (i : Span) (within items : Shape (List ℕ) → Bool) → Within i index_range → AreAll IsReferences within → ItemsPass l within items → RowAgrees by l r m (jop.ArrayLoad 0x32) (Range i ∷ Refers within ∷ []) (Refers items ∷ []) }
-    ensures bastore { (by : Linked) (l : Named) (r : Resolution) (m : Method) (i s : Span) (within : Shape (List ℕ) → Bool) → Within i index_range → AreAll IsBytes within → (within (OfNumbers Booleans) ≡ true → Within s boolean_range) → RowAgrees by l r m (jop.ArrayStore 0x54) (Range s ∷ Range i ∷ Refers within ∷ []) [] }
-    ensures sastore { (by : Linked) (l : Named) (r : Resolution) (m : Method) (i s : Span) (within : Shape (List ℕ) → Bool) → Within i index_range → AreAll IsShorts within → RowAgrees by l r m (jop.ArrayStore 0x56) (Range s ∷ Range i ∷ Refers within ∷ []) [] }
-    ensures aastore { (by : Linked) (l : Named) (r : Resolution) (m : Method) (i : Span) (within values : Shape (List ℕ) → Bool) → Within i index_range → AreAll IsReferences within → KeepsAlike by l m within values → RowAgrees by l r m (jop.ArrayStore 0x53) (Refers values ∷ Range i ∷ Refers within ∷ []) [] }
+    ensures baload { (by : Linked) (l : Named) (r : Resolution) (m : Method) (i t : Span) (within : Shape (List ℕ) → Bool) → Within i index_range → AreAll l IsBytes within → ElementsLie within t → RowAgrees by l r m (jop.ArrayLoad 0x33) (Range i ∷ Refers within ∷ []) (Range t ∷ []) }
+    ensures saload { (by : Linked) (l : Named) (r : Resolution) (m : Method) (i t : Span) (within : Shape (List ℕ) → Bool) → Within i index_range → AreAll l IsShorts within → ElementsLie within t → RowAgrees by l r m (jop.ArrayLoad 0x35) (Range i ∷ Refers within ∷ []) (Range t ∷ []) }
+    ensures aaload { (by : Linked) (l : Named) (r : Resolution) (m : Method) (i : Span) (within items : Shape (List ℕ) → Bool) → Within i index_range → AreAll l IsReferences within → ItemsPass l within items → RowAgrees by l r m (jop.ArrayLoad 0x32) (Range i ∷ Refers within ∷ []) (Refers items ∷ []) }
+    ensures bastore { (by : Linked) (l : Named) (r : Resolution) (m : Method) (i s : Span) (within : Shape (List ℕ) → Bool) → Within i index_range → AreAll l IsBytes within → (within (OfNumbers Booleans) ≡ true → Within s boolean_range) → RowAgrees by l r m (jop.ArrayStore 0x54) (Range s ∷ Range i ∷ Refers within ∷ []) [] }
+    ensures sastore { (by : Linked) (l : Named) (r : Resolution) (m : Method) (i s : Span) (within : Shape (List ℕ) → Bool) → Within i index_range → AreAll l IsShorts within → RowAgrees by l r m (jop.ArrayStore 0x56) (Range s ∷ Range i ∷ Refers within ∷ []) [] }
+    ensures aastore { (by : Linked) (l : Named) (r : Resolution) (m : Method) (i : Span) (within values : Shape (List ℕ) → Bool) → Within i index_range → AreAll l IsReferences within → KeepsAlike by l m within values → RowAgrees by l r m (jop.ArrayStore 0x53) (Refers values ∷ Range i ∷ Refers within ∷ []) [] }
 {}
 
 /// A field whose values are one word is read alike, on an object of a class that has it: what both heaps hold under it is
@@ -300,7 +300,7 @@ pub fn whole_runs_agree()
 pub fn calls_keep_rules()
     ensures static_call { (by : Linked) (l : Named) (table : Table) → MayRaise l table → (m : Method) (at : ℕ) (p : Point) (i : JInsn) (op : ℕ) (id : MemberId) (named : Callee) (params : List Kind) → (facts : IsCallAt by l table m at p i op id named params) → (call : IsStaticCall by l table.narrowed (class_of_code m) op id named params) → MayBeCalled table m at params facts.ks p.locals call.callee → Rule by l table m at p i }
     ensures static_import { (by : Linked) (l : Named) (table : Table) → MayRaise l table → IsAnswered by l table → (m : Method) (at : ℕ) (p : Point) (i : JInsn) (op : ℕ) (id event : MemberId) (named : Callee) (types : Signature) (params : List Kind) → (facts : IsCallAt by l table m at p i op id named params) → IsStaticImport by l (class_of_code m) op id event named types params → MayBeAnswered table m at (result_kinds l types.result) facts.ks p.locals → Rule by l table m at p i }
-    ensures object_call { (by : Linked) (l : Named) (table : Table) → MayRaise l table → IsAnswered by l table → (m : Method) (at : ℕ) (p : Point) (i : JInsn) (op : ℕ) (id : MemberId) (named : Callee) (within : Shape (List ℕ) → Bool) (types : Signature) (params : List Kind) → (facts : IsCallAt by l table m at p i op id named (Refers within ∷ params)) → (call : IsReceiverCall by l (class_of_code m) op id named within types params) → ((kind : Shape (List ℕ)) → within kind ≡ true → MaySelectOn by l table m at id named within types params facts.ks p.locals call.selected kind) → Rule by l table m at p i }
+    ensures object_call { (by : Linked) (l : Named) (table : Table) → MayRaise l table → IsAnswered by l table → (m : Method) (at : ℕ) (p : Point) (i : JInsn) (op : ℕ) (id : MemberId) (named : Callee) (within : Shape (List ℕ) → Bool) (types : Signature) (params : List Kind) → (facts : IsCallAt by l table m at p i op id named (Refers within ∷ params)) → (call : IsReceiverCall by l (class_of_code m) op id named within types params) → ((kind : Shape (List ℕ)) → within kind ≡ true → IsMadeOf l kind → MaySelectOn by l table m at id named within types params facts.ks p.locals call.selected kind) → Rule by l table m at p i }
 {}
 
 /// An entry of a script begins as whole runs ask, where one act changes both heaps alike and each method that the entry may stand for
