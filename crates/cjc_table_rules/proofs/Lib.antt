@@ -7,4 +7,6 @@ pub mod Bounded
 pub mod Methods
 pub mod Rows
 pub mod Plain
+pub mod Values
+pub mod Returns
 pub mod Points

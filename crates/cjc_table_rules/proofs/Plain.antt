@@ -206,32 +206,32 @@ module _ (by : Linked) (l : Named) (w : List Class) (a : Analysis) (m : Method) 
   before n = kinds l (take n cells) numbers
 
   module _ (row : IsRow) where
-    typed_here : (op : JOp) → Stands op → IsTypedRow w (let f = a.found m in f.body) op t
+    pub typed_here : (op : JOp) → Stands op → IsTypedRow w (let f = a.found m in f.body) op t
     typed_here op there = is_typed l w (let r = a.resolution m in r.constant) (a.found m) sound at (record { at = offset; op = op }) t there row
 
     own : (op : JOp) → Stands op → All IsWord numbers
     own op there = own_numbers l w (let r = a.resolution m in r.constant) (a.found m) sound at (record { at = offset; op = op }) t x there row ranged
 
-    word : (op : JOp) → Stands op → (k : ℕ) → IsWord (operand numbers k)
+    pub word : (op : JOp) → Stands op → (k : ℕ) → IsWord (operand numbers k)
     word op there k = own_operand numbers k (own op there)
 
-    within : (op : JOp) → Stands op → (rule k : ℕ) (s : Span) → Bounds (let f = a.found m in f.body) op cells rule k s → Within (operand numbers k) s
+    pub within : (op : JOp) → Stands op → (rule k : ℕ) (s : Span) → Bounds (let f = a.found m in f.body) op cells rule k s → Within (operand numbers k) s
     within op there rule k s bounds = lies (a.found m) sound.passes at (record { at = offset; op = op }) t x there row ranged rule k s bounds
 
-    number_at : (op : JOp) → Stands op → (k : ℕ) → k < takes op → ((c : Cell) → accepts w (let f = a.found m in f.body) op k c ≡ is_number c) → typed.operand cells k ≡ Number
+    pub number_at : (op : JOp) → Stands op → (k : ℕ) → k < takes op → ((c : Cell) → accepts w (let f = a.found m in f.body) op k c ≡ is_number c) → typed.operand cells k ≡ Number
     number_at op there k lt is = number_is (typed.operand cells k) (sym (is (typed.operand cells k)) ∙ (let h = typed_here op there in h.operands k lt))
 
-    reference_at : (op : JOp) → Stands op → (k : ℕ) → k < takes op → ((c : Cell) → accepts w (let f = a.found m in f.body) op k c ≡ is_reference c) → (names : List (List ℕ)) × (typed.operand cells k ≡ Refs names)
+    pub reference_at : (op : JOp) → Stands op → (k : ℕ) → k < takes op → ((c : Cell) → accepts w (let f = a.found m in f.body) op k c ≡ is_reference c) → (names : List (List ℕ)) × (typed.operand cells k ≡ Refs names)
     reference_at op there k lt is = reference_is (typed.operand cells k) (sym (is (typed.operand cells k)) ∙ (let h = typed_here op there in h.operands k lt))
 
     -- the operands that are taken
-    one_number : (op : JOp) → Stands op → takes op ≡ 1 → typed.operand cells 0 ≡ Number → Range (operand numbers 0) ∷ [] ≡ kinds l (take (takes op) cells) numbers
+    pub one_number : (op : JOp) → Stands op → takes op ≡ 1 → typed.operand cells 0 ≡ Number → Range (operand numbers 0) ∷ [] ≡ kinds l (take (takes op) cells) numbers
     one_number op there n e = sym (ap (λ k. kinds l (take k cells) numbers) n ∙ ap (λ cs. kinds l cs numbers) (one_taken cells (let h = typed_here op there in let enough = h.there in omega (arith, enough, n)) ∙ ap (λ c. c ∷ []) e))
 
-    two_numbers : (op : JOp) → Stands op → takes op ≡ 2 → typed.operand cells 0 ≡ Number → typed.operand cells 1 ≡ Number → Range (operand numbers 0) ∷ Range (operand numbers 1) ∷ [] ≡ kinds l (take (takes op) cells) numbers
+    pub two_numbers : (op : JOp) → Stands op → takes op ≡ 2 → typed.operand cells 0 ≡ Number → typed.operand cells 1 ≡ Number → Range (operand numbers 0) ∷ Range (operand numbers 1) ∷ [] ≡ kinds l (take (takes op) cells) numbers
     two_numbers op there n e f = sym (ap (λ k. kinds l (take k cells) numbers) n ∙ ap (λ cs. kinds l cs numbers) (two_taken cells (let h = typed_here op there in let enough = h.there in omega (arith, enough, n)) ∙ ap (λ c. c ∷ typed.operand cells 1 ∷ []) e ∙ ap (λ c. Number ∷ c ∷ []) f))
 
-    one_reference : (op : JOp) → Stands op → takes op ≡ 1 → (names : List (List ℕ)) → typed.operand cells 0 ≡ Refs names → Refers (is_one_of l names) ∷ [] ≡ kinds l (take (takes op) cells) numbers
+    pub one_reference : (op : JOp) → Stands op → takes op ≡ 1 → (names : List (List ℕ)) → typed.operand cells 0 ≡ Refs names → Refers (is_one_of l names) ∷ [] ≡ kinds l (take (takes op) cells) numbers
     one_reference op there n names e = sym (ap (λ k. kinds l (take k cells) numbers) n ∙ ap (λ cs. kinds l cs numbers) (one_taken cells (let h = typed_here op there in let enough = h.there in omega (arith, enough, n)) ∙ ap (λ c. c ∷ []) e))
 
     two_references : (op : JOp) → Stands op → takes op ≡ 2 → (names others : List (List ℕ)) → typed.operand cells 0 ≡ Refs names → typed.operand cells 1 ≡ Refs others → Refers (is_one_of l names) ∷ Refers (is_one_of l others) ∷ [] ≡ kinds l (take (takes op) cells) numbers
@@ -251,13 +251,13 @@ module _ (by : Linked) (l : Named) (w : List Class) (a : Analysis) (m : Method) 
 
     -- ---- the stack
 
-    taken_one : (op : JOp) → Stands op → takes op ≡ 1 → kinds l (typed.operand cells 0 ∷ []) numbers ≡ kinds l (take (takes op) cells) numbers
+    pub taken_one : (op : JOp) → Stands op → takes op ≡ 1 → kinds l (typed.operand cells 0 ∷ []) numbers ≡ kinds l (take (takes op) cells) numbers
     taken_one op there n = sym (ap (λ k. kinds l (take k cells) numbers) n ∙ ap (λ cs. kinds l cs numbers) (one_taken cells (let h = typed_here op there in let enough = h.there in omega (arith, enough, n))))
 
-    taken_two : (op : JOp) → Stands op → takes op ≡ 2 → kinds l (typed.operand cells 0 ∷ typed.operand cells 1 ∷ []) numbers ≡ kinds l (take (takes op) cells) numbers
+    pub taken_two : (op : JOp) → Stands op → takes op ≡ 2 → kinds l (typed.operand cells 0 ∷ typed.operand cells 1 ∷ []) numbers ≡ kinds l (take (takes op) cells) numbers
     taken_two op there n = sym (ap (λ k. kinds l (take k cells) numbers) n ∙ ap (λ cs. kinds l cs numbers) (two_taken cells (let h = typed_here op there in let enough = h.there in omega (arith, enough, n))))
 
-    taken_three : (op : JOp) → Stands op → takes op ≡ 3 → kinds l (typed.operand cells 0 ∷ typed.operand cells 1 ∷ typed.operand cells 2 ∷ []) numbers ≡ kinds l (take (takes op) cells) numbers
+    pub taken_three : (op : JOp) → Stands op → takes op ≡ 3 → kinds l (typed.operand cells 0 ∷ typed.operand cells 1 ∷ typed.operand cells 2 ∷ []) numbers ≡ kinds l (take (takes op) cells) numbers
     taken_three op there n = sym (ap (λ k. kinds l (take k cells) numbers) n ∙ ap (λ cs. kinds l cs numbers) (three_taken cells (let h = typed_here op there in let enough = h.there in omega (arith, enough, n))))
 
     taken_four : (op : JOp) → Stands op → takes op ≡ 4 → kinds l (typed.operand cells 0 ∷ typed.operand cells 1 ∷ typed.operand cells 2 ∷ typed.operand cells 3 ∷ []) numbers ≡ kinds l (take (takes op) cells) numbers

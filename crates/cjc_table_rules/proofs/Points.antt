@@ -16,6 +16,7 @@ use Rattle.cjc_table_rules.specs.Analysis.{Analysis, IsDecoded, IsSound, IsRead,
 use Rattle.cjc_table_rules.specs.Supported.{IsPlain}
 use Rattle.cjc_table_rules.proofs.Arrivals.{is_cells}
 use Rattle.cjc_table_rules.proofs.Plain.{keeps}
+use Rattle.cjc_table_rules.proofs.Returns.{plain_return}
 
 -- both rows of a point, the stack of types being no clash
 record IsPointOf (l : Named) (types : Option (Option State)) (ranges : Option (Option RangeState)) (p : Point) : Type 0 where

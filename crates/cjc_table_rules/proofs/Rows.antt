@@ -76,13 +76,13 @@ module _ (by : Linked) (l : Named) (w : List Class) (a : Analysis) (m : Method) 
   abbrev Keeps : Type 0
   Keeps = Rule by l (tb by l w a m read decoded sound) m at (point_of l t x) insn_here
 
-  stack_before : kinds l cells numbers ≡ before ++ rest
+  pub stack_before : kinds l cells numbers ≡ before ++ rest
   stack_before = let h = is_typed l w (let r = a.resolution m in r.constant) (a.found m) sound at insn_here t there row in before_is l (takes op) cells numbers h.there
 
-  stack_after : length given ≡ length new → kinds l (typed.stack_behind op t.locals cells) behind ≡ after ++ rest
+  pub stack_after : length given ≡ length new → kinds l (typed.stack_behind op t.locals cells) behind ≡ after ++ rest
   stack_after same = behind_is l (takes op) given cells new numbers same
 
-  roomy : length given ≡ length new → HasRoom (after ++ rest) m.max_stack (let n = a.narrowed m in let code = n.code in code.max_stack)
+  pub roomy : length given ≡ length new → HasRoom (after ++ rest) m.max_stack (let n = a.narrowed m in let code = n.code in code.max_stack)
   roomy same =
       let h = is_typed l w (let r = a.resolution m in r.constant) (a.found m) sound at insn_here t there row in
       let high = h.room_behind in
@@ -93,10 +93,10 @@ module _ (by : Linked) (l : Named) (w : List Class) (a : Analysis) (m : Method) 
       record { by_name = omega (arith, high, long, parts, max); narrow = omega (arith, high, long, parts, max, narrow_max) }
 
   -- where it leads
-  on : length given ≡ length new → (to : ℕ) → Contains (successors (let f = a.found m in let b = f.body in b.insns) at op) to → GoesTo by l w a m read decoded sound to (after ++ rest) locals_behind
+  pub on : length given ≡ length new → (to : ℕ) → Contains (successors (let f = a.found m in let b = f.body in b.insns) at op) to → GoesTo by l w a m read decoded sound to (after ++ rest) locals_behind
   on same to is = subst (λ ks. GoesTo by l w a m read decoded sound to ks locals_behind) (stack_after same) (leads_on l w (let r = a.resolution m in r.constant) (a.found m) sound at insn_here t x there row ranged to is)
 
-  first_there : (insn : NInsn) (more : List NInsn) → written (a.resolution m) (written_place (tb by l w a m read decoded sound) m) op ≡ insn ∷ more → slice_get (let n = a.narrowed m in let code = n.code in code.insns) (spot (tb by l w a m read decoded sound) m at) ≡ Some insn
+  pub first_there : (insn : NInsn) (more : List NInsn) → written (a.resolution m) (written_place (tb by l w a m read decoded sound) m) op ≡ insn ∷ more → slice_get (let n = a.narrowed m in let code = n.code in code.insns) (spot (tb by l w a m read decoded sound) m at) ≡ Some insn
   first_there insn more is =
       let here : spot (tb by l w a m read decoded sound) m at + 0 ≡ spot (tb by l w a m read decoded sound) m at = omega arith in
       subst (λ k. slice_get (let n = a.narrowed m in let code = n.code in code.insns) k ≡ Some insn) here (written_at by l w a m read decoded sound at insn_here t there row 0 insn (ap (λ is. slice_get is 0) is))
@@ -108,10 +108,10 @@ module _ (by : Linked) (l : Named) (w : List Class) (a : Analysis) (m : Method) 
   place_behind : (n : ℕ) → length (written (a.resolution m) (written_place (tb by l w a m read decoded sound) m) op) ≡ n → at + 1 < length (let f = a.found m in let b = f.body in b.insns) → spot (tb by l w a m read decoded sound) m at + n ≡ spot (tb by l w a m read decoded sound) m (at + 1)
   place_behind n long low = ap (λ k. spot (tb by l w a m read decoded sound) m at + k) (sym long) ∙ next_spot by l w a m read decoded sound at insn_here t there row low
 
-  next_place_is : (n : ℕ) → length (written (a.resolution m) (written_place (tb by l w a m read decoded sound) m) op) ≡ n → goes_on op ≡ true → spot (tb by l w a m read decoded sound) m at + n ≡ spot (tb by l w a m read decoded sound) m (at + 1)
+  pub next_place_is : (n : ℕ) → length (written (a.resolution m) (written_place (tb by l w a m read decoded sound) m) op) ≡ n → goes_on op ≡ true → spot (tb by l w a m read decoded sound) m at + n ≡ spot (tb by l w a m read decoded sound) m (at + 1)
   next_place_is n long goes = place_behind n long (decoded.next at insn_here there goes)
 
-  some_written : (n : ℕ) → length (written (a.resolution m) (written_place (tb by l w a m read decoded sound) m) op) ≡ suc n → 0 < length (written (a.resolution m) (λ o. 0) op)
+  pub some_written : (n : ℕ) → length (written (a.resolution m) (written_place (tb by l w a m read decoded sound) m) op) ≡ suc n → 0 < length (written (a.resolution m) (λ o. 0) op)
   some_written n long = let same = size_fixed (a.resolution m) (written_place (tb by l w a m read decoded sound) m) (λ o. 0) op in omega (arith, same, long)
 
   -- ---- rules

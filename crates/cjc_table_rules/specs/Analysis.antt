@@ -4,10 +4,12 @@ use Rattle.std.specs.List.{Contains}
 use Rattle.cjc_bytes.specs.declared.fault.MemberId.{MemberId}
 use Rattle.cjc_classfile.specs.declared.tree.Catch.{Catch}
 use Rattle.cjc_code.specs.declared.insn.JInsn.{JInsn}
-use Rattle.cjc_script.specs.Sorts.{Shape, OfClass, shape_name, shape_named}
+use Rattle.cjc_script.specs.Sorts.{Shape, OfClass, shape_name, shape_named, result_by}
 use Rattle.cjc_world.specs.Classes.{Class}
+use Rattle.cjc_world.specs.Subtype.{is_subtype}
 use Rattle.cjc_types.specs.declared.state.State.{State}
 use Rattle.cjc_types.specs.Steps.{goes_on, targets}
+use Rattle.cjc_types.specs.Types.{parts}
 use Rattle.cjc_types.specs.Flow.{Body}
 use Rattle.cjc_types.specs.Tables as typed
 use Rattle.cjc_type_laws.specs.Closed.{IsClosedTable}
@@ -20,6 +22,7 @@ use Rattle.cjc_ncode.specs.Written.{Resolution, reached, place_in, narrow_code, 
 use Rattle.cjc_ncode.specs.ByLabel.{Named}
 use Rattle.cjc_by_name.specs.Linked.{Method, Linked}
 use Rattle.cjc_shrink.specs.Relation.{Kind}
+use Rattle.cjc_shrink.specs.Replies.{result_kinds}
 use Rattle.cjc_shrink.specs.Tables.{Table, class_of_code}
 use Rattle.cjc_table_rules.specs.Kinds.{point_at}
 
@@ -90,3 +93,12 @@ pub record CatchesAreTold (by : Linked) (l : Named) (a : Analysis) (m : Method) 
   pub tells : (kind : Shape (List ℕ)) (class : List ℕ) → by.subtype (Some (class_of_code m)) (shape_name kind) class ≡ l.is_of kind (OfClass class)
   pub throwable : (kind : Shape (List ℕ)) → a.may_throw kind ≡ true → l.is_of kind (OfClass (codes "java/lang/Throwable")) ≡ true
   pub named : (c : Catch) (class : List ℕ) → Contains m.catches c → c.class ≡ Some class → shape_named class ≡ Some (OfClass class)
+
+-- What is of a type is told alike by the machine's look-ups and by subtypes of names, and what is below a subtype is below its supertype.
+pub record TypesAreTold (w : List Class) (l : Named) : Type 0 where
+  pub tells : (name : List ℕ) (shape : Shape (List ℕ)) → shape_named name ≡ Some shape → (kind : Shape (List ℕ)) → l.is_of kind shape ≡ is_subtype w (shape_name kind) name
+  pub through : (x y z : List ℕ) → is_subtype w x y ≡ true → is_subtype w y z ≡ true → is_subtype w x z ≡ true
+
+-- The callers of a method are given what its descriptor says.
+abbrev pub IsGiven : Named → Analysis → Method → Type 0
+IsGiven l a m = a.results m ≡ result_kinds l (let f = a.found m in let b = f.body in let p = (parts b.desc).result in result_by p.kind p)
