@@ -7,6 +7,7 @@ use Rattle.cjc_sentences.specs.Complete.{Complete}
 use Rattle.cjc_sentences.specs.ClassRefs.{class_ref_spots, super_spots}
 use Rattle.cjc_sentences.specs.Tables.{table_spots}
 use Rattle.cjc_sentences.specs.Statics.{install_spots}
+use Rattle.cjc_sentences.specs.Exports.{export_spots}
 use Rattle.cjc_sentences.specs.Described.{descriptor_spots}
 
 pub record AreFirst (r : Linked) (c : Complete) (exports : List ExportTree) : Type 0 where
@@ -14,4 +15,5 @@ pub record AreFirst (r : Linked) (c : Complete) (exports : List ExportTree) : Ty
   pub supers : r.supers ≡ first (super_spots c exports)
   pub tables : r.tables ≡ first (table_spots c)
   pub installs : r.installs ≡ first (install_spots c)
+  pub exported : r.exported ≡ first (export_spots c)
   pub descriptor : r.descriptor ≡ first (descriptor_spots c)

@@ -1,5 +1,6 @@
-//! The test of components: what looks classes, methods and types up is made once and handed to the tests of sentences. It needs no
-//! class files.
+//! The test of components: what looks classes, methods and types up is made once and handed to the tests of
+//! sentences. It needs no class files.
 #![tactic(auto)]
 
+mod coded;
 mod linked;

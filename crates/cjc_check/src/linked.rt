@@ -1,4 +1,5 @@
-//! The sentences that look classes, methods and types up: what is kept of these is made here, once, and handed to their tests.
+//! The sentences that look classes, methods and types up: what is kept of these is made here, once, and handed to
+//! their tests.
 
 ghost use Rattle.std.specs.Prelude.{◌≡◌, ℕ, ◌+◌, ◌<◌, ◌^◌, ◌==◌, ◌&&◌, IfOk, length};
 ghost use Rattle.std.specs.List.{list_any};
@@ -17,6 +18,7 @@ ghost use Rattle.cjc_lookup.specs.Parts.{complete_of};
 use cjc_bytes::{NoMemory, Row};
 use cjc_capread::ClassInfo;
 use cjc_export::ExportTree;
+use cjc_exported::export_spot;
 use cjc_links::{
     Tables, class_ref_spot, descriptor_spot, install_spot, leaving_of, super_spot, table_spot,
 };
@@ -26,13 +28,14 @@ use cjc_lookup::{
 use cjc_sentences::Spot;
 use std::alloc::Global;
 
-/// Where 704, 705, 706, 715 and 718 are broken first, each by itself.
+/// Where 704, 705, 706, 715, 717 and 718 are broken first, each by itself.
 #[derive(Clone, Copy)]
 pub(crate) struct Linked {
     pub(crate) class_refs: Option<Spot>,
     pub(crate) supers: Option<Spot>,
     pub(crate) tables: Option<Spot>,
     pub(crate) installs: Option<Spot>,
+    pub(crate) exported: Option<Spot>,
     pub(crate) descriptor: Option<Spot>,
 }
 
@@ -77,6 +80,7 @@ fn by_methods(
         statics,
     };
     let installs = install_spot(&methods);
+    let exported = export_spot(&methods);
     let tables = Tables {
         methods: &methods,
         leaving,
@@ -86,6 +90,7 @@ fn by_methods(
         supers: super_spot(names),
         tables: table_spot(&tables),
         installs,
+        exported,
         descriptor,
     }
 }
@@ -109,7 +114,7 @@ fn by_names(alloc: Global, names: &Names<'_>) -> Result<Linked, NoMemory>
     ))
 }
 
-/// Where 704, 705, 706, 715 and 718 are broken first, each by itself.
+/// Where 704, 705, 706, 715, 717 and 718 are broken first, each by itself.
 pub(crate) fn link_spots(
     alloc: Global,
     parts: &Parts<'_>,
