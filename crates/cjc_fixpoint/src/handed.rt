@@ -22,7 +22,7 @@ pub(crate) fn merged<F: Flow>(
 {
     match row {
         None => Ok(Some(state)),
-        Some(before) => Ok(Some(flow.join(alloc, &before, &state)?)),
+        Some(before) => Ok(Some(flow.join_into(alloc, before, &state)?)),
     }
 }
 

@@ -37,7 +37,7 @@ fn joined<F: Flow>(
 {
     match row {
         None => Ok(state),
-        Some(before) => flow.join(alloc, &before, &state),
+        Some(before) => flow.join_into(alloc, before, &state),
     }
 }
 

@@ -391,7 +391,7 @@ fn frame_has(frame: Option<&Option<Frame>>, at: Where, names: &[&[u8]]) -> bool 
     match frame {
         Some(Some(frame)) => match at {
             Where::Local => is_refs(frame.locals.items().first(), names),
-            Where::Top => is_refs(frame.stack.items().first(), names),
+            Where::Top => is_refs(frame.stack.get(0), names),
         },
         _ => false,
     }

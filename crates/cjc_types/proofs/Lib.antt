@@ -1,3 +1,4 @@
+pub mod Above
 pub mod Among
 pub mod Answering
 pub mod Ascending
@@ -6,6 +7,10 @@ pub mod Filtered
 pub mod Greater
 pub mod Heights
 pub mod Indexing
+pub mod Joining
 pub mod Least
+pub mod Passing
+pub mod Reversed
 pub mod Telling
 pub mod Typed
+pub mod Wrong

@@ -18,11 +18,13 @@ abbrev pub CoverAlike : List JInsn → (bounds : List Bool) → List Catch → T
 CoverAlike insns bounds catches =
     (c : Catch) → Contains catches c → (at : ℕ) (i j : JInsn) → slice_get insns at ≡ Some i → slice_get insns (suc at) ≡ Some j → get_or bounds (suc at) false ≡ false → covers c i.at ≡ covers c j.at
 
+-- whether an instruction leaves all locals as they are
 abbrev pub keeps_locals : JOp → Bool
 keeps_locals (jop.Store refs k) = false
 keeps_locals (jop.Inc k by) = false
 keeps_locals _ = true
 
+-- whether an instruction may go elsewhere than to the next
 abbrev pub jumps : JOp → Bool
 jumps (jop.If opcode target) = true
 jumps (jop.Goto target) = true
@@ -30,6 +32,7 @@ jumps (jop.TableSwitch other low more) = true
 jumps (jop.LookupSwitch other cases) = true
 jumps _ = false
 
+-- by the instructions before a place and at it; at a fixed one nothing is known
 abbrev pub repeats_by : (fixed : Bool) → Option JInsn → Option JInsn → Bool
 repeats_by true before here = false
 repeats_by false None here = false

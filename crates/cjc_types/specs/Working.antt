@@ -1,5 +1,6 @@
 -- What the code and its proofs keep for themselves; a reader of the contracts may pass over it.
 pub mod NameLaws
+pub mod Merging
 pub mod CellLaws
 pub mod StateLaws
 pub mod TypeLaws

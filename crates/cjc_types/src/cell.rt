@@ -1,6 +1,6 @@
 //! What is known of the words of a frame.
 
-ghost use Rattle.std.specs.Prelude.{◌≡◌, ◌≤◌, ◌^◌, IfOk};
+ghost use Rattle.std.specs.Prelude.{◌≡◌, ◌≤◌, ◌^◌, IfOk, IsTrue};
 ghost use Rattle.cjc_types.specs.Cells.{IsCell, cell_rank, joined_cell, refs as refs_cell};
 
 use crate::names;
@@ -42,16 +42,32 @@ pub(crate) fn copied(alloc: Global, cell: &Cell) -> Result<Cell, NoMemory>
     }
 }
 
-/// The least cell above both.
-pub(crate) fn joined(alloc: Global, left: &Cell, right: &Cell) -> Result<Cell, NoMemory>
-    ensures { IfOk result (λ joined. joined ≡ joined_cell left.now right.now) }
+/// The least cell above both, made of the first.
+pub(crate) fn joined(alloc: Global, left: Cell, right: &Cell) -> Result<Cell, NoMemory>
+    requires left { IsCell left }
+    requires right { IsCell right.now }
+    ensures { IfOk result (λ joined. joined ≡ joined_cell left right.now) }
 {
     match (left, right) {
         (Cell::Number, Cell::Number) => Ok(Cell::Number),
         (Cell::Refs(types), Cell::Refs(others)) => {
-            Ok(refs(names::either(alloc, types.items(), others.items())?))
+            Ok(refs(names::either(alloc, types, others.items())?))
         }
         _ => Ok(Cell::Unusable),
+    }
+}
+
+/// Whether to join the other cell changes nothing.
+pub(crate) fn is_above(left: &Cell, right: &Cell) -> bool
+    requires left { IsCell left.now }
+    requires right { IsCell right.now }
+    ensures { IsTrue result → joined_cell left.now right.now ≡ left.now }
+{
+    match (left, right) {
+        (Cell::Number, Cell::Number) => true,
+        (Cell::Refs(types), Cell::Refs(others)) => names::has_all(types.items(), others.items()),
+        (Cell::Unusable, _) => true,
+        _ => false,
     }
 }
 

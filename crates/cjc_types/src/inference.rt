@@ -16,9 +16,9 @@ ghost use Rattle.cjc_classfile.specs.declared.tree.MethodTree.{MethodTree as Cla
 ghost use Rattle.cjc_bytes.specs.declared.fault.Refusal.{Refusal as Told};
 ghost use Rattle.cjc_types.specs.declared.table.TypeTable.{TypeTable as Types};
 
-use crate::cell::Cell;
 use crate::index::index;
 use crate::method::Method;
+use crate::operands::Operands;
 use crate::rules;
 use crate::state::{Stack, State};
 use crate::table::{Frame, TypeTable};
@@ -59,47 +59,45 @@ struct FirstBroken {
 
 /// The first rule that an instruction breaks, where it is reached.
 fn row_rule(
-    alloc: Global,
     world: &World<'_>,
     method: &Method<'_>,
     insn: &JInsn,
     row: &Option<State>,
-) -> Result<Option<u16>, NoMemory>
-    ensures { IfOk result (λ rule. rule ≡ row_rule_of (all_classes world.now) method.now insn.now row.now) }
+) -> Option<u16>
+    ensures { result ≡ row_rule_of (all_classes world.now) method.now insn.now row.now }
 {
     match row {
-        Some(state) => rules::first_rule(alloc, world, method, &insn.op, state),
-        None => Ok(None),
+        Some(state) => rules::first_rule(world, method, &insn.op, state),
+        None => None,
     }
 }
 
 /// The first rule that a method breaks.
 fn first_broken(
-    alloc: Global,
     world: &World<'_>,
     method: &Method<'_>,
     insns: &[JInsn],
     rows: &[Option<State>],
-) -> Result<Option<FirstBroken>, NoMemory>
+) -> Option<FirstBroken>
     requires { length rows.now ≡ length insns.now }
-    ensures first { IfOk result (λ first. first ≡ first_from (all_classes world.now) method.now 0 insns.now rows.now) }
-    ensures within { IfOk result (λ first. IfSome first (λ f. f.place < length insns.now)) }
+    ensures first { result ≡ first_from (all_classes world.now) method.now 0 insns.now rows.now }
+    ensures within { IfSome result (λ f. f.place < length insns.now) }
 {
     for place in 0..insns.len() {
-        if let Some(rule) = row_rule(alloc, world, method, &insns[place], &rows[place])? {
-            return Ok(Some(FirstBroken { place, rule }));
+        if let Some(rule) = row_rule(world, method, &insns[place], &rows[place]) {
+            return Some(FirstBroken { place, rule });
         }
     }
-    Ok(None)
+    None
 }
 
 /// The cells of a stack; of a clash none.
-fn cells_of(alloc: Global, stack: Stack) -> Row<Cell>
+fn cells_of(alloc: Global, stack: Stack) -> Operands
     ensures { result ≡ cells_of_stack stack }
 {
     match stack {
         Stack::Cells(cells) => cells,
-        Stack::Clash => Row::new(alloc),
+        Stack::Clash => Operands::new(alloc),
     }
 }
 
@@ -168,7 +166,7 @@ fn judged(
     requires { IsLeastTable body.now rows.items }
     ensures { Answers (all_classes world.now) body.now result }
 {
-    let first = first_broken(alloc, world, body, body.insns, &rows)?;
+    let first = first_broken(world, body, body.insns, &rows);
     match first {
         Some(first) => {
             let offset = body.insns[first.place].at;

@@ -1,12 +1,13 @@
 //! A method as a dataflow problem, whose places are its instructions.
 
-ghost use Rattle.std.specs.Prelude.{◌≡◌, ◌<◌, ◌≤◌, ◌+◌, ◌^◌, [], ◌∷◌, ◌++◌, map, filter_map, length, All, ℕ, None, get_or, option_to_list, IfOk, OnOk};
-ghost use Rattle.cjc_types.specs.Cells.{IsCell};
-ghost use Rattle.cjc_types.specs.Flow.{Body, arguments as arguments_of, entry as entry_of, place_at as place_by, next_place as next_by, successors as successors_of, edge, covers as covers_offset, caught_type as type_caught, caught as caught_by, handler_edge as handler_edge_of, insn_edges as insn_edges_of, place_edges, type_flow};
-ghost use Rattle.cjc_types.specs.Index.{IsIndex};
+ghost use Rattle.std.specs.Prelude.{◌≡◌, ◌<◌, ◌≤◌, ◌+◌, ◌^◌, [], ◌∷◌, ◌++◌, map, filter_map, length, slice_get, option_to_list, IfOk, OnOk};
+ghost use Rattle.cjc_types.specs.Flow.{arguments as arguments_of, entry as entry_of, place_at as place_by, next_place as next_by, successors as successors_of, edge, covers as covers_offset, caught_type as type_caught, caught as caught_by, handler_edge as handler_edge_of, insn_edges as insn_edges_of, place_edges as edges_of_place};
+ghost use Rattle.std.specs.List.{list_any};
+ghost use Rattle.cjc_types.specs.Working.Onward.{begins_at, gone_on, may_lead as may_lead_by};
 ghost use Rattle.cjc_types.specs.Types.{parts, value_of};
 
 use crate::cell::Cell;
+use crate::operands::Operands;
 use crate::state::{self, Stack, State};
 use crate::{names, steps, types};
 use cjc_bytes::{Bytes, NoMemory, Row, is_static};
@@ -60,11 +61,23 @@ fn covers(catch: &Catch, offset: u32) -> bool
     u32::from(catch.start) <= offset && offset < u32::from(catch.end)
 }
 
+/// Whether a handler begins at an offset.
+fn begins(catches: &[Catch], offset: u32) -> bool
+    ensures { result ≡ list_any (begins_at offset) catches.now }
+{
+    for catch in catches {
+        if u32::from(catch.target) == offset {
+            return true;
+        }
+    }
+    false
+}
+
 /// The state in which a handler is entered.
 fn caught(alloc: Global, catch: &Catch, before: &State) -> Result<State, NoMemory>
     ensures { IfOk result (λ caught. caught ≡ caught_by catch.now before.now) }
 {
-    let mut stack = Row::new(alloc);
+    let mut stack = Operands::new(alloc);
     let types = names::one_name(alloc, caught_type(&catch.class))?;
     stack.push(Cell::Refs(types))?;
     Ok(State {
@@ -98,6 +111,16 @@ fn put_some<T: Drop>(row: &mut Row<T>, item: Option<T>) -> Result<(), NoMemory>
         Some(item) => row.push(item),
         None => Ok(()),
     }
+}
+
+/// Puts edges at the end.
+fn put_edges(edges: &mut Row<Edge<State>>, more: Row<Edge<State>>) -> Result<(), NoMemory>
+    ensures { OnOk result (edges.new ≡ edges.old ++ more) }
+{
+    for edge in more.into_vec() {
+        edges.push(edge)?;
+    }
+    Ok(())
 }
 
 /// Puts what values of the parameters are at the end.
@@ -208,22 +231,71 @@ impl<'a> Method<'a> {
         Ok(())
     }
 
-    /// What an instruction hands on.
+    /// What an instruction hands on. The state is not used again: what goes to handlers is copied of it before it is
+    /// changed in place.
     fn insn_edges(
         &self,
         alloc: Global,
         at: u32,
         insn: &JInsn,
-        before: &State,
+        before: State,
     ) -> Result<Row<Edge<State>>, NoMemory>
         requires { at < length self.now.insns }
-        ensures { IfOk result (λ edges. edges ≡ insn_edges_of self.now at insn.now before.now) }
+        ensures { IfOk result (λ edges. edges ≡ insn_edges_of self.now at insn.now before) }
     {
+        let mut handled = Row::new(alloc);
+        self.put_handlers(alloc, &mut handled, insn.at, &before)?;
         let places = self.successors(alloc, at, &insn.op)?;
         let after = steps::after(alloc, &insn.op, before)?;
         let mut edges = edges_to(alloc, after, places.items())?;
-        self.put_handlers(alloc, &mut edges, insn.at, before)?;
+        put_edges(&mut edges, handled)?;
         Ok(edges)
+    }
+
+    /// What a place hands on.
+    fn place_edges(
+        &self,
+        alloc: Global,
+        at: u32,
+        before: State,
+    ) -> Result<Row<Edge<State>>, NoMemory>
+        ensures { IfOk result (λ edges. edges ≡ edges_of_place self.now at (slice_get self.now.insns at) before) }
+    {
+        match self.insns.get(at as usize) {
+            Some(insn) => self.insn_edges(alloc, at, insn, before),
+            None => Ok(Row::new(alloc)),
+        }
+    }
+
+    /// Whether a jump of an instruction or some handler may lead to the place behind.
+    fn may_lead(&self, at: u32) -> bool
+        ensures { result ≡ may_lead_by self.now.catches (slice_get self.now.insns at) (slice_get self.now.insns (at + 1)) }
+    {
+        let here = at as usize;
+        match (self.insns.get(here), self.insns.get(here + 1)) {
+            (Some(insn), Some(next)) => steps::jumps(&insn.op) || begins(self.catches, next.at),
+            _ => false,
+        }
+    }
+
+    /// What an instruction hands to the next, where no jump and no handler leads there.
+    pub(crate) fn go_on(
+        &self,
+        alloc: Global,
+        at: u32,
+        before: State,
+    ) -> Result<Option<State>, NoMemory>
+        requires { at < 4294967295 }
+        ensures { IfOk result (λ next. next ≡ gone_on self.now at before) }
+    {
+        if at as usize + 1 >= self.insns.len() {
+            return Ok(None);
+        }
+        let op = &self.insns[at as usize].op;
+        if !steps::goes_on(op) {
+            return Ok(None);
+        }
+        Ok(Some(steps::after(alloc, op, before)?))
     }
 }
 
@@ -242,7 +314,15 @@ impl Flow for Method<'_> {
     }
 
     fn join(&self, alloc: Global, left: &State, right: &State) -> Result<State, NoMemory> {
+        state::joined(alloc, self.max_locals, state::copied(alloc, left)?, right)
+    }
+
+    fn join_into(&self, alloc: Global, left: State, right: &State) -> Result<State, NoMemory> {
         state::joined(alloc, self.max_locals, left, right)
+    }
+
+    fn is_above(&self, row: &State, state: &State) -> bool {
+        state::is_above(self.max_locals, row, state)
     }
 
     fn transfer(
@@ -251,10 +331,11 @@ impl Flow for Method<'_> {
         at: u32,
         before: &State,
     ) -> Result<Row<Edge<State>>, NoMemory> {
-        match self.insns.get(at as usize) {
-            Some(insn) => self.insn_edges(alloc, at, insn, before),
-            None => Ok(Row::new(alloc)),
-        }
+        self.place_edges(alloc, at, state::copied(alloc, before)?)
+    }
+
+    fn step(&self, alloc: Global, at: u32, before: State) -> Result<Row<Edge<State>>, NoMemory> {
+        self.place_edges(alloc, at, before)
     }
 
     fn entry(&self, alloc: Global) -> Result<State, NoMemory> {
@@ -264,7 +345,7 @@ impl Flow for Method<'_> {
         }
         locals.truncate(self.max_locals as usize);
         Ok(State {
-            stack: Stack::Cells(Row::new(alloc)),
+            stack: Stack::Cells(Operands::new(alloc)),
             locals: Row::of(locals),
         })
     }
@@ -293,6 +374,9 @@ impl Repeating for Method<'_> {
     }
 
     fn pass(&self, alloc: Global, at: u32, before: State) -> Result<Option<State>, NoMemory> {
-        moved_on(alloc, self, at, Some(before))
+        if self.may_lead(at) {
+            return moved_on(alloc, self, at, Some(before));
+        }
+        self.go_on(alloc, at, before)
     }
 }

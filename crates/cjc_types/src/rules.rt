@@ -1,6 +1,6 @@
 //! Rules 501, 502 and 503 over what is known before an instruction.
 
-ghost use Rattle.std.specs.Prelude.{◌≡◌, ◌+◌, ◌<◌, ◌≤◌, ◌||◌, length, if◌then◌else◌, IfOk};
+ghost use Rattle.std.specs.Prelude.{◌≡◌, ◌+◌, ◌<◌, ◌≤◌, ◌||◌, List, length, if◌then◌else◌};
 ghost use Rattle.std.specs.List.{list_all};
 ghost use Rattle.cjc_world.specs.Classes.{all_classes};
 ghost use Rattle.cjc_world.specs.Subtype.{is_subtype, starts};
@@ -8,15 +8,16 @@ ghost use Rattle.cjc_world.specs.Working.Known.{class_of};
 ghost use Rattle.cjc_types.specs.Steps.{operand};
 ghost use Rattle.cjc_types.specs.Types.{parts};
 ghost use Rattle.cjc_types.specs.Rules.{is_number as is_number_cell, is_reference as is_reference_cell, all_types, is_of as is_of_class, is_value as is_value_by, is_array_by as is_array_of, is_array_for as is_array_loaded, names_private as names_private_method, is_private_in, is_super_call as is_called_by_super, receiver_class as class_of_receiver, is_argument as is_argument_at, tests_references as tests_references_by, is_load_operand as is_operand_of_load, is_store_operand as is_operand_of_store, is_field_operand as is_operand_of_field, accepts as accepts_cell, has_wrong, has_wrong_local as is_local_wrong, returns as returns_kind, is_wrong_return as is_return_wrong, is_wrong as is_stack_wrong, is_off as is_stack_off, first_rule as first_broken};
+ghost use Rattle.cjc_types.specs.declared.cell.Cell.{Cell as Word};
 
 use crate::cell::Cell;
 use crate::method::Method;
+use crate::operands::Operands;
 use crate::state::{Stack, State};
 use crate::{steps, types};
-use cjc_bytes::{Bytes, Kind, MemberId, NoMemory, is_private};
+use cjc_bytes::{Bytes, Kind, MemberId, is_private};
 use cjc_code::JOp;
 use cjc_world::{Found, Known, World};
-use std::alloc::Global;
 
 fn is_number(cell: &Cell) -> bool
     ensures { result ≡ is_number_cell cell.now }
@@ -310,13 +311,18 @@ fn has_wrong_operand(
     method: &Method<'_>,
     op: &JOp,
     count: usize,
-    stack: &[Cell],
+    stack: &Operands,
 ) -> bool
     ensures { result ≡ has_wrong (all_classes world.now) method.now op.now count 0 stack.now }
 {
-    for (k, cell) in stack.iter().enumerate() {
-        if k < count && !accepts(world, method, op, k, cell) {
-            return true;
+    for k in 0..count {
+        match stack.get(k) {
+            Some(cell) => {
+                if !accepts(world, method, op, k, cell) {
+                    return true;
+                }
+            }
+            None => return false,
         }
     }
     false
@@ -368,7 +374,7 @@ fn is_wrong(
     method: &Method<'_>,
     op: &JOp,
     locals: &[Cell],
-    stack: &[Cell],
+    stack: &Operands,
 ) -> bool
     ensures { result ≡ is_stack_wrong (all_classes world.now) method.now op.now locals.now stack.now }
 {
@@ -377,45 +383,35 @@ fn is_wrong(
         || is_wrong_return(method, op)
 }
 
-/// Whether rule 503 is broken.
-fn is_off(
-    alloc: Global,
-    method: &Method<'_>,
-    op: &JOp,
-    locals: &[Cell],
-    stack: &[Cell],
-) -> Result<bool, NoMemory>
-    ensures { IfOk result (λ is. is ≡ is_stack_off method.now op.now locals.now stack.now) }
+/// Whether rule 503 is broken. Only heights are asked.
+fn is_off(method: &Method<'_>, op: &JOp, height: usize) -> bool
+    ensures { (locals stack : List Word) → height ≡ length stack → result ≡ is_stack_off method.now op.now locals stack }
 {
     let max_stack = method.max_stack as usize;
-    if stack.len() < steps::takes(op) || max_stack < stack.len() {
-        return Ok(true);
-    }
-    let behind = steps::behind(alloc, op, locals, stack)?;
-    Ok(max_stack < behind.items().len())
+    let taken = steps::takes(op);
+    height < taken || max_stack < height || max_stack < height - taken + steps::gives_count(op)
 }
 
 /// The first rule that the state before an instruction breaks.
 #[tactic(auto, unfolding(crate::specs::Rules::first_rule))]
 pub(crate) fn first_rule(
-    alloc: Global,
     world: &World<'_>,
     method: &Method<'_>,
     op: &JOp,
     state: &State,
-) -> Result<Option<u16>, NoMemory>
-    ensures { IfOk result (λ rule. rule ≡ first_broken (all_classes world.now) method.now op.now state.now) }
+) -> Option<u16>
+    ensures { result ≡ first_broken (all_classes world.now) method.now op.now state.now }
 {
     let stack = match &state.stack {
-        Stack::Cells(cells) => cells.items(),
-        Stack::Clash => return Ok(Some(501)),
+        Stack::Cells(cells) => cells,
+        Stack::Clash => return Some(501),
     };
     let locals = state.locals.items();
     if is_wrong(world, method, op, locals, stack) {
-        return Ok(Some(502));
+        Some(502)
+    } else if is_off(method, op, stack.len()) {
+        Some(503)
+    } else {
+        None
     }
-    if is_off(alloc, method, op, locals, stack)? {
-        return Ok(Some(503));
-    }
-    Ok(None)
 }

@@ -1,11 +1,14 @@
 //! What an instruction takes from the stack, gives to it, and does to the locals.
 
-ghost use Rattle.std.specs.Prelude.{◌≡◌, ◌+◌, ◌≤◌, [], ◌∷◌, ◌++◌, map, length, drop, slice_set, if◌then◌else◌, IfOk};
+ghost use Rattle.std.specs.Prelude.{◌≡◌, ◌+◌, ◌≤◌, List, [], ◌∷◌, ◌++◌, map, length, drop, slice_set, if◌then◌else◌, IfOk};
 ghost use Rattle.cjc_types.specs.Steps.{operand, stack_takes as stack_takes_of, compares as compares_by, receivers as receivers_of, takes as takes_of, shuffled, local_value as value_of_local, gives, stack_behind, stack_after, stored as stored_by, locals_after, after as state_after, goes_on as goes_on_past, targets as targets_of, case_target};
+ghost use Rattle.cjc_types.specs.Repeats.{jumps as is_jump};
 ghost use Rattle.cjc_types.specs.Types.{parts, result_of, element_of, as_reference, array_of as array_of_name};
+ghost use Rattle.cjc_types.specs.declared.cell.Cell.{Cell as Known};
 ghost use Rattle.cjc_types.specs.declared.cell.Cell.TheVariants as cells_of;
 
 use crate::cell::{self, Cell};
+use crate::operands::{Operands, put_on};
 use crate::state::{self, Stack, State};
 use crate::{names, types};
 use cjc_bytes::{Bytes, MemberId, NoMemory, Row};
@@ -74,31 +77,31 @@ pub(crate) fn takes(op: &JOp) -> usize
     }
 }
 
-/// The operand at a place, once more.
-fn copied_operand(alloc: Global, cells: &[Cell], k: usize) -> Result<Cell, NoMemory>
-    ensures { IfOk result (λ cell. cell ≡ operand cells.now k) }
+/// The k-th operand from the top, once more.
+fn copied_operand(alloc: Global, stack: &Operands, k: usize) -> Result<Cell, NoMemory>
+    ensures { IfOk result (λ cell. cell ≡ operand stack.now k) }
 {
-    match cells.get(k) {
+    match stack.get(k) {
         Some(cell) => cell::copied(alloc, cell),
         None => Ok(Cell::Unusable),
     }
 }
 
-/// The reference at a place.
-fn reference_at(alloc: Global, cells: &[Cell], k: usize) -> Result<Cell, NoMemory>
-    ensures { IfOk result (λ cell. cell ≡ as_reference (operand cells.now k)) }
+/// The reference on the top.
+fn top_reference(alloc: Global, stack: &Operands) -> Result<Cell, NoMemory>
+    ensures { IfOk result (λ cell. cell ≡ as_reference (operand stack.now 0)) }
 {
-    match cells.get(k) {
+    match stack.get(0) {
         Some(cell) => types::as_reference(alloc, cell),
         None => Ok(Cell::Unusable),
     }
 }
 
 /// What an array load gives.
-fn element_at(alloc: Global, opcode: u8, cells: &[Cell], k: usize) -> Result<Cell, NoMemory>
-    ensures { IfOk result (λ cell. cell ≡ element_of opcode (operand cells.now k)) }
+fn element(alloc: Global, opcode: u8, stack: &Operands) -> Result<Cell, NoMemory>
+    ensures { IfOk result (λ cell. cell ≡ element_of opcode (operand stack.now 1)) }
 {
-    match cells.get(k) {
+    match stack.get(1) {
         Some(cell) => types::element_of(alloc, opcode, cell),
         None => Ok(Cell::Unusable),
     }
@@ -108,10 +111,10 @@ fn element_at(alloc: Global, opcode: u8, cells: &[Cell], k: usize) -> Result<Cel
 fn local_value(alloc: Global, refs: bool, locals: &[Cell], local: u16) -> Result<Cell, NoMemory>
     ensures { IfOk result (λ cell. cell ≡ value_of_local refs (operand locals.now local)) }
 {
-    if refs {
-        reference_at(alloc, locals, local as usize)
-    } else {
-        Ok(Cell::Number)
+    match locals.get(local as usize) {
+        Some(cell) if refs => types::as_reference(alloc, cell),
+        None if refs => Ok(Cell::Unusable),
+        _ => Ok(Cell::Number),
     }
 }
 
@@ -131,8 +134,8 @@ fn shuffle(opcode: u8) -> &'static [u8]
     }
 }
 
-/// The operands at some places.
-fn operands(alloc: Global, stack: &[Cell], places: &[u8]) -> Result<Row<Cell>, NoMemory>
+/// The operands at some places from the top.
+fn operands(alloc: Global, stack: &Operands, places: &[u8]) -> Result<Row<Cell>, NoMemory>
     ensures { IfOk result (λ cells. cells ≡ map (operand stack.now) places.now) }
 {
     let mut cells = Row::new(alloc);
@@ -178,7 +181,7 @@ fn array_of(alloc: Global, class: &Bytes) -> Result<Row<Cell>, NoMemory>
 }
 
 /// What an instruction puts on the stack.
-fn given(alloc: Global, op: &JOp, locals: &[Cell], stack: &[Cell]) -> Result<Row<Cell>, NoMemory>
+fn given(alloc: Global, op: &JOp, locals: &[Cell], stack: &Operands) -> Result<Row<Cell>, NoMemory>
     ensures { IfOk result (λ cells. cells ≡ gives op.now locals.now stack.now) }
 {
     match op {
@@ -186,7 +189,7 @@ fn given(alloc: Global, op: &JOp, locals: &[Cell], stack: &[Cell]) -> Result<Row
         JOp::Number(_) | JOp::Arith(_) | JOp::Narrow(_) => one(alloc, Cell::Number),
         JOp::ArrayLength | JOp::InstanceOf(_) => one(alloc, Cell::Number),
         JOp::Load { refs, local } => one(alloc, local_value(alloc, *refs, locals, *local)?),
-        JOp::ArrayLoad(opcode) => one(alloc, element_at(alloc, *opcode, stack, 1)?),
+        JOp::ArrayLoad(opcode) => one(alloc, element(alloc, *opcode, stack)?),
         JOp::Stack(opcode) => operands(alloc, stack, shuffle(*opcode)),
         JOp::Static { put, field } => got(alloc, *put, field),
         JOp::Field { put, field } => got(alloc, *put, field),
@@ -198,27 +201,47 @@ fn given(alloc: Global, op: &JOp, locals: &[Cell], stack: &[Cell]) -> Result<Row
     }
 }
 
-/// The stack behind an instruction.
-pub(crate) fn behind(
-    alloc: Global,
-    op: &JOp,
-    locals: &[Cell],
-    stack: &[Cell],
-) -> Result<Row<Cell>, NoMemory>
-    ensures { IfOk result (λ cells. cells ≡ stack_behind op.now locals.now stack.now) }
+/// How many cells the result of a descriptor puts on the stack.
+fn result_gives(desc: &[u8]) -> usize
+    ensures { result ≡ length (result_of (parts desc.now).result) }
 {
-    let mut cells = given(alloc, op, locals, stack)?;
-    for k in takes(op)..stack.len() {
-        cells.push(cell::copied(alloc, &stack[k])?)?;
-    }
-    Ok(cells)
+    either(types::has_result(desc), 1, 0)
 }
 
-fn after_stack(alloc: Global, op: &JOp, locals: &[Cell], stack: &Stack) -> Result<Stack, NoMemory>
-    ensures { IfOk result (λ after. after ≡ stack_after op.now locals.now stack.now) }
+/// How many cells an instruction puts on the stack.
+pub(crate) fn gives_count(op: &JOp) -> usize
+    ensures count { (locals stack : List Known) → result ≡ length (gives op.now locals stack) }
+    ensures small { result ≤ 6 }
+{
+    match op {
+        JOp::Null | JOp::Number(_) | JOp::Arith(_) | JOp::Narrow(_) | JOp::Load { .. } => 1,
+        JOp::ArrayLoad(_) | JOp::ArrayLength | JOp::InstanceOf(_) => 1,
+        JOp::New(_) | JOp::CheckCast(_) | JOp::NewArray(_) | JOp::ANewArray(_) => 1,
+        JOp::Stack(opcode) => shuffle(*opcode).len(),
+        JOp::Static { put, field } | JOp::Field { put, field } => {
+            either(*put, 0, result_gives(field.desc.items()))
+        }
+        JOp::Call { method, .. } => result_gives(method.desc.items()),
+        _ => 0,
+    }
+}
+
+/// The stack behind an instruction, made of the one before it.
+fn behind(alloc: Global, op: &JOp, locals: &[Cell], stack: Operands) -> Result<Operands, NoMemory>
+    ensures { IfOk result (λ behind. behind ≡ stack_behind op.now locals.now stack) }
+{
+    let mut stack = stack;
+    let given = given(alloc, op, locals, &stack)?;
+    stack.take_off(takes(op));
+    put_on(&mut stack, given)?;
+    Ok(stack)
+}
+
+fn after_stack(alloc: Global, op: &JOp, locals: &[Cell], stack: Stack) -> Result<Stack, NoMemory>
+    ensures { IfOk result (λ after. after ≡ stack_after op.now locals.now stack) }
 {
     match stack {
-        Stack::Cells(cells) => Ok(state::stack_of(behind(alloc, op, locals, cells.items())?)),
+        Stack::Cells(cells) => Ok(state::stack_of(behind(alloc, op, locals, cells)?)),
         Stack::Clash => Ok(Stack::Clash),
     }
 }
@@ -228,50 +251,50 @@ fn stored(alloc: Global, refs: bool, stack: &Stack) -> Result<Cell, NoMemory>
     ensures { IfOk result (λ cell. cell ≡ stored_by refs stack.now) }
 {
     match stack {
-        Stack::Cells(cells) if refs => reference_at(alloc, cells.items(), 0),
+        Stack::Cells(cells) if refs => top_reference(alloc, cells),
         Stack::Cells(_) => Ok(Cell::Number),
         Stack::Clash => Ok(Cell::Unusable),
     }
 }
 
-/// The locals with one changed.
-fn with_local(alloc: Global, locals: &[Cell], local: u16, cell: Cell) -> Result<Row<Cell>, NoMemory>
-    ensures { IfOk result (λ changed. changed ≡ slice_set locals.now local cell) }
+/// The locals with one changed in place.
+fn with_local(locals: Row<Cell>, local: u16, cell: Cell) -> Row<Cell>
+    ensures { result ≡ slice_set locals local cell }
 {
-    let mut changed = state::copied_cells(alloc, locals)?.into_vec();
+    let mut changed = locals.into_vec();
     let local = local as usize;
     if local < changed.len() {
         changed[local] = cell;
     }
-    Ok(Row::of(changed))
+    Row::of(changed)
 }
 
 fn after_locals(
     alloc: Global,
     op: &JOp,
-    locals: &[Cell],
+    locals: Row<Cell>,
     stack: &Stack,
 ) -> Result<Row<Cell>, NoMemory>
-    ensures { IfOk result (λ after. after ≡ locals_after op.now locals.now stack.now) }
+    ensures { IfOk result (λ after. after ≡ locals_after op.now locals stack.now) }
 {
     match op {
         JOp::Store { refs, local } => {
-            with_local(alloc, locals, *local, stored(alloc, *refs, stack)?)
+            let cell = stored(alloc, *refs, stack)?;
+            Ok(with_local(locals, *local, cell))
         }
-        JOp::Inc { local, .. } => with_local(alloc, locals, *local, Cell::Number),
-        _ => state::copied_cells(alloc, locals),
+        JOp::Inc { local, .. } => Ok(with_local(locals, *local, Cell::Number)),
+        _ => Ok(locals),
     }
 }
 
-/// The state behind an instruction.
-pub(crate) fn after(alloc: Global, op: &JOp, before: &State) -> Result<State, NoMemory>
-    ensures { IfOk result (λ after. after ≡ state_after op.now before.now) }
+/// The state behind an instruction, made of the one before it.
+pub(crate) fn after(alloc: Global, op: &JOp, before: State) -> Result<State, NoMemory>
+    ensures { IfOk result (λ after. after ≡ state_after op.now before) }
 {
-    let locals = before.locals.items();
-    Ok(State {
-        stack: after_stack(alloc, op, locals, &before.stack)?,
-        locals: after_locals(alloc, op, locals, &before.stack)?,
-    })
+    let State { stack, locals } = before;
+    let locals = after_locals(alloc, op, locals, &stack)?;
+    let stack = after_stack(alloc, op, locals.items(), stack)?;
+    Ok(State { stack, locals })
 }
 
 /// Whether the next instruction may follow.
@@ -282,6 +305,16 @@ pub(crate) fn goes_on(op: &JOp) -> bool
         JOp::Goto(_) | JOp::TableSwitch { .. } | JOp::LookupSwitch { .. } => false,
         JOp::Return(_) | JOp::Throw => false,
         _ => true,
+    }
+}
+
+/// Whether an instruction may go elsewhere than to the next.
+pub(crate) fn jumps(op: &JOp) -> bool
+    ensures { result ≡ is_jump op.now }
+{
+    match op {
+        JOp::If { .. } | JOp::Goto(_) | JOp::TableSwitch { .. } | JOp::LookupSwitch { .. } => true,
+        _ => false,
     }
 }
 

@@ -1,13 +1,14 @@
 //! Type tables.
 
 use crate::cell::Cell;
+use crate::operands::Operands;
 use cjc_bytes::Row;
 
 /// What is known of a frame before an instruction that is reached.
 #[derive(Drop)]
 pub struct Frame {
-    /// The operand stack, the top first.
-    pub stack: Row<Cell>,
+    /// The operand stack.
+    pub stack: Operands,
     /// As many cells as the method has locals.
     pub locals: Row<Cell>,
 }

@@ -1,9 +1,10 @@
 //! Types by name, and the cells of their values.
 
-ghost use Rattle.std.specs.Prelude.{◌≡◌, ◌+◌, ◌≤◌, ◌<◌, ◌^◌, [], ◌∷◌, ◌++◌, length, IfOk, option_map};
+ghost use Rattle.std.specs.Prelude.{◌≡◌, ◌+◌, ◌≤◌, ◌<◌, ◌^◌, [], ◌∷◌, ◌++◌, length, not, IfOk, OnOk, option_map};
 ghost use Rattle.cjc_bytes.specs.Descriptor.{Part, part_at};
 ghost use Rattle.cjc_world.specs.Subtype.{starts as starts_by, inner as inner_of};
-ghost use Rattle.cjc_types.specs.Types.{parts, parts_or_none, cell_of as cell_of_kind, value_of as value_of_part, is_void, result_of, array_of as array_of_name, letter as letter_of, held, held_by, elements as elements_of, element_of as element_of_cell, as_reference as reference_of, with_held};
+ghost use Rattle.cjc_types.specs.Names.{IsSet};
+ghost use Rattle.cjc_types.specs.Types.{parts, parts_or_none, cell_of as cell_of_kind, value_of as value_of_part, is_void as is_void_kind, result_of, array_of as array_of_name, letter as letter_of, held, held_by, elements as elements_of, element_of as element_of_cell, as_reference as reference_of, with_held};
 
 use crate::cell::{self, Cell};
 use crate::names;
@@ -47,11 +48,21 @@ pub(crate) fn value_of(alloc: Global, kind: Kind, class: &[u8]) -> Result<Cell, 
 }
 
 fn is_void(kind: Kind) -> bool
-    ensures { result ≡ is_void kind }
+    ensures { result ≡ is_void_kind kind }
 {
     match kind {
         Kind::Void => true,
         _ => false,
+    }
+}
+
+/// Whether a descriptor has a result.
+pub(crate) fn has_result(desc: &[u8]) -> bool
+    ensures { result ≡ not (is_void_kind (parts desc.now).result.kind) }
+{
+    match parsed(desc) {
+        Some(parsed) => !is_void(parsed.kind(parsed.params())),
+        None => false,
     }
 }
 
@@ -139,15 +150,24 @@ pub(crate) fn held(array: &[u8]) -> Option<&[u8]>
     }
 }
 
+/// Puts the type that an array of references holds into the set; another type holds none.
+fn put_held(alloc: Global, names: &mut Vec<Bytes>, array: &[u8]) -> Result<(), NoMemory>
+    requires { IsSet names.old.items }
+    ensures { OnOk result (names.new.items ≡ with_held (held array.now) names.old.items) }
+{
+    match held(array) {
+        Some(name) => names::put(alloc, names, name),
+        None => Ok(()),
+    }
+}
+
 /// The types that the arrays of references among these hold.
 fn elements(alloc: Global, types: &[Bytes]) -> Result<Row<Bytes>, NoMemory>
     ensures { IfOk result (λ held. held ≡ elements_of types.now []) }
 {
     let mut names = Vec::new(alloc);
     for array in types {
-        if let Some(name) = held(array.items()) {
-            names::put(alloc, &mut names, name)?;
-        }
+        put_held(alloc, &mut names, array.items())?;
     }
     Ok(Row::of(names))
 }

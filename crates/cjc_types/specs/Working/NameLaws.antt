@@ -13,10 +13,10 @@ same_name x y e = slice_cmp-IsAntisymmetric nat_cmp-IsAntisymmetric x y e
 tied : (x : List ℕ) → compare x x ≡ Equal
 tied x = tied_itself nat_list_cmp_total x
 
-before_trans : (x y z : List ℕ) → compare x y ≡ Less → compare y z ≡ Less → compare x z ≡ Less
+pub before_trans : (x y z : List ℕ) → compare x y ≡ Less → compare y z ≡ Less → compare x z ≡ Less
 before_trans x y z h k = nat_list_cmp_total.trans x y z h k
 
-turned : (x y : List ℕ) → compare x y ≡ Greater → compare y x ≡ Less
+pub turned : (x y : List ℕ) → compare x y ≡ Greater → compare y x ≡ Less
 turned x y h = let e = nat_list_cmp_total.antisymm y x in rw h at e
 
 -- ---- members
@@ -69,7 +69,7 @@ union_least (x ∷ xs) ys zs h k n is = union_least xs (insert x ys) zs (λ m la
 
 -- ---- order
 
-before_weaker : (x y : List ℕ) (ys : List (List ℕ)) → compare x y ≡ Less → IsBefore y ys → IsBefore x ys
+pub before_weaker : (x y : List ℕ) (ys : List (List ℕ)) → compare x y ≡ Less → IsBefore y ys → IsBefore x ys
 before_weaker x y [] h k = tt
 before_weaker x y (z ∷ zs) h k = (before_trans x y z h k.0, before_weaker x y zs h k.1)
 
@@ -100,7 +100,7 @@ set_union (x ∷ xs) ys h = set_union xs (insert x ys) (set_insert x ys h)
 not_before : (x : List ℕ) → compare x x ≡ Less → ⊥
 not_before x h = let e = tied x in cc
 
-before_member : (x n : List ℕ) (xs : List (List ℕ)) → IsBefore x xs → In n xs → compare x n ≡ Less
+pub before_member : (x n : List ℕ) (xs : List (List ℕ)) → IsBefore x xs → In n xs → compare x n ≡ Less
 before_member x n [] h is = absurd is
 before_member x n (y ∷ ys) h (inl is) = subst (λ (m : List ℕ). compare x m ≡ Less) is h.0
 before_member x n (y ∷ ys) h (inr later) = before_member x n ys h.1 later

@@ -1,5 +1,6 @@
 -- What the cells of types and of elements are: own cells, which grow with the cells that they come from.
-use Rattle.std.proofs.Common.{◌≡◌, ◌≤◌, ◌==◌, ℕ, Bool, true, false, cond, List, [], ◌∷◌, Option, Some, None, All, refl, sym, ◌∙◌, ap, subst, inl, inr, arith}
+use Rattle.std.proofs.Common.{◌≡◌, ◌≤◌, ◌<◌, ◌+◌, ◌==◌, ℕ, Bool, true, false, cond, List, [], ◌∷◌, length, drop, get_or, Option, Some, None, All, refl, sym, ◌∙◌, ap, subst, inl, inr, arith}
+use Rattle.std.proofs.lemmas.List.{drop_more}
 use Rattle.std.proofs.lemmas.List.Elements.{All-nil, All-cons}
 use Rattle.cjc_bytes.specs.Descriptor.{Part}
 use Rattle.cjc_bytes.specs.declared.names.Kind.{Kind}
@@ -44,7 +45,7 @@ own_result p = go (is_void p.kind)
 
 -- ---- elements
 
-set_held : (found : Option (List ℕ)) (names : List (List ℕ)) → IsSet names → IsSet (with_held found names)
+pub set_held : (found : Option (List ℕ)) (names : List (List ℕ)) → IsSet names → IsSet (with_held found names)
 set_held None names h = h
 set_held (Some name) names h = set_insert name names h
 
@@ -115,3 +116,10 @@ reference_up x Unusable h = tt
 reference_up Number (Refs ys) h = absurd h
 reference_up Unusable (Refs ys) h = absurd h
 reference_up (Refs xs) (Refs ys) h = h
+
+-- ---- a step of the loop over arrays
+
+pub elements_next : (types names more : List (List ℕ)) (i : ℕ) (array given : List ℕ) → i < length types → array ≡ get_or types i array → given ≡ array → more ≡ with_held (held given) names → elements (drop (i + 1) types) more ≡ elements (drop i types) names
+elements_next types names more i array given lt read same is =
+    let split : drop i types ≡ array ∷ drop (i + 1) types = drop_more types i array lt ∙ ap (λ (n : List ℕ). n ∷ drop (i + 1) types) (sym read) in
+    ap (elements (drop (i + 1) types)) (is ∙ ap (λ (n : List ℕ). with_held (held n) names) same) ∙ ap (λ (zs : List (List ℕ)). elements zs names) (sym split)

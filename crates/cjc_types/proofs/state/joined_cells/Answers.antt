@@ -1,20 +1,21 @@
-use Rattle.std.proofs.Common.{◌≡◌, ◌≤◌, List, length, arith}
-use Rattle.std.proofs.lemmas.List.{take_all}
-use Rattle.cjc_fixpoint.specs.Lattice.{joined}
-use Rattle.cjc_fixpoint.proofs.Lattices.{joined_more, length-joined}
+use Rattle.std.proofs.Common.{◌≡◌, ◌<◌, length, get_or, sym, subst, arith}
 use Rattle.cjc_types.specs.Cells.{joined_cell}
 use Rattle.cjc_types.specs.declared.cell.Cell.{Cell}
+use Rattle.cjc_types.proofs.Joining.{joined_set, joined_end}
 use Rattle.cjc_types.proofs.state.joined_cells.Goals as goal
 
 pub loop-i-preserved : goal.loop-i-preserved
 loop-i-preserved c =
-    rw c.in_ok-push.ensures.ok
-    (joined_more joined_cell c.args.left.now c.args.right.now c.loop-i.i c.index-left-i.result c.index-right-i.result c.in_ok-joined.field-0 c.loop-i.cells c.loop-i-test.true c.requires c.index-left-i.is c.index-right-i.is c.in_ok-joined.ensures c.loop-i.invariant)
+    let sized = c.requires.sized in
+    let lt = c.loop-i-test.true in
+    let inside : c.loop-i.i < length c.args.left.items = omega (arith, sized, lt) in
+    let read : c.replace-cell.result ≡ get_or c.loop-i.cells.items c.loop-i.i c.replace-cell.result =
+    subst (λ (v : Cell). v ≡ get_or c.loop-i.cells.items c.loop-i.i v) (sym c.replace-cell.ensures.value) c.index_mut.ensures.value in
+    joined_set joined_cell c.args.left.items c.args.right.now c.loop-i.i c.replace-cell.result c.index-right-i.result c.in_ok-cells.field-0 c.replace-cell.new.dest c.loop-i.cells.items inside sized c.loop-i.invariant read c.index-right-i.is c.in_ok-cells.ensures
 
 pub returns : goal.returns
 returns c =
-    let xs : List Cell = c.args.left.now in
-    let ys : List Cell = c.args.right.now in
-    let same : length xs ≡ length ys = c.requires in
-    let all : length (joined joined_cell xs ys) ≤ c.loop-i.i = let e = length-joined joined_cell xs ys same in let f = c.loop-i-test.false in omega (arith, e, f) in
-    rw (c.loop-i.invariant, take_all c.loop-i.i (joined joined_cell xs ys) all)
+    let over = c.loop-i-test.false in
+    let within = c.loop-i.auto.i-end in
+    let end : length c.args.right.now ≡ c.loop-i.i = omega (arith, over, within) in
+    joined_end joined_cell c.args.left.items c.args.right.now c.loop-i.i c.loop-i.cells.items c.requires.sized end c.loop-i.invariant
