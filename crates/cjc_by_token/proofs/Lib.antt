@@ -1,7 +1,7 @@
-mod Members
+pub mod Members
 mod Image
 mod Cells
-mod Slots
+pub mod Slots
 mod Objects
 mod Above
 mod Classes

@@ -1,0 +1,24 @@
+//! Calls of a package by token are its calls by name: what class infos, maps, export files and the entries of Method say of
+//! methods is what the look-ups of narrow code find. Whoever writes components cites it. It has definitions and laws alone,
+//! and does not know how a table or code was made.
+#![tactic(auto)]
+
+ghost use Rattle.std.specs.Prelude.{◌≡◌, ◌<◌, ◌≤◌, ℕ, List};
+ghost use Rattle.cjc_card.specs.Classes.{depth};
+ghost use Rattle.cjc_world.specs.declared.found.Found.{Found};
+ghost use Rattle.cjc_world.specs.Classes.{Class};
+ghost use Rattle.cjc_world.specs.Kin.{IsAcyclic};
+ghost use Rattle.cjc_lower.specs.Naming.{Naming};
+ghost use Rattle.cjc_by_token.specs.Supers.{SaysKinds};
+ghost use Rattle.cjc_calls_by_token.specs.Dispatching.{DispatchAgrees, SaysTower};
+
+use cjc_world::lookup_laws;
+
+/// Dispatch by token on an object of a class gives by class infos and export files what it gives by class tables and maps:
+/// a public or protected method, a package-visible one, and one of an interface. An imported one is the event of the first
+/// imported class.
+pub fn dispatch_agrees()
+    ensures { (w : List Class) → IsAcyclic w → (n : Naming) (offset : Found → ℕ) → ((f : Found) → offset f < 0xFFFF) → SaysKinds w n → (height : ℕ) (x z : List ℕ) → SaysTower w n offset height x z → height ≤ depth n.loaded → DispatchAgrees w n offset x z }
+{
+    lookup_laws();
+}
