@@ -5,8 +5,8 @@ use Rattle.std.specs.Prelude.{Option, Some, None, option_map, option_and_then, s
 use Rattle.cjc_bytes.specs.declared.fault.MemberId.{MemberId}
 use Rattle.cjc_script.specs.declared.value.Value.{Value}
 use Rattle.cjc_script.specs.declared.report.FieldValue.{FieldValue}
-use Rattle.cjc_by_name.specs.Effects.{is_same_field, value_in, values_with}
-use Rattle.cjc_heap.specs.Objects.{fields_with, place_in}
+use Rattle.cjc_by_name.specs.Effects.{is_same_field, is_same_kind, value_in, values_with}
+use Rattle.cjc_heap.specs.Objects.{fields_after_put, fields_with, place_in}
 
 one_further : {A : Type 0} (v : A) (vs : List A) (p : Option ℕ) → option_and_then (slice_get (v ∷ vs)) (option_map suc p) ≡ option_and_then (slice_get vs) p
 one_further v vs None = refl
@@ -54,3 +54,28 @@ fields_own fs vs e = ap (λ more. fields_with fs more) e ∙ own fs
 -- a value for each field
 pub as_many : (fs : List FieldValue) (vs : List Value) → vs ≡ map (λ f. f.value) fs → length vs ≡ length fs
 as_many fs vs e = ap length e ∙ length-map fs (λ f. f.value)
+
+-- what a put into one makes of the fields, by its place
+after_put_by : (fs : List FieldValue) (vs : List Value) (id : MemberId) (v : Value) → length vs ≡ length fs → fields_after_put (fields_with fs vs) id v ≡ option_and_then (λ old. if is_same_kind old v then Some (values_with (fields_with fs vs) id v) else None) (option_and_then (slice_get vs) (place_in fs id))
+after_put_by fs vs id v e = ap (λ o. option_and_then (λ old. if is_same_kind old v then Some (values_with (fields_with fs vs) id v) else None) o) (value_place fs vs id e)
+
+-- no field is this one
+pub after_put_none : (fs : List FieldValue) (vs : List Value) (id : MemberId) (v : Value) → length vs ≡ length fs → place_in fs id ≡ None → fields_after_put (fields_with fs vs) id v ≡ None
+after_put_none fs vs id v e h = after_put_by fs vs id v e ∙ ap (λ p. option_and_then (λ old. if is_same_kind old v then Some (values_with (fields_with fs vs) id v) else None) (option_and_then (slice_get vs) p)) h
+
+-- it holds a value of the other kind
+pub after_put_unlike : (fs : List FieldValue) (vs : List Value) (id : MemberId) (v old : Value) (p : ℕ) → length vs ≡ length fs → place_in fs id ≡ Some p → slice_get vs p ≡ Some old → is_same_kind old v ≡ false → fields_after_put (fields_with fs vs) id v ≡ None
+after_put_unlike fs vs id v old p e h g k =
+    after_put_by fs vs id v e
+    ∙ ap (λ o. option_and_then (λ was. if is_same_kind was v then Some (values_with (fields_with fs vs) id v) else None) (option_and_then (slice_get vs) o)) h
+    ∙ ap (λ o. option_and_then (λ was. if is_same_kind was v then Some (values_with (fields_with fs vs) id v) else None) o) g
+    ∙ ap (λ t. if t then Some (values_with (fields_with fs vs) id v) else None) k
+
+-- it holds a value of the same kind
+pub after_put_like : (fs : List FieldValue) (vs : List Value) (id : MemberId) (v old : Value) (p : ℕ) → length vs ≡ length fs → place_in fs id ≡ Some p → slice_get vs p ≡ Some old → is_same_kind old v ≡ true → fields_after_put (fields_with fs vs) id v ≡ Some (fields_with fs (slice_set vs p v))
+after_put_like fs vs id v old p e h g k =
+    after_put_by fs vs id v e
+    ∙ ap (λ o. option_and_then (λ was. if is_same_kind was v then Some (values_with (fields_with fs vs) id v) else None) (option_and_then (slice_get vs) o)) h
+    ∙ ap (λ o. option_and_then (λ was. if is_same_kind was v then Some (values_with (fields_with fs vs) id v) else None) o) g
+    ∙ ap (λ t. if t then Some (values_with (fields_with fs vs) id v) else None) k
+    ∙ ap (λ fields. Some fields) (put_place fs vs id v p e h)

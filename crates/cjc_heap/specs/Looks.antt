@@ -1,5 +1,5 @@
 -- What instructions look up and change in the heap, by the definition's steps.
-use Rattle.std.specs.Prelude.{ℕ, ℤ, List, [], Option, Some, None, slice_get}
+use Rattle.std.specs.Prelude.{ℕ, ℤ, List, [], Option, Some, None, slice_get, slice_set}
 use Rattle.cjc_bytes.specs.declared.fault.MemberId.{MemberId}
 use Rattle.cjc_script.specs.declared.value.Value.{Value}
 use Rattle.cjc_script.specs.declared.report.Thing.{Thing}
@@ -9,7 +9,7 @@ use Rattle.cjc_by_name.specs.Effects.{Effect, Moves, type_of, thing_at, array_in
 use Rattle.cjc_frame.specs.Deeds.{fault_of}
 use Rattle.cjc_heap.specs.declared.halt.Halt.{Halt}
 use Rattle.cjc_heap.specs.declared.halt.Halt.TheVariants.{Raise, Stick}
-use Rattle.cjc_heap.specs.Objects.{items_in}
+use Rattle.cjc_heap.specs.Objects.{items_in, put_in_object}
 
 -- an exception of the machine's own, or nothing that applies
 abbrev pub halted : Halt → Effect
@@ -42,3 +42,7 @@ element_at moves heap r i go =
 -- what a field of the object of a reference holds
 abbrev pub field_at : List Thing → Value → MemberId → (Value → Effect) → Effect
 field_at heap r id go = thing_at heap r (λ k thing. object_in thing (λ class fields. with_some (value_in fields id) go))
+
+-- a field of the object of a reference is put, where it holds a value of the same kind: the heap after that
+abbrev pub put_field_at : List Thing → Value → MemberId → Value → (List Thing → Effect) → Effect
+put_field_at heap r id v go = thing_at heap r (λ k thing. put_in_object thing id v (λ put. go (slice_set heap k put)))

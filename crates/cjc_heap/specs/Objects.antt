@@ -1,5 +1,5 @@
 -- Arrays and objects, as the heap keeps them and as they are.
-use Rattle.std.specs.Prelude.{◌≡◌, ◌<◌, ◌^◌, ℕ, suc, List, [], ◌∷◌, length, Option, Some, None, option_map, if◌then◌else◌}
+use Rattle.std.specs.Prelude.{◌≡◌, ◌<◌, ◌^◌, ℕ, suc, List, [], ◌∷◌, length, Option, Some, None, option_map, option_and_then, if◌then◌else◌}
 use Rattle.cjc_bytes.specs.declared.fault.MemberId.{MemberId}
 use Rattle.cjc_script.specs.declared.value.Value.{Value}
 use Rattle.cjc_script.specs.declared.report.FieldValue.{FieldValue}
@@ -36,6 +36,11 @@ items_in (things.Object class fields) = []
 abbrev pub place_in : List FieldValue → MemberId → Option ℕ
 place_in [] id = None
 place_in (f ∷ fields) id = if is_same_field f.field id then Some 0 else option_map suc (place_in fields id)
+
+-- fields after a put into one, where that is there and holds a value of the same kind
+abbrev pub fields_after_put : List FieldValue → MemberId → Value → Option (List FieldValue)
+fields_after_put fields id v =
+    option_and_then (λ old. if is_same_kind old v then Some (values_with fields id v) else None) (value_in fields id)
 
 -- a field of an object is put, where it holds a value of the same kind
 abbrev pub put_in_object : Thing → MemberId → Value → (Thing → Effect) → Effect

@@ -8,7 +8,8 @@ ghost use Rattle.cjc_script.specs.Sorts.{shape_named};
 ghost use Rattle.cjc_by_name.specs.Effects;
 ghost use Rattle.cjc_by_name.specs.Effects.{Effect, type_of, thing_at, array_in, only_if};
 ghost use Rattle.cjc_heap.specs.Kinds.{shape_of, effect_moves};
-ghost use Rattle.cjc_heap.specs.Looks.{halted, name_at, items_at, element_at, field_at};
+ghost use Rattle.cjc_by_name.specs.OnePackage.{of_class};
+ghost use Rattle.cjc_heap.specs.Looks.{halted, name_at, items_at, element_at, field_at, put_field_at};
 
 use crate::halt::Halt;
 use crate::kind::{ArrayKind, Moves, serves};
@@ -34,10 +35,11 @@ impl<'a> Model for Heap<'a> {
     ghost view = { λ h. h.objects.items };
 }
 
-/// An element of an array: the array's number, its place in the array, and what it holds.
+/// An element of an array: the array's number, what arrays of its type hold, the element's place, and what it holds.
 #[derive(Clone, Copy)]
 pub struct HeapElement {
     pub array: u32,
+    pub kind: ArrayKind,
     pub place: usize,
     pub value: Value,
 }
@@ -77,6 +79,16 @@ impl<'a> Heap<'a> {
         }
     }
 
+    /// The same, and no name where nothing has the number.
+    pub fn name_at(&self, number: u32) -> &[u8]
+        ensures { result.now ≡ name_at self.now number }
+    {
+        match self.objects.get(number as usize) {
+            Some(object) => object.type_name(),
+            None => &[],
+        }
+    }
+
     /// The array of a reference: its number, what it holds, and its elements.
     pub fn array_at(&self, reference: Value) -> Result<(u32, ArrayKind, &[Value]), Halt>
         ensures found { MatchResult result
@@ -109,6 +121,7 @@ impl<'a> Heap<'a> {
         ensures found { MatchResult result
             (λ e. (go : ℕ → List ℕ → List Value → ℕ → Value → Effect) → element_at (effect_moves moves) self.now reference index go ≡ go e.array (name_at self.now e.array) (items_at self.now e.array) e.place e.value)
             (λ h. (go : ℕ → List ℕ → List Value → ℕ → Value → Effect) → element_at (effect_moves moves) self.now reference index go ≡ halted h) }
+        ensures kind { IfOk result (λ e. shape_named (name_at self.now e.array) ≡ shape_of e.kind (name_at self.now e.array)) }
         ensures inside { IfOk result (λ e. e.place < length (items_at self.now e.array)) }
     {
         match self.array_at(reference) {
@@ -146,17 +159,55 @@ impl<'a> Heap<'a> {
     }
 
     /// What a field of the object of a reference holds.
-    pub fn field_at(&self, reference: Value, id: &MemberId) -> Result<Value, Halt>
+    pub fn field_at(&self, reference: Value, class: &[u8], id: &MemberId) -> Result<Value, Halt>
         ensures { MatchResult result
-            (λ v. (go : Value → Effect) → field_at self.now reference id.now go ≡ go v)
-            (λ h. (go : Value → Effect) → field_at self.now reference id.now go ≡ halted h) }
+            (λ v. (go : Value → Effect) → field_at self.now reference (of_class class.now id.now) go ≡ go v)
+            (λ h. (go : Value → Effect) → field_at self.now reference (of_class class.now id.now) go ≡ halted h) }
     {
         match self.object_at(reference) {
-            Ok((_, object)) => match object.field(id) {
+            Ok((_, object)) => match object.field(class, id) {
                 Some(value) => Ok(value),
                 None => Err(Halt::Stick),
             },
             Err(halt) => Err(halt),
+        }
+    }
+
+    /// The array or object with a number.
+    pub fn get(&self, number: usize) -> Option<&HeapObject<'a>>
+        ensures { option_map (λ o. o.now) result ≡ slice_get self.now number }
+    {
+        self.objects.get(number)
+    }
+
+    /// Puts a value into a field of the object of a reference, where it is there and holds a value of the same kind.
+    pub fn put_field(
+        &mut self,
+        reference: Value,
+        class: &[u8],
+        id: &MemberId,
+        value: Value,
+    ) -> Result<(), Halt>
+        ensures put { MatchResult result
+            (λ _. (go : List Thing → Effect) → put_field_at self.old reference (of_class class.now id.now) value go ≡ go self.new)
+            (λ h. (go : List Thing → Effect) → put_field_at self.old reference (of_class class.now id.now) value go ≡ halted h) }
+        ensures same { OnErr result (self.new ≡ self.old) }
+        ensures len { length self.new ≡ length self.old }
+    {
+        match reference {
+            Value::Num(_) => Err(Halt::Stick),
+            Value::Null => Err(Halt::Raise(Exception::NullPointer)),
+            Value::Obj(k) => {
+                if k as usize >= self.objects.len() {
+                    return Err(Halt::Stick);
+                }
+                let object = &mut self.objects[k as usize];
+                if object.put_field(class, id, value) {
+                    Ok(())
+                } else {
+                    Err(Halt::Stick)
+                }
+            }
         }
     }
 }
@@ -173,6 +224,7 @@ fn element_in(
         (λ e. (desc : List ℕ) (go : ℕ → Value → Effect) → only_if (Effects.serves (effect_moves moves) (shape_of kind desc)) (Effects.item_at items.now index go) ≡ go e.place e.value)
         (λ h. (desc : List ℕ) (go : ℕ → Value → Effect) → only_if (Effects.serves (effect_moves moves) (shape_of kind desc)) (Effects.item_at items.now index go) ≡ halted h) }
     ensures array { IfOk result (λ e. e.array ≡ array) }
+    ensures kind { IfOk result (λ e. e.kind ≡ kind) }
     ensures inside { IfOk result (λ e. e.place < length items.now) }
 {
     if !serves(moves, kind) {
@@ -181,6 +233,7 @@ fn element_in(
     match item_at(items, index) {
         Some((place, value)) => Ok(HeapElement {
             array,
+            kind,
             place,
             value,
         }),

@@ -6,10 +6,12 @@ mod halt;
 mod heap;
 mod kind;
 mod object;
+mod statics;
 mod type_name;
 
 pub use halt::Halt;
 pub use heap::{Heap, HeapElement};
 pub use kind::{ArrayKind, Element, Moves, kind_of};
-pub use object::HeapObject;
+pub use object::{HeapObject, Parts};
+pub use statics::Statics;
 pub use type_name::TypeName;

@@ -1,18 +1,21 @@
 //! One array or object of the heap.
 
-ghost use Rattle.std.specs.Prelude.{◌≡◌, ◌<◌, ◌^◌, ℕ, List, length, slice_get, slice_set, Some, None, true, false, IfOk, IfSome, MatchOption, if◌then◌else◌, map, replicate};
+ghost use Rattle.std.specs.Prelude.{◌≡◌, ◌<◌, ◌^◌, ℕ, List, length, slice_get, slice_set, Some, None, true, false, IfOk, IfSome, MatchOption, MatchBool, if◌then◌else◌, map, replicate};
 ghost use Rattle.cjc_script.specs.declared.report.Thing.{Thing};
 ghost use Rattle.cjc_script.specs.declared.report.Thing.TheVariants as things;
 ghost use Rattle.cjc_script.specs.declared.value.Value.{Value};
 ghost use Rattle.cjc_script.specs.Sorts.{shape_named};
 ghost use Rattle.cjc_by_name.specs.Effects.{Effect, type_of, is_same_field, object_in, with_some, value_in};
 ghost use Rattle.cjc_by_name.specs.Effects;
+ghost use Rattle.cjc_by_name.specs.OnePackage.{of_class};
 ghost use Rattle.cjc_heap.specs.Kinds.{shape_of};
-ghost use Rattle.cjc_heap.specs.Objects.{fields_with, items_in, place_in};
+ghost use Rattle.cjc_heap.specs.Objects.{fields_after_put, fields_with, items_in, place_in, put_in_object};
+ghost use Rattle.cjc_heap.specs.Parts.{AreSound, thing_by};
 
 use crate::kind::ArrayKind;
 use crate::type_name::TypeName;
 use cjc_bytes::{MemberId, NoMemory};
+use cjc_frame::is_same_kind;
 use cjc_script::{FieldValue, Value};
 use std::alloc::Global;
 use std::marker::Model;
@@ -30,6 +33,14 @@ enum Body<'a> {
         fresh: &'a [FieldValue],
         values: Vec<Value>,
     },
+}
+
+/// What an array or object holds.
+#[derive(Clone, Copy)]
+pub enum Parts<'o> {
+    Items(&'o [Value]),
+    /// The fields as they are at first, and what they hold.
+    Fields(&'o [FieldValue], &'o [Value]),
 }
 
 /// An array of fewer than 2^31 elements, or an object.
@@ -50,20 +61,20 @@ impl<'a> Model for HeapObject<'a> {
     ghost invariant = { λ o. IsSound o.body };
 }
 
-/// Whether two fields are the same: by class, name and descriptor.
-pub fn is_same_field(a: &MemberId, b: &MemberId) -> bool
-    ensures { result ≡ is_same_field a.now b.now }
+/// Whether a field is that of a class with the name and descriptor of another.
+pub fn is_same_field(field: &MemberId, class: &[u8], id: &MemberId) -> bool
+    ensures { result ≡ is_same_field field.now (of_class class.now id.now) }
 {
-    a.class.items() == b.class.items()
-        && (a.name.items() == b.name.items() && a.desc.items() == b.desc.items())
+    field.class.items() == class
+        && (field.name.items() == id.name.items() && field.desc.items() == id.desc.items())
 }
 
 // The place of a field among those of an object.
-fn place_in(fields: &[FieldValue], id: &MemberId) -> Option<usize>
-    ensures { result ≡ place_in fields.now id.now }
+fn place_in(fields: &[FieldValue], class: &[u8], id: &MemberId) -> Option<usize>
+    ensures { result ≡ place_in fields.now (of_class class.now id.now) }
 {
     for (i, field) in fields.iter().enumerate() {
-        if is_same_field(&field.field, id) {
+        if is_same_field(&field.field, class, id) {
             return Some(i);
         }
     }
@@ -76,15 +87,43 @@ fn value_in_place(values: &[Value], place: usize) -> Option<Value>
     values.get(place).copied()
 }
 
-// What the field holds that is this one, by its place.
-fn value_at(fields: &[FieldValue], values: &[Value], id: &MemberId) -> Option<Value>
+/// What the field holds that is this one, of fields with these values.
+pub fn value_at(
+    fields: &[FieldValue],
+    values: &[Value],
+    class: &[u8],
+    id: &MemberId,
+) -> Option<Value>
     requires { length values.now ≡ length fields.now }
-    ensures { result ≡ value_in (fields_with fields.now values.now) id.now }
+    ensures { result ≡ value_in (fields_with fields.now values.now) (of_class class.now id.now) }
 {
-    match place_in(fields, id) {
+    match place_in(fields, class, id) {
         Some(place) => value_in_place(values, place),
         None => None,
     }
+}
+
+/// Puts a value into the field that is this one, where it is there and holds a value of the same kind; whether it did.
+pub fn put_value(
+    fields: &[FieldValue],
+    values: &mut Vec<Value>,
+    class: &[u8],
+    id: &MemberId,
+    value: Value,
+) -> bool
+    requires { length values.old.items ≡ length fields.now }
+    ensures put { fields_after_put (fields_with fields.now values.old.items) (of_class class.now id.now) value ≡ (if result then Some (fields_with fields.now values.new.items) else None) }
+    ensures len { length values.new.items ≡ length fields.now }
+    ensures same { result ≡ false → values.new.items ≡ values.old.items }
+{
+    let Some(place) = place_in(fields, class, id) else {
+        return false;
+    };
+    if !is_same_kind(values[place], value) {
+        return false;
+    }
+    values[place] = value;
+    true
 }
 
 impl<'a> HeapObject<'a> {
@@ -122,17 +161,46 @@ impl<'a> HeapObject<'a> {
     }
 
     /// What a field of an object holds.
-    pub fn field(&self, id: &MemberId) -> Option<Value>
+    pub fn field(&self, class: &[u8], id: &MemberId) -> Option<Value>
         ensures { MatchOption result
-            ((go : Value → Effect) → object_in self.now (λ class fields. with_some (value_in fields id.now) go) ≡ Effects.Stick)
-            (λ v. (go : Value → Effect) → object_in self.now (λ class fields. with_some (value_in fields id.now) go) ≡ go v) }
+            ((go : Value → Effect) → object_in self.now (λ type fields. with_some (value_in fields (of_class class.now id.now)) go) ≡ Effects.Stick)
+            (λ v. (go : Value → Effect) → object_in self.now (λ type fields. with_some (value_in fields (of_class class.now id.now)) go) ≡ go v) }
     {
         match &self.body {
             Body::Array { .. } => None,
-            Body::Object { fresh, values, .. } => match value_at(fresh, values.as_slice(), id) {
+            Body::Object { fresh, values, .. } => match value_at(
+                fresh,
+                values.as_slice(),
+                class,
+                id,
+            ) {
                 Some(value) => Some(value),
                 None => None,
             },
+        }
+    }
+
+    /// Puts a value into a field of an object, where it is there and holds a value of the same kind; whether it did.
+    pub fn put_field(&mut self, class: &[u8], id: &MemberId, value: Value) -> bool
+        ensures put { MatchBool result
+            ((go : Thing → Effect) → put_in_object self.old (of_class class.now id.now) value go ≡ go self.new)
+            ((go : Thing → Effect) → put_in_object self.old (of_class class.now id.now) value go ≡ Effects.Stick) }
+        ensures same { result ≡ false → self.new ≡ self.old }
+    {
+        match &mut self.body {
+            Body::Array { .. } => false,
+            Body::Object { fresh, values, .. } => put_value(fresh, values, class, id, value),
+        }
+    }
+
+    /// What it holds, beside its type.
+    pub fn parts(&self) -> Parts<'_>
+        ensures parts { self.now ≡ thing_by (type_of self.now) result }
+        ensures sound { AreSound result }
+    {
+        match &self.body {
+            Body::Array { items, .. } => Parts::Items(items.as_slice()),
+            Body::Object { fresh, values, .. } => Parts::Fields(fresh, values.as_slice()),
         }
     }
 }
@@ -159,9 +227,9 @@ fn first_values(alloc: Global, fresh: &[FieldValue]) -> Result<Vec<Value>, NoMem
     Ok(values)
 }
 
-// The same, as the fields of an object that has them.
+/// The same, as the fields of an object that has them.
 #[tactic(auto, using(crate::proofs::Fields::fields_own, crate::proofs::Fields::as_many))]
-fn fresh_values(alloc: Global, fresh: &[FieldValue]) -> Result<Vec<Value>, NoMemory>
+pub(crate) fn fresh_values(alloc: Global, fresh: &[FieldValue]) -> Result<Vec<Value>, NoMemory>
     ensures fields { IfOk result (λ values. fields_with fresh.now values.items ≡ fresh.now) }
     ensures len { IfOk result (λ values. length values.items ≡ length fresh.now) }
 {

@@ -1,0 +1,55 @@
+//! getstatic and putstatic (Java Virtual Machine Specification, 6.5).
+
+ghost use Rattle.std.specs.Prelude.{◌≡◌, ◌<◌, length, Some, IfOk, option_map};
+ghost use Rattle.cjc_by_name.specs.Linked.{Static};
+ghost use Rattle.cjc_by_name.specs.OnePackage.{of_class};
+ghost use Rattle.cjc_by_name.specs.Effects.{static_get, static_put};
+ghost use Rattle.cjc_jvm.specs.Names.{field_of};
+ghost use Rattle.cjc_jvm.specs.Rows.{FollowsIn};
+
+use crate::lookups::ResolvedField;
+use cjc_bytes::{MemberId, NoMemory};
+use cjc_frame::{Activation, Deed};
+use cjc_heap::Statics;
+
+/// getstatic, by the class that declares the field.
+pub fn get_static<'a>(
+    frame: &mut Activation<'a>,
+    statics: &Statics<'a>,
+    class: &[u8],
+    id: &MemberId,
+) -> Result<Deed<'a>, NoMemory>
+    requires { frame.old.at < length frame.old.method.insns }
+    ensures { IfOk result (λ deed. FollowsIn (λ l m at locals store. static_get l m at locals store (Some (Static (of_class class.now id.now)))) deed frame.old frame.new statics.now statics.now) }
+{
+    match statics.value(class, id) {
+        Some(value) => Ok(frame.push(value)?),
+        None => Ok(Deed::Stick),
+    }
+}
+
+/// putstatic of a field that is found, or is not.
+pub fn put_static<'a>(
+    frame: &mut Activation<'a>,
+    statics: &mut Statics<'a>,
+    field: Option<ResolvedField<'_>>,
+    id: &MemberId,
+) -> Deed<'a>
+    requires { frame.old.at < length frame.old.method.insns }
+    ensures { FollowsIn (λ l m at locals store. static_put l m at locals store (option_map (λ f. field_of f id.now) field.entry)) result frame.old frame.new statics.old statics.new }
+{
+    let Some(ResolvedField::Static(class)) = field else {
+        return Deed::Stick;
+    };
+    match frame.value() {
+        Some(value) => {
+            if statics.put(class, id, value) {
+                frame.pass(1);
+                Deed::Go
+            } else {
+                Deed::Stick
+            }
+        }
+        None => Deed::Stick,
+    }
+}
