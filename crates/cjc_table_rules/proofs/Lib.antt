@@ -9,4 +9,5 @@ pub mod Rows
 pub mod Plain
 pub mod Values
 pub mod Returns
+pub mod Resolved
 pub mod Points

@@ -159,7 +159,7 @@ exactly_is z h = clip_fits full (span z z) (record { low = h.above; high = h.bel
 short_is_word : (z : ℤ) → Holds short_range z → Holds full z
 short_is_word z h = let a = h.above in let b = h.below in record { above = omega (arith, ints, a); below = omega (arith, ints, b) }
 
-itself : (z : ℤ) → Holds (span z z) z
+pub itself : (z : ℤ) → Holds (span z z) z
 itself z = record { above = omega (arith, ints); below = omega (arith, ints) }
 
 -- ---- targets

@@ -1,9 +1,11 @@
 -- At a point of the table both tables have a row.
 use Rattle.std.proofs.Common.{◌≡◌, ℕ, refl, sym, subst, List, slice_get, Option, Some, None}
 use Rattle.cjc_code.specs.declared.insn.JInsn.{JInsn}
+use Rattle.cjc_code.specs.declared.insn.JOp.TheVariants as jop
 use Rattle.cjc_fixpoint.specs.Tables.{HasRow}
 use Rattle.cjc_world.specs.Classes.{Class}
 use Rattle.cjc_types.specs.declared.state.Stack.TheVariants as stacks
+use Rattle.cjc_types.specs.declared.cell.Cell.{Cell}
 use Rattle.cjc_types.specs.declared.state.State.{State}
 use Rattle.cjc_types.specs.Search.{cells_of}
 use Rattle.cjc_ncode.specs.ByLabel.{Named}
@@ -12,11 +14,13 @@ use Rattle.cjc_range_flow.specs.Frames.{RangeState}
 use Rattle.cjc_shrink.specs.Tables.{Point}
 use Rattle.cjc_shrink.specs.Runs.{Rule}
 use Rattle.cjc_table_rules.specs.Kinds.{point_of, point_where}
-use Rattle.cjc_table_rules.specs.Analysis.{Analysis, IsDecoded, IsSound, IsRead, CatchesAreTold, table_of}
-use Rattle.cjc_table_rules.specs.Supported.{IsPlain}
+use Rattle.cjc_table_rules.specs.Analysis.{Analysis, IsDecoded, IsSound, IsRead, CatchesAreTold, TypesAreTold, IsGiven, table_of}
+use Rattle.cjc_table_rules.specs.Supported.{IsPlain, IsReturn, ireturn, areturn, returns}
+use Rattle.cjc_table_rules.specs.Names.{IsResolved}
 use Rattle.cjc_table_rules.proofs.Arrivals.{is_cells}
 use Rattle.cjc_table_rules.proofs.Plain.{keeps}
-use Rattle.cjc_table_rules.proofs.Returns.{plain_return}
+use Rattle.cjc_table_rules.proofs.Returns.{number_return, reference_return, plain_return}
+use Rattle.cjc_table_rules.proofs.Resolved.{resolved}
 
 -- both rows of a point, the stack of types being no clash
 record IsPointOf (l : Named) (types : Option (Option State)) (ranges : Option (Option RangeState)) (p : Point) : Type 0 where
@@ -33,13 +37,30 @@ point_from l (Some (Some t)) None p e = cc
 point_from l (Some (Some t)) (Some None) p e = cc
 point_from l (Some (Some t)) (Some (Some x)) p e = record { typed = t; has_types = refl; ranged = x; has_ranges = refl; is = (let same : point_of l t x ≡ p = cc in sym same) }
 
-pub plain_rule : (by : Linked) (l : Named) (w : List Class) (a : Analysis) (m : Method) → IsRead a m → IsDecoded (let f = a.found m in f.body) → IsSound w (let r = a.resolution m in r.constant) (a.found m) → CatchesAreTold by l a m
-    → (at : ℕ) (i : JInsn) (p : Point) → slice_get (let f = a.found m in let b = f.body in b.insns) at ≡ Some i → (let tb = table_of l a in tb.point m at ≡ Some p) → IsPlain i.op → Rule by l (table_of l a) m at p i
-plain_rule by l w a m read decoded sound told at i p there known is =
-    let h = point_from l (slice_get (let f = a.found m in f.types) at) (slice_get (let f = a.found m in f.ranges) at) p known in
-    let t = h.typed in
-    let x = h.ranged in
-    let cells = is_cells l w (let r = a.resolution m in r.constant) (a.found m) sound at t h.has_types in
-    let whole : HasRow (let f = a.found m in f.types) at (record { stack = stacks.Cells (cells_of t.stack); locals = t.locals }) = subst (λ s. HasRow (let f = a.found m in f.types) at (record { stack = s; locals = t.locals })) cells h.has_types in
-    subst (λ q. Rule by l (table_of l a) m at q i) (sym h.is)
-    (keeps by l w a m read decoded sound told at i.at (cells_of t.stack) t.locals x h.has_ranges whole i.op is there)
+module _ (by : Linked) (l : Named) (w : List Class) (a : Analysis) (m : Method) (read : IsRead a m) (decoded : IsDecoded (let f = a.found m in f.body)) (sound : IsSound w (let r = a.resolution m in r.constant) (a.found m)) (told : CatchesAreTold by l a m) where
+  -- what holds at each pair of rows holds at a point
+  at_point : (at : ℕ) (i : JInsn) (p : Point) → (let tb = table_of l a in tb.point m at ≡ Some p)
+      → ((cells local_cells : List Cell) (x : RangeState) → (ranged : HasRow (let f = a.found m in f.ranges) at x) → HasRow (let f = a.found m in f.types) at (record { stack = stacks.Cells cells; locals = local_cells }) → Rule by l (table_of l a) m at (point_of l (record { stack = stacks.Cells cells; locals = local_cells }) x) i) → Rule by l (table_of l a) m at p i
+  at_point at i p known go =
+      let h = point_from l (slice_get (let f = a.found m in f.types) at) (slice_get (let f = a.found m in f.ranges) at) p known in
+      let t = h.typed in
+      let cells = is_cells l w (let r = a.resolution m in r.constant) (a.found m) sound at t h.has_types in
+      let whole : HasRow (let f = a.found m in f.types) at (record { stack = stacks.Cells (cells_of t.stack); locals = t.locals }) = subst (λ s. HasRow (let f = a.found m in f.types) at (record { stack = s; locals = t.locals })) cells h.has_types in
+      subst (λ q. Rule by l (table_of l a) m at q i) (sym h.is) (go (cells_of t.stack) t.locals h.ranged h.has_ranges whole)
+
+  pub plain_rule : (at : ℕ) (i : JInsn) (p : Point) → slice_get (let f = a.found m in let b = f.body in b.insns) at ≡ Some i → (let tb = table_of l a in tb.point m at ≡ Some p) → IsPlain i.op → Rule by l (table_of l a) m at p i
+  plain_rule at i p there known is =
+      at_point at i p known (λ cells local_cells x ranged row. keeps by l w a m read decoded sound told at i.at cells local_cells x ranged row i.op is there)
+
+  pub resolved_rule : TypesAreTold w l → (at : ℕ) (i : JInsn) (p : Point) → slice_get (let f = a.found m in let b = f.body in b.insns) at ≡ Some i → (let tb = table_of l a in tb.point m at ≡ Some p) → ((t : State) → HasRow (let f = a.found m in f.types) at t → IsResolved by l (a.resolution m) m (cells_of t.stack) i.op) → Rule by l (table_of l a) m at p i
+  resolved_rule types at i p there known is =
+      at_point at i p known (λ cells local_cells x ranged row. resolved by l w a m read decoded sound told types at i.at cells local_cells x ranged row i.op (is (record { stack = stacks.Cells cells; locals = local_cells }) row) there)
+
+  -- the opcode is one of the three returns
+  pub return_rule : TypesAreTold w l → IsGiven l a m → (at offset opcode : ℕ) (p : Point) → slice_get (let f = a.found m in let b = f.body in b.insns) at ≡ Some (record { at = offset; op = jop.Return opcode }) → (let tb = table_of l a in tb.point m at ≡ Some p) → IsReturn opcode → Rule by l (table_of l a) m at p (record { at = offset; op = jop.Return opcode })
+  return_rule types given at offset _ p there known ireturn =
+      at_point at _ p known (λ cells local_cells x ranged row. number_return by l w a m read decoded sound told types given at offset cells local_cells x ranged row there)
+  return_rule types given at offset _ p there known areturn =
+      at_point at _ p known (λ cells local_cells x ranged row. reference_return by l w a m read decoded sound told types given at offset cells local_cells x ranged row there)
+  return_rule types given at offset _ p there known returns =
+      at_point at _ p known (λ cells local_cells x ranged row. plain_return by l w a m read decoded sound told types given at offset cells local_cells x ranged row there)

@@ -1,5 +1,5 @@
 -- Rows of instructions that name nothing keep their rules, by both tables.
-use Rattle.std.proofs.Common.{◌≡◌, ◌<◌, ◌+◌, ℕ, suc, true, List, [], ◌∷◌, ◌++◌, length, take, drop, slice_get, Option, Some, sym, ap, subst, ◌∙◌, arith}
+use Rattle.std.proofs.Common.{◌≡◌, refl, ◌<◌, ◌+◌, ℕ, suc, true, List, [], ◌∷◌, ◌++◌, length, take, drop, slice_get, Option, Some, sym, ap, subst, ◌∙◌, arith}
 use Rattle.std.specs.Prelude.{◌≢◌}
 use Rattle.std.specs.List.{Contains}
 use Rattle.cjc_range.specs.Span.{Span}
@@ -21,7 +21,8 @@ use Rattle.cjc_script.specs.declared.value.Value.{Value}
 use Rattle.cjc_ncode.specs.Written.{written}
 use Rattle.cjc_ncode.specs.ByLabel.{Named}
 use Rattle.cjc_by_name.specs.Linked.{Method, Linked}
-use Rattle.cjc_shrink.specs.Relation.{Kind}
+use Rattle.cjc_range.proofs.Order.{within_refl, within_trans}
+use Rattle.cjc_shrink.specs.Relation.{Kind, Range, Refers, Free, Away, Wider, more_numbers, more_types, number_free, reference_free, free_free, away, AllWider, none_wider, one_wider}
 use Rattle.cjc_shrink.specs.Rows.{HasRoom, RowAgrees, RowOnLocals, IsNotWritten}
 use Rattle.cjc_shrink.specs.Jumps.{JumpAgrees}
 use Rattle.cjc_shrink.specs.Switches.{TwoAgree}
@@ -36,6 +37,40 @@ use Rattle.cjc_table_rules.proofs.Told.{kinds_length, before_is, behind_is}
 use Rattle.cjc_table_rules.proofs.Arrivals.{is_typed, leads_on}
 use Rattle.cjc_table_rules.proofs.Placed.{size_fixed}
 use Rattle.cjc_table_rules.proofs.Methods.{tb, GoesTo, written_at, arrives, follows, next_spot, target_there, leads, catches}
+
+-- ---- orders of kinds
+
+wider_itself : (k : Kind) → Wider k k
+wider_itself (Range s) = more_numbers (within_refl s)
+wider_itself (Refers within) = more_types (λ kind e. e)
+wider_itself Free = free_free
+wider_itself (Away k) = away (wider_itself k)
+
+all_wider_itself : (ks : List Kind) → AllWider ks ks
+all_wider_itself [] = none_wider
+all_wider_itself (k ∷ ks) = one_wider (wider_itself k) (all_wider_itself ks)
+
+wider_append : {ks js is hs : List Kind} → AllWider ks js → AllWider is hs → AllWider (ks ++ is) (js ++ hs)
+wider_append none_wider q = q
+wider_append (one_wider w more) q = one_wider w (wider_append more q)
+
+wider_through : {a b c : Kind} → Wider a b → Wider b c → Wider a c
+wider_through (more_numbers {s = s} {t = t} h) (more_numbers {t = u} k) = more_numbers (within_trans s t u h k)
+wider_through (more_numbers h) number_free = number_free
+wider_through (more_types f) (more_types g) = more_types (λ kind e. g kind (f kind e))
+wider_through (more_types f) reference_free = reference_free
+wider_through number_free free_free = number_free
+wider_through reference_free free_free = reference_free
+wider_through free_free free_free = free_free
+wider_through (away p) (away q) = away (wider_through p q)
+
+all_wider_through : {ks js is : List Kind} → AllWider ks js → AllWider js is → AllWider ks is
+all_wider_through none_wider none_wider = none_wider
+all_wider_through (one_wider p ps) (one_wider q qs) = one_wider (wider_through p q) (all_wider_through ps qs)
+
+lengths_alike : {ks js : List Kind} → AllWider ks js → length ks ≡ length js
+lengths_alike none_wider = refl
+lengths_alike (one_wider w more) = ap suc (lengths_alike more)
 
 module _ (by : Linked) (l : Named) (w : List Class) (a : Analysis) (m : Method) (read : IsRead a m) (decoded : IsDecoded (let f = a.found m in f.body)) (sound : IsSound w (let r = a.resolution m in r.constant) (a.found m)) (told : CatchesAreTold by l a m)
     (at offset : ℕ) (op : JOp) (t : State) (x : RangeState) (there : slice_get (let f = a.found m in let b = f.body in b.insns) at ≡ Some (record { at = offset; op = op })) (row : HasRow (let f = a.found m in f.types) at t) (ranged : HasRow (let f = a.found m in f.ranges) at x) where
@@ -198,3 +233,21 @@ module _ (by : Linked) (l : Named) (w : List Class) (a : Analysis) (m : Method) 
       two_rule by l (tb by l w a m read decoded sound) m at (point_of l t x) insn_here before rest (targets op) insn second is (first_there insn (second ∷ []) is) (second_there insn second is) agrees stack_before
       (λ o among. subst (λ ks. Arrives (tb by l w a m read decoded sound) m (place m.insns o) (written_place (tb by l w a m read decoded sound) m o) ks locals) nothing (lands same kept o among))
       (λ ls after' store new' vs stack e. (let j = only ls after' store new' vs stack e in subst (λ k. Arrives (tb by l w a m read decoded sound) m (at + 1) k rest locals) far (subst (λ ks. Arrives (tb by l w a m read decoded sound) m (at + 1) (spot (tb by l w a m read decoded sound) m at + 2) ks locals) nothing (lands_behind 2 long same kept j.0 j.1 j.2))))
+
+  -- ---- what is left is known as less
+
+  -- one instruction is written, which leaves cells of which more is known
+  pub wider_row_by : op ≢ jop.Throw → goes_on op ≡ true → (insn : NInsn) → written (a.resolution m) (written_place (tb by l w a m read decoded sound) m) op ≡ insn ∷ [] → length given ≡ length new → locals_behind ≡ locals → (left : List Kind) → AllWider left after → RowAgrees by l (a.resolution m) m op before left → Keeps
+  wider_row_by calm goes insn is same kept left wider agrees =
+      let long : length (written (a.resolution m) (written_place (tb by l w a m read decoded sound) m) op) ≡ 1 = ap length is in
+      let high = roomy same in
+      let by_name = high.by_name in
+      let narrow = high.narrow in
+      let sizes = lengths_alike (wider_append wider (all_wider_itself rest)) in
+      let there_on = subst (λ ls. GoesTo by l w a m read decoded sound (at + 1) (after ++ rest) ls) kept (on same (at + 1) (follows by l w a m read decoded sound at insn_here there goes)) in
+      row_rule by l (tb by l w a m read decoded sound) m at (point_of l t x) insn_here before left rest insn is (first_there insn [] is) agrees stack_before
+      (record { by_name = omega (arith, by_name, sizes); narrow = omega (arith, narrow, sizes) })
+      (λ locals store vs object. never_tosses by m at locals store op calm vs object)
+      (arrives by l w a m read decoded sound (at + 1) (spot (tb by l w a m read decoded sound) m at + 1) (left ++ rest) locals
+      (record { point = there_on.point; is = there_on.is; stack = all_wider_through (wider_append wider (all_wider_itself rest)) there_on.stack; locals = there_on.locals; low = there_on.low }) (next_place_is 1 long goes))
+      (catches by l w a m read decoded sound told at insn_here t x there row ranged (some_written 0 long))

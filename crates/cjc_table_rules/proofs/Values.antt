@@ -1,24 +1,29 @@
 -- A cell that is a value of a type is one that a method, a field or a parameter of that type may be given.
 use Rattle.std.proofs.Common.{◌≡◌, ◌⊎◌, ℕ, Bool, true, false, ◌&&◌, ◌||◌, List, [], ◌∷◌, Option, Some, None, refl, sym, ap, subst, ◌∙◌, inl, inr}
+use Rattle.std.specs.Prelude.{if◌then◌else◌, ◌++◌}
 use Rattle.std.specs.List.{list_all}
 use Rattle.cjc_bytes.specs.Descriptor.{Part}
 use Rattle.cjc_bytes.specs.declared.names.Kind.{Kind as PartKind}
-use Rattle.cjc_bytes.specs.declared.names.Kind.TheVariants as kinds
+use Rattle.cjc_bytes.specs.declared.names.Kind.TheVariants as part_kinds
 use Rattle.cjc_range.specs.Span.{Span, Within, IsWord, short_range, byte_range, full}
-use Rattle.cjc_script.specs.Sorts.{Shape, Sort, shape_name, shape_named, sort_by, sort_of, reference_to, result_by}
+use Rattle.cjc_script.specs.Sorts.{Shape, Sort, Boolean, Byte, Short, shape_name, shape_named, sort_by, sort_of, reference_to, result_by}
 use Rattle.cjc_world.specs.Classes.{Class}
 use Rattle.cjc_world.specs.Subtype.{is_subtype}
 use Rattle.cjc_types.specs.declared.cell.Cell.{Cell}
 use Rattle.cjc_types.specs.declared.cell.Cell.TheVariants.{Number, Refs, Unusable}
 use Rattle.cjc_types.specs.Names.{In}
+use Rattle.cjc_types.specs.Types.{is_void, cell_of, result_of}
+use Rattle.cjc_range.proofs.Order.{within_refl}
 use Rattle.cjc_types.specs.Rules.{is_number, all_types, is_of, is_value, is_value_of, returns}
 use Rattle.cjc_ncode.specs.ByLabel.{Named}
-use Rattle.cjc_range_flow.specs.Values.{boolean_range}
+use Rattle.cjc_range_flow.specs.Values.{boolean_range, range_of_kind, result_ranges}
 use Rattle.cjc_range_flow.specs.Bounds.{IsBoundOf, a_short, a_byte, a_boolean}
 use Rattle.cjc_shrink.specs.Relation.{Kind, Range, Refers, Wider, more_numbers, more_types, number_free, reference_free, free_free, AllWider, none_wider, one_wider}
-use Rattle.cjc_shrink.specs.Rows.{kind_of}
+use Rattle.cjc_shrink.specs.Rows.{kind_of, is_word_sort}
+use Rattle.cjc_shrink.specs.Cells.{MayBePut}
+use Rattle.cjc_shrink.specs.Cells as may
 use Rattle.cjc_shrink.specs.Replies.{is_of_some, result_kinds}
-use Rattle.cjc_table_rules.specs.Kinds.{is_named, is_one_of, kind_of_cell}
+use Rattle.cjc_table_rules.specs.Kinds.{is_named, is_one_of, kind_of_cell, kinds}
 use Rattle.cjc_table_rules.specs.Analysis.{TypesAreTold}
 use Rattle.cjc_table_rules.proofs.Told.{one_of_from}
 
@@ -84,23 +89,68 @@ module _ (w : List Class) (l : Named) (types : TypesAreTold w l) where
   value_wider p cell s e own bounds = go p.kind refl e
     where
       go : (k : PartKind) → p.kind ≡ k → is_value w k p.class cell ≡ true → Wider (kind_of_cell l cell s) (kind_of l (sort_by k p.class))
-      go kinds.Bool is e = number_wider cell s boolean_range e (bounds 609 boolean_range (a_boolean is))
-      go kinds.Byte is e = number_wider cell s byte_range e (bounds 608 byte_range (a_byte is))
-      go kinds.Short is e = number_wider cell s short_range e (bounds 607 short_range (a_short is))
-      go kinds.Int is e = number_wider cell s full e own.within
-      go kinds.Other is e = cc
-      go kinds.Ref is e = reference_wider p.class cell s e
-      go kinds.Void is e = cc
+      go part_kinds.Bool is e = number_wider cell s boolean_range e (bounds 609 boolean_range (a_boolean is))
+      go part_kinds.Byte is e = number_wider cell s byte_range e (bounds 608 byte_range (a_byte is))
+      go part_kinds.Short is e = number_wider cell s short_range e (bounds 607 short_range (a_short is))
+      go part_kinds.Int is e = number_wider cell s full e own.within
+      go part_kinds.Other is e = cc
+      go part_kinds.Ref is e = reference_wider p.class cell s e
+      go part_kinds.Void is e = cc
 
   -- what a return gives
   pub result_wider : (p : Part) (cell : Cell) (s : Span) → is_value_of w p cell ≡ true → IsWord s → ((rule : ℕ) (t : Span) → IsBoundOf p rule t → Within s t) → AllWider (kind_of_cell l cell s ∷ []) (result_kinds l (result_by p.kind p))
   result_wider p cell s e own bounds = go p.kind refl e
     where
       go : (k : PartKind) → p.kind ≡ k → is_value w k p.class cell ≡ true → AllWider (kind_of_cell l cell s ∷ []) (result_kinds l (result_by k p))
-      go kinds.Bool is h = one_wider (value_wider p cell s e own bounds) none_wider
-      go kinds.Byte is h = one_wider (value_wider p cell s e own bounds) none_wider
-      go kinds.Short is h = one_wider (value_wider p cell s e own bounds) none_wider
-      go kinds.Int is h = one_wider (value_wider p cell s e own bounds) none_wider
-      go kinds.Other is h = one_wider (value_wider p cell s e own bounds) none_wider
-      go kinds.Ref is h = one_wider (value_wider p cell s e own bounds) none_wider
-      go kinds.Void is h = cc
+      go part_kinds.Bool is h = one_wider (value_wider p cell s e own bounds) none_wider
+      go part_kinds.Byte is h = one_wider (value_wider p cell s e own bounds) none_wider
+      go part_kinds.Short is h = one_wider (value_wider p cell s e own bounds) none_wider
+      go part_kinds.Int is h = one_wider (value_wider p cell s e own bounds) none_wider
+      go part_kinds.Other is h = one_wider (value_wider p cell s e own bounds) none_wider
+      go part_kinds.Ref is h = one_wider (value_wider p cell s e own bounds) none_wider
+      go part_kinds.Void is h = cc
+
+-- ---- what is given
+
+-- what a field holds or a call gives is known as its type says
+pub given_wider : (l : Named) (p : Part) (rest : List Span) → is_word_sort (sort_of p) ≡ true → AllWider (kind_of l (sort_of p) ∷ []) (kinds l (result_of p) (result_ranges p ++ rest))
+given_wider l p rest word = go p.kind word
+  where
+    go : (k : PartKind) → is_word_sort (sort_by k p.class) ≡ true → AllWider (kind_of l (sort_by k p.class) ∷ []) (kinds l (if is_void k then [] else cell_of k p.class ∷ []) ((if is_void k then [] else range_of_kind k ∷ []) ++ rest))
+    go part_kinds.Bool word = one_wider (more_numbers (within_refl boolean_range)) none_wider
+    go part_kinds.Byte word = one_wider (more_numbers (within_refl byte_range)) none_wider
+    go part_kinds.Short word = one_wider (more_numbers (within_refl short_range)) none_wider
+    go part_kinds.Int word = cc
+    go part_kinds.Other word = cc
+    go part_kinds.Ref word = by_shape (shape_named p.class) refl word
+      where
+        by_shape : (o : Option (Shape (List ℕ))) → shape_named p.class ≡ o → is_word_sort (reference_to o) ≡ true → AllWider (kind_of l (reference_to o) ∷ []) (Refers (is_one_of l (p.class ∷ [])) ∷ [])
+        by_shape None named word = cc
+        by_shape (Some shape) named word = one_wider (more_types (λ kind is. ap (λ o. is_of_some l kind o || false) named ∙ ap (λ b. b || false) is)) none_wider
+    go part_kinds.Void word = cc
+
+-- ---- what may be put
+
+module _ (w : List Class) (l : Named) (types : TypesAreTold w l) where
+  pub may_put : (p : Part) (cell : Cell) (s : Span) → is_word_sort (sort_of p) ≡ true → is_value_of w p cell ≡ true → ((rule : ℕ) (t : Span) → IsBoundOf p rule t → Within s t) → MayBePut l (sort_of p) (kind_of_cell l cell s)
+  may_put p cell s word e bounds = go p.kind refl word e
+    where
+      number : (sort : Sort) (cell : Cell) → is_number cell ≡ true → MayBePut l sort (Range s) → MayBePut l sort (kind_of_cell l cell s)
+      number sort Number e h = h
+      number sort (Refs names) e h = cc
+      number sort Unusable e h = cc
+
+      reference : (o : Option (Shape (List ℕ))) → shape_named p.class ≡ o → is_word_sort (reference_to o) ≡ true → (cell : Cell) → is_of w p.class cell ≡ true → MayBePut l (reference_to o) (kind_of_cell l cell s)
+      reference None named word cell e = cc
+      reference (Some shape) named word Number e = cc
+      reference (Some shape) named word Unusable e = cc
+      reference (Some shape) named word (Refs names) e = may.a_reference (passes w l types p.class shape named names e)
+
+      go : (k : PartKind) → p.kind ≡ k → is_word_sort (sort_by k p.class) ≡ true → is_value w k p.class cell ≡ true → MayBePut l (sort_by k p.class) (kind_of_cell l cell s)
+      go part_kinds.Bool is word e = number Boolean cell e (may.a_boolean (bounds 609 boolean_range (a_boolean is)))
+      go part_kinds.Byte is word e = number Byte cell e (may.a_byte (bounds 608 byte_range (a_byte is)))
+      go part_kinds.Short is word e = number Short cell e (may.a_short (bounds 607 short_range (a_short is)))
+      go part_kinds.Int is word e = cc
+      go part_kinds.Other is word e = cc
+      go part_kinds.Ref is word e = reference (shape_named p.class) refl word cell e
+      go part_kinds.Void is word e = cc

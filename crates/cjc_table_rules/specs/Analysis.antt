@@ -94,9 +94,11 @@ pub record CatchesAreTold (by : Linked) (l : Named) (a : Analysis) (m : Method) 
   pub throwable : (kind : Shape (List ℕ)) → a.may_throw kind ≡ true → l.is_of kind (OfClass (codes "java/lang/Throwable")) ≡ true
   pub named : (c : Catch) (class : List ℕ) → Contains m.catches c → c.class ≡ Some class → shape_named class ≡ Some (OfClass class)
 
--- What is of a type is told alike by the machine's look-ups and by subtypes of names, and what is below a subtype is below its supertype.
+-- What is of a type is told alike by the machine's look-ups and by subtypes of names; a name is below itself, and what is below a subtype is
+-- below its supertype.
 pub record TypesAreTold (w : List Class) (l : Named) : Type 0 where
   pub tells : (name : List ℕ) (shape : Shape (List ℕ)) → shape_named name ≡ Some shape → (kind : Shape (List ℕ)) → l.is_of kind shape ≡ is_subtype w (shape_name kind) name
+  pub itself : (x : List ℕ) → is_subtype w x x ≡ true
   pub through : (x y z : List ℕ) → is_subtype w x y ≡ true → is_subtype w y z ≡ true → is_subtype w x z ≡ true
 
 -- The callers of a method are given what its descriptor says.

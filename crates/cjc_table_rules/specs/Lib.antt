@@ -1,3 +1,4 @@
 pub mod Kinds
 pub mod Analysis
 pub mod Supported
+pub mod Names

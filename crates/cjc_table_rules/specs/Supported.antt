@@ -57,3 +57,9 @@ pub data IsPlain : JOp → Type 0 where
   goto : {target : ℕ} → IsPlain (jop.Goto target)
   tableswitch : {other : ℕ} {low : ℤ} {targets : List ℕ} → IsPlain (jop.TableSwitch other low targets)
   lookupswitch : {other : ℕ} {cases : List JCase} → IsPlain (jop.LookupSwitch other cases)
+
+-- ireturn, areturn and return
+pub data IsReturn : (opcode : ℕ) → Type 0 where
+  ireturn : IsReturn 0xAC
+  areturn : IsReturn 0xB0
+  returns : IsReturn 0xB1

@@ -18,8 +18,11 @@ ghost use Rattle.cjc_world.specs.Classes.{Class};
 ghost use Rattle.cjc_ncode.specs.ByLabel.{Named};
 ghost use Rattle.cjc_shrink.specs.Tables.{Point};
 ghost use Rattle.cjc_shrink.specs.Runs.{Rule};
-ghost use Rattle.cjc_table_rules.specs.Analysis.{Analysis, Ascend, IsDecoded, IsSound, IsRead, CatchesAreTold, table_of};
-ghost use Rattle.cjc_table_rules.specs.Supported.{IsPlain};
+ghost use Rattle.cjc_table_rules.specs.Analysis.{Analysis, Ascend, IsDecoded, IsSound, IsRead, CatchesAreTold, TypesAreTold, IsGiven, table_of};
+ghost use Rattle.cjc_table_rules.specs.Supported.{IsPlain, IsReturn};
+ghost use Rattle.cjc_table_rules.specs.Names.{IsResolved};
+ghost use Rattle.cjc_fixpoint.specs.Tables.{HasRow};
+ghost use Rattle.cjc_types.specs.Search.{cells_of};
 
 /// No instruction of a class file but athrow throws what is on the stack.
 pub fn only_athrow_throws()
@@ -34,9 +37,12 @@ pub fn written_code_stands_in_order()
 {}
 
 /// In a method that was read as the machine by name has it, whose code is written from its least type table, and whose type table
-/// and range table are closed and break no rule, each reached instruction that names nothing keeps its rule: constants,
-/// loads, stores and increases of locals, the stack's instructions, all arithmetic, i2b and i2s, jumps and switches. Handlers
-/// are found there as whole runs ask, where types are told alike.
-pub fn plain_instructions_keep_rules()
-    ensures { (by : Linked) (l : Named) (w : List Class) (a : Analysis) (m : Method) → IsRead a m → IsDecoded (let f = a.found m in f.body) → IsSound w (let r = a.resolution m in r.constant) (a.found m) → CatchesAreTold by l a m → (at : ℕ) (i : JInsn) (p : Point) → slice_get (let f = a.found m in let b = f.body in b.insns) at ≡ Some i → (let tb = table_of l a in tb.point m at ≡ Some p) → IsPlain i.op → Rule by l (table_of l a) m at p i }
+/// and range table are closed and break no rule, reached instructions keep their rules. Those that name nothing: constants,
+/// loads, stores and increases of locals, the stack's instructions, all arithmetic, i2b and i2s, jumps and switches. Those whose
+/// field, static field, class or type is found alike: getfield to putstatic, new, newarray and anewarray, checkcast and instanceof. And
+/// returns, where callers are given what the descriptor says. Handlers are found there as whole runs ask, where types are told alike.
+pub fn instructions_keep_rules()
+    ensures plain { (by : Linked) (l : Named) (w : List Class) (a : Analysis) (m : Method) → IsRead a m → IsDecoded (let f = a.found m in f.body) → IsSound w (let r = a.resolution m in r.constant) (a.found m) → CatchesAreTold by l a m → (at : ℕ) (i : JInsn) (p : Point) → slice_get (let f = a.found m in let b = f.body in b.insns) at ≡ Some i → (let tb = table_of l a in tb.point m at ≡ Some p) → IsPlain i.op → Rule by l (table_of l a) m at p i }
+    ensures resolved { (by : Linked) (l : Named) (w : List Class) (a : Analysis) (m : Method) → IsRead a m → IsDecoded (let f = a.found m in f.body) → IsSound w (let r = a.resolution m in r.constant) (a.found m) → CatchesAreTold by l a m → TypesAreTold w l → (at : ℕ) (i : JInsn) (p : Point) → slice_get (let f = a.found m in let b = f.body in b.insns) at ≡ Some i → (let tb = table_of l a in tb.point m at ≡ Some p) → ((t : Typed) → HasRow (let f = a.found m in f.types) at t → IsResolved by l (a.resolution m) m (cells_of t.stack) i.op) → Rule by l (table_of l a) m at p i }
+    ensures returns { (by : Linked) (l : Named) (w : List Class) (a : Analysis) (m : Method) → IsRead a m → IsDecoded (let f = a.found m in f.body) → IsSound w (let r = a.resolution m in r.constant) (a.found m) → CatchesAreTold by l a m → TypesAreTold w l → IsGiven l a m → (at offset opcode : ℕ) (p : Point) → slice_get (let f = a.found m in let b = f.body in b.insns) at ≡ Some (record { at = offset; op = jop.Return opcode }) → (let tb = table_of l a in tb.point m at ≡ Some p) → IsReturn opcode → Rule by l (table_of l a) m at p (record { at = offset; op = jop.Return opcode }) }
 {}

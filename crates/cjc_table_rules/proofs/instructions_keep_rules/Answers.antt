@@ -1,0 +1,11 @@
+use Rattle.cjc_table_rules.proofs.Points.{plain_rule, resolved_rule, return_rule}
+use Rattle.cjc_table_rules.proofs.instructions_keep_rules.Goals as goal
+
+pub returns-clause-plain : goal.returns-clause-plain
+returns-clause-plain c = plain_rule
+
+pub returns-clause-resolved : goal.returns-clause-resolved
+returns-clause-resolved c = resolved_rule
+
+pub returns-clause-returns : goal.returns-clause-returns
+returns-clause-returns c = return_rule
