@@ -1,0 +1,3 @@
+mod Tests
+mod Sizes
+mod Starts

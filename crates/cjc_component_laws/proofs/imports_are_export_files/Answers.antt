@@ -1,0 +1,23 @@
+use Rattle.std.proofs.Common.{◌≡◌, ℕ, ◌+◌, ◌==◌, List, [], ◌∷◌, length, refl, ap, ◌∙◌}
+use Rattle.std.specs.Prelude.{map}
+use Rattle.std.proofs.lemmas.List.{length-map}
+use Rattle.cjc_export.specs.declared.tree.ExportTree.{ExportTree}
+use Rattle.cjc_sentences.specs.Spots.{in_info, beside}
+use Rattle.cjc_sentences.specs.Complete.{package_size}
+use Rattle.cjc_sentences.specs.Imports.{packages_agree}
+use Rattle.cjc_components.specs.Components.{imported_package}
+use Rattle.cjc_component_laws.proofs.Tests.{same_number, same_bytes, passes, none_in_both}
+use Rattle.cjc_component_laws.proofs.imports_are_export_files.Goals as goal
+
+all_agree : (at : ℕ) (exports : List ExportTree) → packages_agree at (map imported_package exports) exports ≡ []
+unfolding beside
+all_agree at [] = refl
+all_agree at (t ∷ exports) =
+    none_in_both (none_in_both (passes _ (in_info 4 (at + 1)) (same_number t.major)) (passes _ (in_info 4 (at + 2)) (same_bytes t.aid)))
+    (all_agree (at + package_size (imported_package t)) exports)
+
+pub returns : goal.returns
+returns c p =
+    let files = p.files in
+    none_in_both (passes _ (in_info 4 0) (ap (λ n. n == length files.exports) (length-map files.exports imported_package) ∙ same_number (length files.exports)))
+    (all_agree 1 files.exports)
