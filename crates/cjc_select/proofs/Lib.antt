@@ -1,0 +1,4 @@
+pub mod Forms
+pub mod Near
+pub mod Walks
+pub mod Whole

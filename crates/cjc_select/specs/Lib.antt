@@ -1,0 +1,3 @@
+pub mod Select
+pub mod Forms
+pub mod Working
