@@ -1,6 +1,6 @@
 -- The export file of a package (Java Card Virtual Machine Specification 2.2.2, chapter 5).
-use Rattle.std.specs.Prelude.{ℕ, ◌+◌, ◌-◌, ◌==◌, ◌&&◌, ◌||◌, List, [], ◌∷◌, ◌++◌, map, length, filter, unwrap_or, slice_get, bit_and, Bool, true, false, not, if◌then◌else◌, Option, Some, None, option_and_then, option_map}
-use Rattle.cjc_bytes.specs.AccessFlags.{is_interface, has, acc_super, acc_shareable}
+use Rattle.std.specs.Prelude.{ℕ, ◌+◌, ◌-◌, ◌&&◌, ◌||◌, List, [], ◌∷◌, ◌++◌, map, length, unwrap_or, bit_and, Bool, true, not, if◌then◌else◌, Option, Some, None, option_and_then, option_map}
+use Rattle.cjc_bytes.specs.AccessFlags.{is_interface, acc_super, acc_shareable}
 use Rattle.cjc_classfile.specs.declared.tree.FieldTree.{FieldTree}
 use Rattle.cjc_export.specs.declared.tree.ExportField.{ExportField}
 use Rattle.cjc_export.specs.declared.tree.ExportMethod.{ExportMethod}
@@ -11,10 +11,10 @@ use Rattle.cjc_world.specs.Classes.{Member, Class, class_at}
 use Rattle.cjc_world.specs.Added.{added}
 use Rattle.cjc_world.specs.Lookup.{member_at}
 use Rattle.cjc_supers.specs.Supers.{superclasses, interfaces}
-use Rattle.cjc_tokens.specs.Members.{Signature, same, has as is_among, is_exposed, is_initialiser, signatures}
+use Rattle.cjc_tokens.specs.Members.{Signature, has as is_among, is_exposed, is_initialiser, signatures}
 use Rattle.cjc_tokens.specs.Fields.{is_constant}
 use Rattle.cjc_tokens.specs.Lines.{line_at}
-use Rattle.cjc_tokens.specs.Slots.{Slots, slots, row}
+use Rattle.cjc_tokens.specs.Slots.{row}
 use Rattle.cjc_tokens.specs.Methods.{interface_methods, interface_row}
 use Rattle.cjc_tokens.specs.Tokens.{token_of_class}
 use Rattle.cjc_vtable.specs.Tables.{is_own}

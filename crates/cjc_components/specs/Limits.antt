@@ -1,9 +1,8 @@
 -- The limits of what is written for a package, and where each is broken.
-use Rattle.std.specs.Prelude.{ℕ, ◌+◌, ◌*◌, List, [], ◌∷◌, ◌++◌, map, flat_map, length, sum_by, slice_get, nat_lt, Bool, ◌||◌, if◌then◌else◌, Option, Some, None}
+use Rattle.std.specs.Prelude.{ℕ, ◌+◌, ◌*◌, List, [], ◌∷◌, ◌++◌, flat_map, length, sum_by, nat_lt, Bool, ◌||◌, if◌then◌else◌, Option, Some, None}
 use Rattle.cjc_bytes.specs.Breaks.{Break, Spot, at, broken_at, list_spot, class_spot, member_spot}
 use Rattle.cjc_bytes.specs.Order.{file_of}
 use Rattle.cjc_bytes.specs.Refused.{method_text}
-use Rattle.cjc_capread.specs.declared.tree.CapTree.{CapTree}
 use Rattle.cjc_capwrite.specs.Files.{ends_too_far, is_too_large, infos_of}
 use Rattle.cjc_export.specs.Written.{constants}
 use Rattle.cjc_world.specs.declared.found.Found.{Found}
