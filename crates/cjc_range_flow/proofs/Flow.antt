@@ -188,8 +188,8 @@ own_arguments b = All-append IsWord _ _ (go (is_static b.flags)) (All-map IsWord
     go true = All-nil IsWord
     go false = All-cons IsWord full [] word_full (All-nil IsWord)
 
-own_entry : (b : Body) (types : List (Option State)) → (states b.max_locals).Own (entry b types)
-own_entry b types = own_arrival b types 0 (first_state b) (
+pub own_first : (b : Body) → (states b.max_locals).Own (first_state b)
+own_first b = (
   record { few = omega arith; own = All-nil IsWord },
   record {
     sized =
@@ -200,6 +200,9 @@ own_entry b types = own_arrival b types 0 (first_state b) (
     own = All-take IsWord b.max_locals _ (All-append IsWord _ _ (own_arguments b) (All-replicate IsWord b.max_locals full word_full));
   },
 )
+
+own_entry : (b : Body) (types : List (Option State)) → (states b.max_locals).Own (entry b types)
+own_entry b types = own_arrival b types 0 (first_state b) (own_first b)
 
 pub range_laws : (b : Body) (constant : MemberId → Option ℤ) (types : List (Option State)) → IsLawful (range_flow b constant types)
 range_laws b constant types = flow_laws (states b.max_locals) (entry b types) (λ at x. place_edges b constant types at (slice_get b.insns at) (get_or types at None) x) (state_lattice b.max_locals) (own_entry b types)

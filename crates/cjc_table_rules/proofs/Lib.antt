@@ -10,4 +10,5 @@ pub mod Plain
 pub mod Values
 pub mod Returns
 pub mod Resolved
+pub mod Begins
 pub mod Points

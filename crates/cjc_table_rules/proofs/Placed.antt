@@ -131,6 +131,14 @@ module _ {A : Type 0} where
     none_of : (insns : List JInsn) (rows : List (Option A)) (o : ℕ) → ((k : ℕ) (i : JInsn) → slice_get insns k ≡ Some i → o ≤ i.at) → place_in r (reached insns rows) o ≡ 0
     none_of insns rows o h = none_before r (reached insns rows) o (λ k i e. let from = reached_from insns rows k i e in h from.0 i from.1)
 
+    -- the first instruction's place is the first
+    pub first_place : (insns : List JInsn) (rows : List (Option A)) → Ascend insns → (i : JInsn) → slice_get insns 0 ≡ Some i → place_in r (reached insns rows) i.at ≡ 0
+    first_place insns rows up i e = none_of insns rows i.at (λ k y h. from_first k y h)
+      where
+        from_first : (k : ℕ) (y : JInsn) → slice_get insns k ≡ Some y → i.at ≤ y.at
+        from_first zero y h = let same : i ≡ y = (let f : Some i ≡ Some y = sym e ∙ h in cc) in let at_same = ap (λ z. z.at) same in omega (arith, at_same)
+        from_first (suc k) y h = let lt = up 0 (suc k) i y e h (omega arith) in omega (arith, lt)
+
     -- What is written for a reached instruction stands at the place of its offset.
     pub stands_at : (p : ℕ → ℕ) (insns : List JInsn) (rows : List (Option A)) → Ascend insns → (at : ℕ) (i : JInsn) (row : A) → slice_get insns at ≡ Some i → slice_get rows at ≡ Some (Some row) → (j : ℕ) (insn : NInsn) → slice_get (written r p i.op) j ≡ Some insn
         → slice_get (flat_map (λ i. written r p i.op) (reached insns rows)) (place_in r (reached insns rows) i.at + j) ≡ Some insn

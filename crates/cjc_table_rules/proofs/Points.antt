@@ -14,13 +14,14 @@ use Rattle.cjc_range_flow.specs.Frames.{RangeState}
 use Rattle.cjc_shrink.specs.Tables.{Point}
 use Rattle.cjc_shrink.specs.Runs.{Rule}
 use Rattle.cjc_table_rules.specs.Kinds.{point_of, point_where}
-use Rattle.cjc_table_rules.specs.Analysis.{Analysis, IsDecoded, IsSound, IsRead, CatchesAreTold, TypesAreTold, IsGiven, table_of}
+use Rattle.cjc_table_rules.specs.Analysis.{Analysis, IsDecoded, IsSound, IsRead, CatchesAreTold, TypesAreTold, IsGiven, ThrowablesMay, table_of}
 use Rattle.cjc_table_rules.specs.Supported.{IsPlain, IsReturn, ireturn, areturn, returns}
 use Rattle.cjc_table_rules.specs.Names.{IsResolved}
 use Rattle.cjc_table_rules.proofs.Arrivals.{is_cells}
 use Rattle.cjc_table_rules.proofs.Plain.{keeps}
 use Rattle.cjc_table_rules.proofs.Returns.{number_return, reference_return, plain_return}
 use Rattle.cjc_table_rules.proofs.Resolved.{resolved}
+use Rattle.cjc_table_rules.proofs.Begins.{throws_on}
 
 -- both rows of a point, the stack of types being no clash
 record IsPointOf (l : Named) (types : Option (Option State)) (ranges : Option (Option RangeState)) (p : Point) : Type 0 where
@@ -64,3 +65,7 @@ module _ (by : Linked) (l : Named) (w : List Class) (a : Analysis) (m : Method) 
       at_point at _ p known (λ cells local_cells x ranged row. reference_return by l w a m read decoded sound told types given at offset cells local_cells x ranged row there)
   return_rule types given at offset _ p there known returns =
       at_point at _ p known (λ cells local_cells x ranged row. plain_return by l w a m read decoded sound told types given at offset cells local_cells x ranged row there)
+
+  pub throw_rule : TypesAreTold w l → ThrowablesMay l a → (at offset : ℕ) (p : Point) → slice_get (let f = a.found m in let b = f.body in b.insns) at ≡ Some (record { at = offset; op = jop.Throw }) → (let tb = table_of l a in tb.point m at ≡ Some p) → Rule by l (table_of l a) m at p (record { at = offset; op = jop.Throw })
+  throw_rule types may at offset p there known =
+      at_point at _ p known (λ cells local_cells x ranged row. throws_on by l w a m read decoded sound told types may at offset cells local_cells x ranged row there)

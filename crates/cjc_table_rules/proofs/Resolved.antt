@@ -42,7 +42,7 @@ use Rattle.cjc_table_rules.proofs.Values.{given_wider, may_put}
 use Rattle.cjc_table_rules.proofs.Rows.{row_by, wider_row_by}
 use Rattle.cjc_table_rules.proofs.Plain.{t, Stands, IsRow, Keeps, typed_here, within, number_at, reference_at, one_number, one_reference, taken_one, taken_two, exactly_is, itself}
 
-of_reference : (w : List Class) (class : List ℕ) (c : Cell) → is_of w class c ≡ true → (names : List (List ℕ)) × (c ≡ Refs names)
+pub of_reference : (w : List Class) (class : List ℕ) (c : Cell) → is_of w class c ≡ true → (names : List (List ℕ)) × (c ≡ Refs names)
 of_reference w class Number e = cc
 of_reference w class (Refs names) e = (names, refl)
 of_reference w class Unusable e = cc

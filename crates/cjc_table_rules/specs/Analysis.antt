@@ -10,11 +10,12 @@ use Rattle.cjc_world.specs.Subtype.{is_subtype}
 use Rattle.cjc_types.specs.declared.state.State.{State}
 use Rattle.cjc_types.specs.Steps.{goes_on, targets}
 use Rattle.cjc_types.specs.Types.{parts}
-use Rattle.cjc_types.specs.Flow.{Body}
+use Rattle.cjc_types.specs.Flow.{Body, arguments}
 use Rattle.cjc_types.specs.Tables as typed
 use Rattle.cjc_type_laws.specs.Closed.{IsClosedTable}
 use Rattle.cjc_type_laws.specs.Places.{HasPlace, local_of}
 use Rattle.cjc_range_flow.specs.Frames.{RangeState}
+use Rattle.cjc_range_flow.specs.Flow.{argument_ranges}
 use Rattle.cjc_range_flow.specs.Tables.{IsClosedRanges, Passes}
 use Rattle.cjc_bytecode.specs.Machine.{Start}
 use Rattle.cjc_ncode.specs.declared.narrow.NMethod.{NMethod}
@@ -24,7 +25,7 @@ use Rattle.cjc_by_name.specs.Linked.{Method, Linked}
 use Rattle.cjc_shrink.specs.Relation.{Kind}
 use Rattle.cjc_shrink.specs.Replies.{result_kinds}
 use Rattle.cjc_shrink.specs.Tables.{Table, class_of_code}
-use Rattle.cjc_table_rules.specs.Kinds.{point_at}
+use Rattle.cjc_table_rules.specs.Kinds.{kinds, point_at}
 
 -- what is read of a method, and its tables
 pub record Found : Type 0 where
@@ -83,7 +84,9 @@ pub record IsRead (a : Analysis) (m : Method) : Type 0 where
   pub insns : m.insns ≡ (let f = a.found m in let b = f.body in b.insns)
   pub catches : m.catches ≡ (let f = a.found m in let b = f.body in b.catches)
   pub max_stack : m.max_stack ≡ (let f = a.found m in let b = f.body in b.max_stack)
+  pub max_locals : m.max_locals ≡ (let f = a.found m in let b = f.body in b.max_locals)
   pub class : class_of_code m ≡ (let f = a.found m in let b = f.body in b.class)
+  pub begins : (let s = a.narrowed m in s.at) ≡ 0
   pub code : (let s = a.narrowed m in let n = s.code in n.insns) ≡ narrow_code (a.resolution m) (reached_in (a.found m))
   pub handlers : (let s = a.narrowed m in let n = s.code in n.catches) ≡ catches_at (place_in (a.resolution m) (reached_in (a.found m))) m.catches
   pub narrow_max_stack : (let s = a.narrowed m in let n = s.code in n.max_stack) ≡ m.max_stack
@@ -104,3 +107,16 @@ pub record TypesAreTold (w : List Class) (l : Named) : Type 0 where
 -- The callers of a method are given what its descriptor says.
 abbrev pub IsGiven : Named → Analysis → Method → Type 0
 IsGiven l a m = a.results m ≡ result_kinds l (let f = a.found m in let b = f.body in let p = (parts b.desc).result in result_by p.kind p)
+
+-- what a method begins with: its receiver, where it has one, and its parameters, as its descriptor says
+abbrev pub declared_kinds : Named → Body → List Kind
+declared_kinds l b = kinds l (arguments b) (argument_ranges b)
+
+-- It has an instruction, and its locals have room for what it begins with.
+pub record HasRoomToBegin (b : Body) : Type 0 where
+  pub some : 0 < length b.insns
+  pub room : length (arguments b) ≤ b.max_locals
+
+-- An exception may be thrown where it is a java/lang/Throwable.
+abbrev pub ThrowablesMay : Named → Analysis → Type 0
+ThrowablesMay l a = (kind : Shape (List ℕ)) → l.is_of kind (OfClass (codes "java/lang/Throwable")) ≡ true → a.may_throw kind ≡ true

@@ -4,7 +4,7 @@
 //! table was computed.
 #![tactic(auto)]
 
-ghost use Rattle.std.specs.Prelude.{◌≡◌, ◌≢◌, ℕ, suc, ◌+◌, List, length, flat_map, slice_get, Option, Some};
+ghost use Rattle.std.specs.Prelude.{◌≡◌, ◌≢◌, ℕ, suc, ◌+◌, List, [], length, flat_map, slice_get, Option, Some};
 ghost use Rattle.cjc_code.specs.declared.insn.JInsn.{JInsn};
 ghost use Rattle.cjc_code.specs.declared.insn.JOp.{JOp as Op};
 ghost use Rattle.cjc_code.specs.declared.insn.JOp.TheVariants as jop;
@@ -16,9 +16,10 @@ ghost use Rattle.cjc_by_name.specs.Effects.{Store, Toss, effect};
 ghost use Rattle.cjc_types.specs.declared.state.State.{State as Typed};
 ghost use Rattle.cjc_world.specs.Classes.{Class};
 ghost use Rattle.cjc_ncode.specs.ByLabel.{Named};
-ghost use Rattle.cjc_shrink.specs.Tables.{Point};
+ghost use Rattle.cjc_shrink.specs.Tables.{Point, Arrives};
+ghost use Rattle.cjc_shrink.specs.Calls.{first_locals};
 ghost use Rattle.cjc_shrink.specs.Runs.{Rule};
-ghost use Rattle.cjc_table_rules.specs.Analysis.{Analysis, Ascend, IsDecoded, IsSound, IsRead, CatchesAreTold, TypesAreTold, IsGiven, table_of};
+ghost use Rattle.cjc_table_rules.specs.Analysis.{Analysis, Ascend, IsDecoded, IsSound, IsRead, CatchesAreTold, TypesAreTold, IsGiven, ThrowablesMay, HasRoomToBegin, declared_kinds, table_of};
 ghost use Rattle.cjc_table_rules.specs.Supported.{IsPlain, IsReturn};
 ghost use Rattle.cjc_table_rules.specs.Names.{IsResolved};
 ghost use Rattle.cjc_fixpoint.specs.Tables.{HasRow};
@@ -40,9 +41,16 @@ pub fn written_code_stands_in_order()
 /// and range table are closed and break no rule, reached instructions keep their rules. Those that name nothing: constants,
 /// loads, stores and increases of locals, the stack's instructions, all arithmetic, i2b and i2s, jumps and switches. Those whose
 /// field, static field, class or type is found alike: getfield to putstatic, new, newarray and anewarray, checkcast and instanceof. And
-/// returns, where callers are given what the descriptor says. Handlers are found there as whole runs ask, where types are told alike.
+/// returns, where callers are given what the descriptor says, and athrow. Handlers are found there as whole runs ask, where types are told alike.
 pub fn instructions_keep_rules()
     ensures plain { (by : Linked) (l : Named) (w : List Class) (a : Analysis) (m : Method) → IsRead a m → IsDecoded (let f = a.found m in f.body) → IsSound w (let r = a.resolution m in r.constant) (a.found m) → CatchesAreTold by l a m → (at : ℕ) (i : JInsn) (p : Point) → slice_get (let f = a.found m in let b = f.body in b.insns) at ≡ Some i → (let tb = table_of l a in tb.point m at ≡ Some p) → IsPlain i.op → Rule by l (table_of l a) m at p i }
     ensures resolved { (by : Linked) (l : Named) (w : List Class) (a : Analysis) (m : Method) → IsRead a m → IsDecoded (let f = a.found m in f.body) → IsSound w (let r = a.resolution m in r.constant) (a.found m) → CatchesAreTold by l a m → TypesAreTold w l → (at : ℕ) (i : JInsn) (p : Point) → slice_get (let f = a.found m in let b = f.body in b.insns) at ≡ Some i → (let tb = table_of l a in tb.point m at ≡ Some p) → ((t : Typed) → HasRow (let f = a.found m in f.types) at t → IsResolved by l (a.resolution m) m (cells_of t.stack) i.op) → Rule by l (table_of l a) m at p i }
     ensures returns { (by : Linked) (l : Named) (w : List Class) (a : Analysis) (m : Method) → IsRead a m → IsDecoded (let f = a.found m in f.body) → IsSound w (let r = a.resolution m in r.constant) (a.found m) → CatchesAreTold by l a m → TypesAreTold w l → IsGiven l a m → (at offset opcode : ℕ) (p : Point) → slice_get (let f = a.found m in let b = f.body in b.insns) at ≡ Some (record { at = offset; op = jop.Return opcode }) → (let tb = table_of l a in tb.point m at ≡ Some p) → IsReturn opcode → Rule by l (table_of l a) m at p (record { at = offset; op = jop.Return opcode }) }
+    ensures throws { (by : Linked) (l : Named) (w : List Class) (a : Analysis) (m : Method) → IsRead a m → IsDecoded (let f = a.found m in f.body) → IsSound w (let r = a.resolution m in r.constant) (a.found m) → CatchesAreTold by l a m → TypesAreTold w l → ThrowablesMay l a → (at offset : ℕ) (p : Point) → slice_get (let f = a.found m in let b = f.body in b.insns) at ≡ Some (record { at = offset; op = jop.Throw }) → (let tb = table_of l a in tb.point m at ≡ Some p) → Rule by l (table_of l a) m at p (record { at = offset; op = jop.Throw }) }
+{}
+
+/// A method begins, where narrow code begins, with what its descriptor says: its receiver, if any, and its parameters in the
+/// first locals, and nothing on its stack.
+pub fn methods_begin_as_declared()
+    ensures { (by : Linked) (l : Named) (w : List Class) (a : Analysis) (m : Method) → IsRead a m → IsDecoded (let f = a.found m in f.body) → IsSound w (let r = a.resolution m in r.constant) (a.found m) → HasRoomToBegin (let f = a.found m in f.body) → Arrives (table_of l a) m 0 (let s = a.narrowed m in s.at) [] (first_locals m (declared_kinds l (let f = a.found m in f.body))) }
 {}

@@ -1,4 +1,4 @@
-use Rattle.cjc_table_rules.proofs.Points.{plain_rule, resolved_rule, return_rule}
+use Rattle.cjc_table_rules.proofs.Points.{plain_rule, resolved_rule, return_rule, throw_rule}
 use Rattle.cjc_table_rules.proofs.instructions_keep_rules.Goals as goal
 
 pub returns-clause-plain : goal.returns-clause-plain
@@ -9,3 +9,6 @@ returns-clause-resolved c = resolved_rule
 
 pub returns-clause-returns : goal.returns-clause-returns
 returns-clause-returns c = return_rule
+
+pub returns-clause-throws : goal.returns-clause-throws
+returns-clause-throws c = throw_rule
