@@ -14,7 +14,7 @@ use Rattle.cjc_world.specs.Kin.{Kin, IsKin, kin, upwards}
 use Rattle.cjc_world.specs.Lookup.{first}
 use Rattle.cjc_tokens.specs.Members.{Signature}
 use Rattle.cjc_tokens.specs.Lines.{line_at}
-use Rattle.cjc_tokens.specs.Slots.{row}
+use Rattle.cjc_tokens.specs.Slots.{row, hidden_row}
 use Rattle.cjc_tokens.proofs.Walks.{kin-known}
 use Rattle.cjc_vtable.specs.declared.table.InterfaceMap.{InterfaceMap}
 use Rattle.cjc_vtable.specs.Dispatch.{own_by_token, tower_in, tower_of}
@@ -153,6 +153,18 @@ module _ (w : List Class) (is_kin : (xs : List (List ℕ)) → IsKin w xs (kin w
       same_part : (p : ℕ) → (p == p) ≡ true
       same_part p = grind (arith, nat_tests)
 
+  -- a package-visible method is of the package
+  hidden_own : {h : ℕ} {x z : List ℕ} → SaysTower w n offset h x z → (t : ℕ) (f : Found) → tables.dispatched_hidden (tower_of w x) t ≡ Some f → f.imported ≡ false
+  hidden_own (says.of_file {x = x} c known imported file) t f e =
+      let found : None ≡ Some f = sym (ap (λ q. tables.dispatched_hidden q t) (tower_file x c known imported)) ∙ e in cc
+  hidden_own (says.of_package {x = x} c super known imported supers class more) t f e =
+      let table = table_of w c in
+      by (nat_lt t table.package_base) (sym (ap (λ q. tables.dispatched_hidden q t) (tower_package x super c known imported supers)) ∙ e) (hidden_own more t f)
+    where
+      by : (b : Bool) → (let table = table_of w c in (if b then tables.dispatched_hidden (tower_of w super) t else slice_get table.«package» (t - table.package_base))) ≡ Some f → (tables.dispatched_hidden (tower_of w super) t ≡ Some f → f.imported ≡ false) → f.imported ≡ false
+      by true h rest = rest h
+      by false h rest = let table = table_of w c in own_methods (drop table.package_base (hidden_row (line_at w c))) (t - table.package_base) f h
+
   -- ---- maps
 
   abbrev index : Option InterfaceMap → Option (List ℕ)
@@ -217,6 +229,6 @@ module _ (w : List Class) (is_kin : (xs : List (List ℕ)) → IsKin w xs (kin w
   pub dispatch_agrees : (h : ℕ) (x z : List ℕ) → SaysTower w n offset h x z → h ≤ card.depth n.loaded → DispatchAgrees w n offset x z
   dispatch_agrees h x z tower le = record {
     open_method = λ t f s e is. open_same tower (card.depth n.loaded) le t f s e is;
-    package_method = λ t f e. package_same tower (card.depth n.loaded) le t f e;
+    package_method = λ t f s e. package_same tower (card.depth n.loaded) le t f e ∙ sym (ap (λ b. if b then Outward (event z s) else At n.part (offset f)) (hidden_own tower t f e));
     interface_method = λ i t f s there e is. interface_same tower le i t f s there e is;
   }

@@ -1,1 +1,2 @@
 mod Dispatch
+mod Selections

@@ -71,6 +71,6 @@ pub data SaysTower (w : List Class) (n : Naming) (offset : Found → ℕ) : (hei
 -- package-visible one, one of an interface, and one from the superclass on.
 pub record DispatchAgrees (w : List Class) (n : Naming) (offset : Found → ℕ) (x z : List ℕ) : Type 0 where
   pub open_method : (t : ℕ) (f : Found) (s : Signature) → tables.dispatched (tower_of w x) t ≡ Some f → named w f ≡ Some s → dispatched_open (tower n.loaded (n.class x)) t ≡ selection_of n offset z s f
-  pub package_method : (t : ℕ) (f : Found) → tables.dispatched_hidden (tower_of w x) t ≡ Some f → dispatched_hidden (tower n.loaded (n.class x)) n.part t ≡ At n.part (offset f)
+  pub package_method : (t : ℕ) (f : Found) (s : Signature) → tables.dispatched_hidden (tower_of w x) t ≡ Some f → dispatched_hidden (tower n.loaded (n.class x)) n.part t ≡ selection_of n offset z s f
   pub interface_method : (i : List ℕ) (t : ℕ) (f : Found) (s : Signature) → has_class w i ≡ true → tables.dispatched_interface (tower_of w x) i t ≡ Some f → named w f ≡ Some s
       → dispatched_interface n.loaded (Some (n.class x)) (n.class i) t ≡ selection_of n offset z s f

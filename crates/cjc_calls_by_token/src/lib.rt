@@ -10,8 +10,11 @@ ghost use Rattle.cjc_world.specs.Classes.{Class};
 ghost use Rattle.cjc_world.specs.Kin.{IsAcyclic};
 ghost use Rattle.cjc_lower.specs.Naming.{Naming};
 ghost use Rattle.cjc_by_token.specs.Supers.{SaysKinds};
+ghost use Rattle.cjc_vtable.specs.Laws.{KeepsInterfaces, KeepsRules};
 ghost use Rattle.cjc_calls_by_token.specs.Dispatching.{DispatchAgrees, SaysTower};
+ghost use Rattle.cjc_calls_by_token.specs.Selecting.{SelectionsAgree};
 
+use cjc_vtable::dispatch_laws;
 use cjc_world::lookup_laws;
 
 /// Dispatch by token on an object of a class gives by class infos and export files what it gives by class tables and maps:
@@ -21,4 +24,13 @@ pub fn dispatch_agrees()
     ensures { (w : List Class) → IsAcyclic w → (n : Naming) (offset : Found → ℕ) → ((f : Found) → offset f < 0xFFFF) → SaysKinds w n → (height : ℕ) (x z : List ℕ) → SaysTower w n offset height x z → height ≤ depth n.loaded → DispatchAgrees w n offset x z }
 {
     lookup_laws();
+}
+
+/// Where a call by name selects a method on an object of a class, the call by token selects it, by its offset or as the event
+/// of the first imported class: a virtual call by the token that the method has where it is found, and a call of an
+/// interface's method by its place among the methods of the interface.
+pub fn selections_agree()
+    ensures { (w : List Class) → KeepsRules w → KeepsInterfaces w → (n : Naming) (offset : Found → ℕ) (x z : List ℕ) → DispatchAgrees w n offset x z → SelectionsAgree w n offset x z }
+{
+    dispatch_laws();
 }
