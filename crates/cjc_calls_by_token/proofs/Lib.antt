@@ -1,2 +1,3 @@
 mod Dispatch
 mod Selections
+mod Reaching

@@ -12,6 +12,13 @@ ghost use Rattle.cjc_lower.specs.Naming.{Naming};
 ghost use Rattle.cjc_by_token.specs.Supers.{SaysKinds};
 ghost use Rattle.cjc_vtable.specs.Laws.{KeepsInterfaces, KeepsRules};
 ghost use Rattle.cjc_calls_by_token.specs.Dispatching.{DispatchAgrees, SaysTower};
+ghost use Rattle.cjc_world.specs.declared.image.StaticImage.{StaticImage};
+ghost use Rattle.cjc_world.specs.Files.{Files};
+ghost use Rattle.cjc_by_name.specs.Linked.{Method};
+ghost use Rattle.cjc_narrow.specs.Package.{named};
+ghost use Rattle.cjc_lower.specs.Agreement.{MethodsAgree};
+ghost use Rattle.cjc_lower.specs.Placed.{Placed};
+ghost use Rattle.cjc_calls_by_token.specs.Reaching.{BeginsAtOffsets, SaysReceiver, VirtualCallsReach, placed_methods};
 ghost use Rattle.cjc_calls_by_token.specs.Selecting.{SelectionsAgree};
 
 use cjc_vtable::dispatch_laws;
@@ -34,3 +41,14 @@ pub fn selections_agree()
 {
     dispatch_laws();
 }
+
+/// The look-ups of narrow code that give methods of a package give them where they stand, whichever places they have.
+pub fn methods_are_placed()
+    ensures { (files : Files) (image : StaticImage) (place : Method → Placed) → MethodsAgree (named files image (λ m. (let p = place m in p.method))) (placed_methods files place) }
+{}
+
+/// A virtual call on an object of a class reaches by token the method that it reaches by name, at its place, or makes the
+/// same event, where each method of the package begins at its offset.
+pub fn virtual_calls_reach()
+    ensures { (files : Files) (w : List Class) (n : Naming) (offset : Found → ℕ) (place : Method → Placed) → BeginsAtOffsets files n offset place → (x z : List ℕ) → SaysReceiver w x z → SelectionsAgree w n offset x z → VirtualCallsReach files w n place x }
+{}

@@ -1,0 +1,72 @@
+-- What calls reach by name, of methods that know where they stand, and what they reach by token.
+use Rattle.std.specs.Prelude.{◌≡◌, ℕ, List, Option, Some, None, true, option_map, if◌then◌else◌}
+use Rattle.cjc_bytes.specs.declared.fault.MemberId.{MemberId}
+use Rattle.cjc_script.specs.Sorts.{Shape, OfClass, shape_name}
+use Rattle.cjc_bytecode.specs.Machine.{Start, Reached, Nowhere, Within, Abroad}
+use Rattle.cjc_bytecode.specs.Alike.{IsFound, reached_as}
+use Rattle.cjc_card.specs.Calls
+use Rattle.cjc_card.specs.Methods.{start_of}
+use Rattle.cjc_world.specs.declared.found.Found.{Found}
+use Rattle.cjc_world.specs.Files.{Files}
+use Rattle.cjc_world.specs.Classes.{Class, all_classes, class_named}
+use Rattle.cjc_world.specs.Kin.{line}
+use Rattle.cjc_world.specs.Lookup.{receiver}
+use Rattle.cjc_world.specs.Subtype.{is_subtype}
+use Rattle.cjc_by_name.specs.Linked.{Method, Inside}
+use Rattle.cjc_by_name.specs.Linked
+use Rattle.cjc_by_name.specs.OnePackage.{entry_named, first_imported, method_at, sent_named}
+use Rattle.cjc_ncode.specs.ByLabel.{Callee, OnObject}
+use Rattle.cjc_narrow.specs.Package.{class_of_callee, on_class, selected_on}
+use Rattle.cjc_vtable.specs.Laws.{Under, selection}
+use Rattle.cjc_vtable.specs.Naming.{named}
+use Rattle.cjc_lower.specs.ByPlace.{Methods}
+use Rattle.cjc_lower.specs.Naming.{Naming, callee}
+use Rattle.cjc_lower.specs.Placed.{Placed, code_of, offset_of, start_on_card}
+use Rattle.cjc_calls_by_token.specs.Selecting.{signature, SaysToken}
+
+-- ---- methods where they stand
+
+-- how a method of the package begins, at its place
+abbrev pub start_placed : (place : Method → Placed) → Method → Start Placed
+start_placed place m = let p = place m in let code = p.method in record { code = p; at = 0; nargs = code.nargs; max_locals = code.max_locals; is_abstract = m.is_abstract }
+
+-- what a call reaches, of what is found or selected
+abbrev pub reached_placed : (place : Method → Placed) → Option Linked.Callee → Reached Placed
+reached_placed place None = Nowhere
+reached_placed place (Some (Inside m)) = Within (start_placed place m)
+reached_placed place (Some (Linked.Abroad event)) = Abroad event
+
+-- What calls reach: on a receiver that is not of the class that they name, nothing.
+abbrev pub reached_at : Files → List Class → (place : Method → Placed) → Callee → Option (Shape (List ℕ)) → Reached Placed
+reached_at files w place m None = reached_placed place (on_class files w m)
+reached_at files w place m (Some kind) =
+    if is_subtype w (shape_name kind) (class_of_callee m) then reached_placed place (selected_on files w m (shape_name kind)) else Nowhere
+
+-- The look-ups of narrow code that give methods, where each has its place.
+abbrev pub placed_methods : Files → (place : Method → Placed) → Methods
+placed_methods files place = record {
+  reached = reached_at files (all_classes files) place;
+  called = λ id. option_map (start_placed place) (entry_named files (all_classes files) id);
+  sent = λ kind id. option_map (start_placed place) (sent_named files (all_classes files) (shape_name kind) id);
+}
+
+-- ---- virtual calls
+
+-- A class whose objects receive virtual calls, and the imported class that their events name.
+pub record SaysReceiver (w : List Class) (x z : List ℕ) : Type 0 where
+  pub itself : receiver x ≡ x
+  pub imported : first_imported (line w x) ≡ z
+  -- a class that it is of stands at or above it over superclasses
+  pub climbs : (y : List ℕ) (d : Class) → class_named w y ≡ Some d → is_subtype w x y ≡ true → Under w x y
+  -- what is selected has the name and the descriptor that are sought
+  pub found : (m : MemberId) (f : Found) → selection w x (signature m) ≡ Some f → named w f ≡ Some (signature m)
+
+-- each method of the package begins on the card at its offset, as it does at its place
+abbrev pub BeginsAtOffsets : Files → Naming → (offset : Found → ℕ) → (place : Method → Placed) → Type 0
+BeginsAtOffsets files n offset place = (f : Found) (m : Method) → method_at files f ≡ Some m → start_of n.loaded n.part (offset f) ≡ Some (start_on_card n m.is_abstract (place m))
+
+-- A virtual call on an object of a class reaches by token the method that it reaches by name, or makes the same event.
+abbrev pub VirtualCallsReach : Files → List Class → Naming → (place : Method → Placed) → (x : List ℕ) → Type 0
+VirtualCallsReach files w n place x =
+    (m : MemberId) (d : Class) (r : Reached Placed) → class_named w m.class ≡ Some d → SaysToken w n m → reached_at files w place (OnObject m) (Some (OfClass x)) ≡ r → IsFound r
+    → Calls.reached n.loaded (callee n (OnObject m)) (Some (OfClass (n.class x))) ≡ reached_as (code_of n) (offset_of n) r
