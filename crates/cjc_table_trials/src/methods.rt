@@ -1,10 +1,13 @@
 //! One method for each case of the rules, and what some rows of tables hold.
 
+ghost use Rattle.std.specs.Prelude.{IfOk};
+ghost use Rattle.cjc_types.specs.Tables.{IsOfPackage};
+
 use cjc_bytes::{Bytes, Fault, FileLine, MemberId, NoMemory, Row, Rule};
 use cjc_classfile::{Catch, ClassTree, Code, FieldTree, MethodTree, PoolItem};
 use cjc_code::{MethodCode, decode};
 use cjc_export::{ExportClass, ExportTree};
-use cjc_types::{Cell, Frame, TypeTable, infer};
+use cjc_types::{Cell, Frame, Method, TypeTable, TypeWalk, infer};
 use cjc_world::World;
 use std::alloc::Global;
 use std::test::*;
@@ -176,8 +179,10 @@ fn package<'t>(alloc: Global, draft: Draft<'t>) -> Result<World<'t>, Fault> {
     World::new(alloc, b"list", b"p", lines, classes, exports)
 }
 
-/// Inference of the first method of the first class; where there is none, the answer is the same as for want of memory.
-fn first_types(alloc: Global, world: &World<'_>) -> Result<TypeTable, Fault> {
+/// The code of the first method of the first class; where there is none, the answer is the same as for want of memory.
+fn first_code(alloc: Global, world: &World<'_>) -> Result<MethodCode, Fault>
+    ensures { IfOk result (λ code. IsOfPackage world.now code) }
+{
     let class = match world.classes().items().get(0) {
         Some(class) => class,
         None => return Err(Fault::NoMemory),
@@ -194,17 +199,17 @@ fn first_types(alloc: Global, world: &World<'_>) -> Result<TypeTable, Fault> {
         return Err(Fault::NoMemory);
     }
     let insns = decode(alloc, b"T.class", class, 0)?;
-    let code = MethodCode {
+    Ok(MethodCode {
         class: 0,
         method: 0,
         insns,
-    };
-    infer(alloc, b"T.class", world, &code)
+    })
 }
 
 fn types(alloc: Global, draft: Draft<'_>) -> Result<TypeTable, Fault> {
     let world = package(alloc, draft)?;
-    first_types(alloc, &world)
+    let code = first_code(alloc, &world)?;
+    infer(alloc, b"T.class", &world, &code)
 }
 
 /// The rule and the offset of the refusal; 0 where there is none.
@@ -377,30 +382,63 @@ fn is_refs(cell: Option<&Cell>, names: &[&[u8]]) -> bool {
     }
 }
 
-/// Where a cell is looked for in a frame.
+/// What is looked for in a frame.
 #[derive(Clone, Copy)]
 enum Where {
-    /// In the first local.
+    /// The first local.
     Local,
-    /// On top of the stack.
+    /// The top of the stack.
     Top,
+    /// The frame itself.
+    Frame,
 }
 
-/// Whether a cell of a frame is a reference of these types.
-fn frame_has(frame: Option<&Option<Frame>>, at: Where, names: &[&[u8]]) -> bool {
+/// Whether a cell of a frame is a reference of these types; of the frame itself, whether there is one.
+fn frame_has(frame: &Option<Frame>, at: Where, names: &[&[u8]]) -> bool {
     match frame {
-        Some(Some(frame)) => match at {
+        Some(frame) => match at {
             Where::Local => is_refs(frame.locals.items().first(), names),
             Where::Top => is_refs(frame.stack.get(0), names),
+            Where::Frame => true,
         },
-        _ => false,
+        None => false,
     }
 }
 
-/// Whether a cell before an instruction of a method is a reference of these types.
-fn gives(alloc: Global, draft: Draft<'_>, place: usize, at: Where, names: &[&[u8]]) -> bool {
-    match types(alloc, draft) {
-        Ok(table) => frame_has(table.frames.items().get(place), at, names),
+/// Goes on by so many instructions.
+fn go_on(alloc: Global, walk: &mut TypeWalk<'_>, count: u32) -> Result<(), NoMemory> {
+    for _ in 0..count {
+        if let Some(_) = walk.place() {
+            walk.advance(alloc)?;
+        }
+    }
+    Ok(())
+}
+
+/// Whether a cell before an instruction of a method is a reference of these types, or whether the frame before it is there.
+fn has(
+    alloc: Global,
+    draft: Draft<'_>,
+    place: u32,
+    at: Where,
+    names: &[&[u8]],
+) -> Result<bool, Fault> {
+    let world = package(alloc, draft)?;
+    let code = first_code(alloc, &world)?;
+    let types = infer(alloc, b"T.class", &world, &code)?;
+    let method = Method::new(&world, &code);
+    let mut walk = TypeWalk::new(&method, &types);
+    go_on(alloc, &mut walk, place)?;
+    match walk.place() {
+        Some(_) => Ok(frame_has(walk.frame(), at, names)),
+        None => Ok(false),
+    }
+}
+
+/// The same, where no rule is broken.
+fn gives(alloc: Global, draft: Draft<'_>, place: u32, at: Where, names: &[&[u8]]) -> bool {
+    match has(alloc, draft, place, at, names) {
+        Ok(given) => given,
         Err(_) => false,
     }
 }
@@ -457,28 +495,9 @@ fn a_handler_has_what_each_covered_instruction_knew(rt: HostRuntime) {
     assert!(rt; gives(rt.alloc(), method, 8, Where::Local, &[b"p/M", b"p/N"]));
 }
 
-/// How many frames from the first on are there.
-fn reached(frames: &[Option<Frame>]) -> usize {
-    for (i, frame) in frames.iter().enumerate() {
-        if frame.is_none() {
-            return i;
-        }
-    }
-    frames.len()
-}
-
-/// How many instructions from the first on are reached, where no rule is broken.
-fn reached_of(alloc: Global, draft: Draft<'_>) -> Option<usize> {
-    match types(alloc, draft) {
-        Ok(table) => Some(reached(table.frames.items())),
-        Err(_) => None,
-    }
-}
-
 #[test]
 fn nothing_goes_on_behind_a_return(rt: HostRuntime) {
-    assert_eq!(rt;
-        reached_of(rt.alloc(), small(b"()V", 0, b"\xB1\xB1", None)),
-        Some(1)
-    );
+    let method = small(b"()V", 0, b"\xB1\xB1", None);
+    assert!(rt; gives(rt.alloc(), method, 0, Where::Frame, &[]));
+    assert!(rt; !gives(rt.alloc(), method, 1, Where::Frame, &[]));
 }

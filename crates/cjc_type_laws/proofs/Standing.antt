@@ -1,11 +1,10 @@
 -- The instructions that a method's code was decoded to: where they stand, and what they name.
-use Rattle.std.proofs.Common.{◌≡◌, ◌⊎◌, ◌≤◌, ◌<◌, ◌+◌, ◌-◌, ◌==◌, ◌&&◌, ℕ, zero, suc, Bool, true, false, cond, not, nat_lt, List, [], ◌∷◌, map, length, slice_get, get_or, position, Some, None, option_map, ℤ, pos, negsuc, refl, sym, ap, subst, ◌∙◌, inl, inr, arith}
-use Rattle.std.specs.List.{Contains, list_all, position_or_len}
-use Rattle.std.proofs.lemmas.Bool.{eq-eqb, ne_eqb, ltb-true, ltb-false, leb-false}
+use Rattle.std.proofs.Common.{◌≡◌, ◌⊎◌, ◌≤◌, ◌<◌, ◌+◌, ◌-◌, ◌&&◌, ℕ, zero, suc, Bool, true, false, not, nat_lt, List, [], ◌∷◌, map, length, slice_get, Some, None, option_map, ℤ, pos, negsuc, refl, sym, ap, subst, ◌∙◌, inl, inr, arith}
+use Rattle.std.specs.List.{Contains, list_all}
+use Rattle.std.proofs.lemmas.Bool.{ltb-true, ltb-false, leb-false}
 use Rattle.std.proofs.lemmas.Option.{same_Some, slice_get-map, slice_get-get_or, slice_get_within, get_or_from_slice_get}
 use Rattle.std.proofs.lemmas.List.{length-map}
 use Rattle.std.proofs.lemmas.List.Elements.{All-contains}
-use Rattle.std.proofs.lemmas.List.Sums.{position_or_len_is}
 use Rattle.cjc_classfile.specs.Code.{CodeTree}
 use Rattle.cjc_classfile.specs.declared.tree.Catch.{Catch}
 use Rattle.cjc_classfile.specs.declared.tree.ClassTree.{ClassTree}
@@ -28,6 +27,7 @@ use Rattle.cjc_types.specs.Flow.{place_at}
 use Rattle.cjc_types.specs.Steps.{goes_on, targets}
 use Rattle.cjc_types.specs.Tables.{IsMethodOf}
 use Rattle.cjc_types.proofs.Ascending.{insns_ascend}
+use Rattle.cjc_types.proofs.Indexing.{own_place}
 use Rattle.cjc_type_laws.specs.Places.{HasPlace, local_of}
 use Rattle.cjc_type_laws.proofs.Shapes.{Agrees, cut_agrees, stops_within}
 
@@ -67,32 +67,6 @@ is_or_not false = inr refl
 not_false : (b : Bool) → not b ≡ false → b ≡ true
 not_false true e = refl
 not_false false e = absurd cc
-
--- ---- the place of an offset
-
-abbrev Ascend : List JInsn → Type 0
-Ascend insns = (j k : ℕ) (x y : JInsn) → slice_get insns j ≡ Some x → slice_get insns k ≡ Some y → j < k → x.at < y.at
-
-own_place : (insns : List JInsn) → Ascend insns → (k : ℕ) (i : JInsn) → slice_get insns k ≡ Some i → place_at insns i.at ≡ Some k
-own_place insns up k i e = within (position_or_len_is (λ (x : JInsn). x.at == i.at) insns k i (omega (arith, inside)) earlier here)
-  where
-    inside : k < length insns
-    inside = slice_get_within insns k i e
-
-    earlier : (j : ℕ) → j < k → ((get_or insns j i).at == i.at) ≡ false
-    earlier j lt =
-        let less = up j k (get_or insns j i) i (slice_get-get_or insns j i (omega (arith, lt, inside))) e lt in
-        ne_eqb _ _ (λ same. omega (arith, less, same))
-
-    here : k < length insns → ((get_or insns k i).at == i.at) ≡ true
-    here lt = eq-eqb _ _ (ap (λ (x : JInsn). x.at) (get_or_from_slice_get insns k i i e))
-
-    within : position_or_len (λ (x : JInsn). x.at == i.at) insns ≡ k → position (λ (x : JInsn). x.at == i.at) insns ≡ Some k
-    within is = ap (λ n. cond (nat_lt n (length insns)) (Some n) None) is ∙ go (nat_lt k (length insns)) refl
-      where
-        go : (b : Bool) → nat_lt k (length insns) ≡ b → cond b (Some k) None ≡ Some k
-        go true f = refl
-        go false f = let le = ltb-false k (length insns) f in absurd (omega (arith, le, inside))
 
 -- ---- a method
 

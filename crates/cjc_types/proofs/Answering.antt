@@ -1,8 +1,12 @@
 -- What the first rule that is found says of the rows of a table, and that a method has one least table.
-use Rattle.std.proofs.Common.{◌≡◌, ◌⊎◌, ◌≤◌, ◌<◌, ◌+◌, ℕ, zero, suc, Bool, true, false, cond, nat_lt, List, [], ◌∷◌, length, slice_get, Option, Some, None, refl, sym, ◌∙◌, ap, subst, inl, inr, add-zero, zero-add, arith}
+use Rattle.std.proofs.Common.{◌≡◌, ◌⊎◌, ◌≤◌, ◌<◌, ◌+◌, ℕ, zero, suc, Bool, true, false, cond, nat_lt, List, [], ◌∷◌, length, drop, slice_get, get_or, Option, Some, None, refl, sym, ◌∙◌, ap, subst, inl, inr, add-zero, zero-add, arith}
 use Rattle.std.proofs.lemmas.Bool.{ltb-true, ltb-false}
+use Rattle.std.proofs.lemmas.List.{drop_more}
+use Rattle.std.proofs.lemmas.Option.{slice_get_within, slice_get-get_or, slice_get_read, get_or_from_slice_get}
 use Rattle.cjc_code.specs.declared.insn.JInsn.{JInsn}
 use Rattle.cjc_code.specs.declared.insn.JOp.{JOp}
+use Rattle.cjc_code.specs.declared.insn.JOp.TheVariants as jop
+use Rattle.cjc_fixpoint.specs.Tables.{HasRow}
 use Rattle.cjc_world.specs.Classes.{Class}
 use Rattle.cjc_types.specs.declared.cell.Cell.{Cell}
 use Rattle.cjc_types.specs.declared.inference.FirstBroken.{FirstBroken}
@@ -189,26 +193,63 @@ clash_rule : (w : List Class) (b : Body) (op : JOp) (x : State) → x.stack ≡ 
 unfolding first_rule
 clash_rule w b op x e = ap (rule_of_stack w b op x.locals) e
 
-same_frame : (w : List Class) (b : Body) (op : JOp) (x : State) → first_rule w b op x ≡ None → state_of (frame_of x) ≡ x
-same_frame w b op x none = go x.stack refl
+-- a state without a clash is that of its frame
+same_frame : (x : State) → (x.stack ≡ Clash → ⊥) → state_of (frame_of x) ≡ x
+same_frame x whole = go x.stack refl
   where
     go : (s : Stack) → x.stack ≡ s → state_of (frame_of x) ≡ x
-    go Clash e = let found = clash_rule w b op x e in absurd cc
+    go Clash e = absurd (whole e)
     go (Cells s) e =
         let make : Stack → State = λ stack. record { stack = stack; locals = x.locals } in
         ap make (ap (λ stack. Cells (cells_of stack)) e ∙ sym e)
 
-pub states-frames : (w : List Class) (b : Body) (place : ℕ) (insns : List JInsn) (rows : List (Option State)) → length rows ≡ length insns → first_from w b place insns rows ≡ None → states_of (frames_of rows) ≡ rows
-states-frames w b place insns [] sized e = refl
-states-frames w b place [] (row ∷ rows) sized e = absurd (omega arith)
-states-frames w b place (insn ∷ insns) (None ∷ rows) sized e =
-    let rest : states_of (frames_of rows) ≡ rows = states-frames w b (place + 1) insns rows (omega (arith, sized)) e in
-    ap (λ (xs : List (Option State)). None ∷ xs) rest
-states-frames w b place (insn ∷ insns) (Some x ∷ rows) sized e = go (first_rule w b insn.op x) refl e (states-frames w b (place + 1) insns rows (omega (arith, sized)))
+-- where no rule is broken no state is a clash
+no_clash : (w : List Class) (b : Body) (rows : List (Option State)) → length rows ≡ length b.insns → ((place rule : ℕ) → Breach w b rows place rule → ⊥) → (place : ℕ) (x : State) → HasRow rows place x → x.stack ≡ Clash → ⊥
+no_clash w b rows sized unbroken place x row e =
+    let lt = slice_get_within rows place (Some x) row in
+    go (slice_get b.insns place) refl (omega (arith, lt, sized))
   where
-    go : (o : Option ℕ) → first_rule w b insn.op x ≡ o → or_later o place (first_from w b (place + 1) insns rows) ≡ None → (first_from w b (place + 1) insns rows ≡ None → states_of (frames_of rows) ≡ rows) → Some (state_of (frame_of x)) ∷ states_of (frames_of rows) ≡ Some x ∷ rows
-    go (Some r) h e more = absurd cc
-    go None h e more =
-        let rest : states_of (frames_of rows) ≡ rows = more e in
-        let first : state_of (frame_of x) ≡ x = same_frame w b insn.op x h in
-        cc
+    go : (o : Option JInsn) → slice_get b.insns place ≡ o → place < length b.insns → ⊥
+    go None none lt = let some = slice_get-get_or b.insns place (record { at = 0; op = jop.Nop }) lt in absurd cc
+    go (Some insn) is lt =
+        let first = clash_rule w b insn.op x e in
+        unbroken place 501 (record { insn = insn; is_insn = is; state = x; reached = row; breaks = rule_breaks w b insn.op x 501 first })
+
+pub framed_rows : (w : List Class) (b : Body) (rows : List (Option State)) → length rows ≡ length b.insns → ((place rule : ℕ) → Breach w b rows place rule → ⊥) → (place : ℕ) (x : State) → HasRow rows place x → state_of (frame_of x) ≡ x
+framed_rows w b rows sized unbroken place x row = same_frame x (no_clash w b rows sized unbroken place x row)
+
+pub states-frames : (rows : List (Option State)) → ((k : ℕ) (x : State) → HasRow rows k x → state_of (frame_of x) ≡ x) → states_of (frames_of rows) ≡ rows
+states-frames [] h = refl
+states-frames (None ∷ rows) h = let rest : states_of (frames_of rows) ≡ rows = states-frames rows (λ k x row. h (suc k) x row) in ap (λ (xs : List (Option State)). None ∷ xs) rest
+states-frames (Some x ∷ rows) h =
+    let rest : states_of (frames_of rows) ≡ rows = states-frames rows (λ k y row. h (suc k) y row) in
+    let first : state_of (frame_of x) ≡ x = h 0 x refl in
+    cc
+
+-- ---- one place further
+
+drop_at : {X : Type 0} (xs : List X) (k : ℕ) (x : X) → slice_get xs k ≡ Some x → drop k xs ≡ x ∷ drop (k + 1) xs
+drop_at xs k x is = drop_more xs k x (slice_get_within xs k x is) ∙ ap (λ y. y ∷ drop (k + 1) xs) (get_or_from_slice_get xs k x x is)
+
+-- what the rest of a search finds, where this row is next
+first_on : (w : List Class) (b : Body) (rows : List (Option State)) (k : ℕ) (insn : JInsn) (row : Option State) → slice_get b.insns k ≡ Some insn → slice_get rows k ≡ Some row
+    → first_from w b k (drop k b.insns) (drop k rows) ≡ or_later (row_rule w b insn row) k (first_from w b (k + 1) (drop (k + 1) b.insns) (drop (k + 1) rows))
+first_on w b rows k insn row is_insn is_row =
+    ap (λ (is : List JInsn). first_from w b k is (drop k rows)) (drop_at b.insns k insn is_insn)
+    ∙ ap (λ (xs : List (Option State)). first_from w b k (insn ∷ drop (k + 1) b.insns) xs) (drop_at rows k row is_row)
+
+module _ (w : List Class) (b : Body) (rows : List (Option State)) (k : ℕ) (insns : List JInsn) (insn : JInsn) (row : Option State) (result : Option ℕ)
+    (is_insns : insns ≡ b.insns) (lt : k < length insns) (is_insn : insn ≡ get_or insns k insn) (is_row : slice_get rows k ≡ Some row) (is_result : result ≡ row_rule w b insn row)
+    (before : first_from w b k (drop k b.insns) (drop k rows) ≡ first_from w b 0 b.insns rows) where
+  there : slice_get b.insns k ≡ Some insn
+  there = slice_get_read b.insns (length b.insns) k insn refl (subst (λ (is : List JInsn). k < length is) is_insns lt) (is_insn ∙ ap (λ (is : List JInsn). get_or is k insn) is_insns)
+
+  pub found_here : (rule : ℕ) → result ≡ Some rule → Some (record { place = k; rule = rule }) ≡ first_from w b 0 b.insns rows
+  found_here rule is =
+      sym (ap (λ (o : Option ℕ). or_later o k (first_from w b (k + 1) (drop (k + 1) b.insns) (drop (k + 1) rows))) (sym is_result ∙ is))
+      ∙ sym (first_on w b rows k insn row there is_row) ∙ before
+
+  pub found_later : result ≡ None → first_from w b (k + 1) (drop (k + 1) b.insns) (drop (k + 1) rows) ≡ first_from w b 0 b.insns rows
+  found_later is =
+      sym (ap (λ (o : Option ℕ). or_later o k (first_from w b (k + 1) (drop (k + 1) b.insns) (drop (k + 1) rows))) (sym is_result ∙ is))
+      ∙ sym (first_on w b rows k insn row there is_row) ∙ before

@@ -33,7 +33,7 @@ strictly n k j f lt is other = go (nat_lt k n) refl
     go true e = ltb-true k n e
     go false e = let le = ltb-false k n e in let same : k ≡ n = omega (arith, le, lt) in absurd (other (sym (ap f same) ∙ is))
 
-abbrev HasValues : ℕ → ℕ → (ℕ → ℕ) → Type 0
+abbrev pub HasValues : ℕ → ℕ → (ℕ → ℕ) → Type 0
 HasValues places values f = (j : ℕ) → j < values → (k : ℕ) × (k < places) × (f k ≡ j)
 
 -- values above v moved down by one
@@ -70,7 +70,7 @@ without_last n m f h j lt = go (nat_lt j (f n)) refl
         let is = w.2 in
         (w.0, strictly n w.0 (suc j) f w.1 is (λ same. omega (arith, le, same)), closed_high (f n) j w.0 f is le)
 
-many_places : (places values : ℕ) (f : ℕ → ℕ) → HasValues places values f → values ≤ places
+pub many_places : (places values : ℕ) (f : ℕ → ℕ) → HasValues places values f → values ≤ places
 many_places zero zero f h = omega arith
 many_places zero (suc m) f h = let k = h 0 (omega arith) in let lt = k.1 in absurd (omega (arith, lt))
 many_places (suc n) m f h = go (nat_lt (f n) m) refl (many_places n)
@@ -86,7 +86,7 @@ many_places (suc n) m f h = go (nat_lt (f n) m) refl (many_places n)
         omega (arith, most, small)
 
 -- a value that some place has, or none
-sought : (n j : ℕ) (f : ℕ → ℕ) → ((k : ℕ) × (k < n) × (f k ≡ j)) ⊎ ((k : ℕ) → k < n → f k ≢ j)
+pub sought : (n j : ℕ) (f : ℕ → ℕ) → ((k : ℕ) × (k < n) × (f k ≡ j)) ⊎ ((k : ℕ) → k < n → f k ≢ j)
 sought zero j f = inr (λ k lt is. omega (arith, lt))
 sought (suc n) j f = go (f n == j) refl (sought n j f)
   where
@@ -137,7 +137,7 @@ gives_few (jop.Field put field) locals s = got_few put (parts field.desc).result
 gives_few (jop.Call opcode method) locals s = result_few (parts method.desc).result
 gives_few _ locals s = omega arith
 
-behind_few : (op : JOp) (locals s : List Cell) → length (stack_behind op locals s) ≤ length s + 6
+pub behind_few : (op : JOp) (locals s : List Cell) → length (stack_behind op locals s) ≤ length s + 6
 behind_few op locals s =
     let few = gives_few op locals s in
     let both = length-append (gives op locals s) (drop (takes op) s) in
@@ -146,7 +146,7 @@ behind_few op locals s =
 
 -- ---- states below a height
 
-abbrev IsUnder : ℕ → Stack → Type 0
+abbrev pub IsUnder : ℕ → Stack → Type 0
 IsUnder n (Cells s) = length s < n
 IsUnder n Clash = Unit {0}
 
@@ -182,11 +182,11 @@ under_above n (Cells s) (Cells t) h k = let same = length_all_zip IsCellBelow s 
 
 -- ---- the rows below a height alone
 
-abbrev kept : ℕ → State → Stack → Option State
+abbrev pub kept : ℕ → State → Stack → Option State
 kept n x (Cells s) = cond (nat_lt (length s) n) (Some x) None
 kept n x Clash = Some x
 
-abbrev lower : ℕ → Option State → Option State
+abbrev pub lower : ℕ → Option State → Option State
 lower n None = None
 lower n (Some x) = kept n x x.stack
 
@@ -206,7 +206,7 @@ under_kept n x (Cells s) h = go (nat_lt (length s) n) refl
     go true f = refl
     go false f = let le = ltb-false (length s) n f in absurd (omega (arith, le, h))
 
-lower_row : (n : ℕ) (rows : List (Option State)) (k : ℕ) (y : State) → HasRow (map (lower n) rows) k y → HasRow rows k y × IsUnder n y.stack
+pub lower_row : (n : ℕ) (rows : List (Option State)) (k : ℕ) (y : State) → HasRow (map (lower n) rows) k y → HasRow rows k y × IsUnder n y.stack
 lower_row n rows k y h = go (slice_get rows k) refl (sym (slice_get-map (lower n) rows k) ∙ h)
   where
     go : (o : Option (Option State)) → slice_get rows k ≡ o → option_map (lower n) o ≡ Some (Some y) → HasRow rows k y × IsUnder n y.stack
@@ -221,10 +221,10 @@ row_lower : (n : ℕ) (rows : List (Option State)) (k : ℕ) (y : State) → Has
 row_lower n rows k y e h = slice_get-map (lower n) rows k ∙ ap (option_map (lower n)) e ∙ ap Some (under_kept n y y.stack h)
 
 -- no row has a height in the block of six below n + 6
-abbrev HasGap : ℕ → List (Option State) → Type 0
+abbrev pub HasGap : ℕ → List (Option State) → Type 0
 HasGap n rows = (k : ℕ) (x : State) → HasRow rows k x → IsUnder (n + 6) x.stack → IsUnder n x.stack
 
-covers_lower : (b : Body) (n : ℕ) (rows : List (Option State)) (k : ℕ) (x : State) → IsUnder n x.stack → Covers (type_flow b) rows k x → Covers (type_flow b) (map (lower n) rows) k x
+pub covers_lower : (b : Body) (n : ℕ) (rows : List (Option State)) (k : ℕ) (x : State) → IsUnder n x.stack → Covers (type_flow b) rows k x → Covers (type_flow b) (map (lower n) rows) k x
 covers_lower b n rows k x h c = record { row = c.row; is_row = row_lower n rows k c.row c.is_row (under_above n x.stack c.row.stack c.above.0 h); above = c.above }
 
 lower_closed : (b : Body) (n : ℕ) (rows : List (Option State)) → HasGap n rows → IsClosed (type_flow b) (length b.insns) rows → IsClosed (type_flow b) (length b.insns) (map (lower (n + 6)) rows)
@@ -247,23 +247,23 @@ none_above b n rows is gap k x h =
 
 -- ---- heights
 
-abbrev height : Stack → ℕ
+abbrev pub height : Stack → ℕ
 height (Cells s) = length s
 height Clash = 0
 
-abbrev height_of : Option (Option State) → ℕ
+abbrev pub height_of : Option (Option State) → ℕ
 height_of None = 0
 height_of (Some None) = 0
 height_of (Some (Some x)) = height x.stack
 
-abbrev block : List (Option State) → ℕ → ℕ
+abbrev pub block : List (Option State) → ℕ → ℕ
 block rows k = height_of (slice_get rows k) / 6
 
-under_of : (n : ℕ) (s : Stack) → height s < n → IsUnder n s
+pub under_of : (n : ℕ) (s : Stack) → height s < n → IsUnder n s
 under_of n (Cells s) h = h
 under_of n Clash h = tt
 
-height_under : (n : ℕ) (s : Stack) → 0 < n → IsUnder n s → height s < n
+pub height_under : (n : ℕ) (s : Stack) → 0 < n → IsUnder n s → height s < n
 height_under n (Cells s) some h = h
 height_under n Clash some h = some
 

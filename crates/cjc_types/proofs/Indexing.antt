@@ -1,113 +1,79 @@
--- The index of one instruction more.
-use Rattle.std.proofs.Common.{◌≡◌, ◌≢◌, ◌+◌, ◌<◌, ◌≤◌, ◌==◌, ℕ, suc, Bool, true, false, cond, nat_lt, not, List, [], ◌∷◌, ◌++◌, length, take, get_or, slice_set, position, Option, Some, None, All, refl, sym, ap, subst, ◌∙◌, add-zero, arith}
-use Rattle.std.proofs.lemmas.Bool.{eqb-true, eqb-false, ltb-true, ltb-false}
-use Rattle.std.proofs.lemmas.List.{take_more, take_all, length_push, length-take-le, length-set, get_or-set_same, get_or-set_other}
-use Rattle.std.proofs.lemmas.List.Folds.{position_or_len_push}
-use Rattle.std.proofs.lemmas.List.Elements.{All-more, All-weaker}
+-- The place of an instruction by its offset, and what a binary search finds.
+use Rattle.std.proofs.Common.{◌≡◌, ℕ, Bool, true, false, cond, nat_lt, ◌<◌, ◌≤◌, ◌==◌, List, length, slice_get, get_or, position, Option, Some, None, Result, Ok, Err, sym, ◌∙◌, ap, refl, inl, inr, arith}
 use Rattle.std.specs.List.{position_or_len}
+use Rattle.std.specs.List.Sorted.{IsSearchInRange, IsBinarySearchResult, IsNonDecreasingBy}
+use Rattle.std.specs.Ordering.{nat_cmp, ordering_index}
+use Rattle.std.proofs.lemmas.Cmp.{ranked}
+use Rattle.std.proofs.lemmas.Bool.{eq-eqb, eqb-true, ne_eqb, cases_lt, ltb-false}
+use Rattle.std.proofs.lemmas.Bool.Decides.{nat_tests}
+use Rattle.std.proofs.lemmas.List.Sorted.{IsNonDecreasingBy-from_default}
+use Rattle.std.proofs.lemmas.List.Sums.{position_or_len_is}
+use Rattle.std.proofs.lemmas.List.Quantifiers.{position-Some}
+use Rattle.std.proofs.lemmas.Option.{slice_get_within, slice_get-get_or, get_or_from_slice_get}
 use Rattle.cjc_code.specs.declared.insn.JInsn.{JInsn}
+use Rattle.cjc_code.specs.declared.insn.JOp.TheVariants as jop
 use Rattle.cjc_types.specs.Flow.{place_at}
-use Rattle.cjc_types.specs.Index.{IsIndex, put_where, put}
+use Rattle.cjc_types.specs.Index.{AreInOrder}
 
-abbrev or_else : Option ℕ → Option ℕ → Option ℕ
-or_else (Some k) other = Some k
-or_else None other = other
-
-position_le : {X : Type 0} (p : X → Bool) (xs : List X) → position_or_len p xs ≤ length xs
-position_le p [] = omega arith
-position_le p (x ∷ xs) = let rest = position_le p xs in go (p x) rest
+pub own_place : (insns : List JInsn) → AreInOrder insns → (k : ℕ) (i : JInsn) → slice_get insns k ≡ Some i → place_at insns i.at ≡ Some k
+own_place insns up k i e = within (position_or_len_is (λ (x : JInsn). x.at == i.at) insns k i (omega (arith, inside)) earlier here)
   where
-    go : (b : Bool) → position_or_len p xs ≤ length xs → cond (not b) (1 + position_or_len p xs) 0 ≤ suc (length xs)
-    go true rest = omega arith
-    go false rest = omega arith
+    inside : k < length insns
+    inside = slice_get_within insns k i e
 
--- the first place, where it is among so many
-abbrev within : ℕ → ℕ → Option ℕ
-within k n = cond (nat_lt k n) (Some k) None
+    earlier : (j : ℕ) → j < k → ((get_or insns j i).at == i.at) ≡ false
+    earlier j lt =
+        let less = up j k (get_or insns j i) i (slice_get-get_or insns j i (omega (arith, lt, inside))) e lt in
+        ne_eqb _ _ (λ same. omega (arith, less, same))
 
-within-lt : (k n : ℕ) → k < n → within k n ≡ Some k
-within-lt k n lt = go (nat_lt k n) refl
-  where
-    go : (b : Bool) → nat_lt k n ≡ b → cond b (Some k) None ≡ Some k
-    go true e = refl
-    go false e = let le = ltb-false k n e in absurd (omega (arith, le, lt))
+    here : k < length insns → ((get_or insns k i).at == i.at) ≡ true
+    here lt = eq-eqb _ _ (ap (λ (x : JInsn). x.at) (get_or_from_slice_get insns k i i e))
 
-within-le : (k n : ℕ) → n ≤ k → within k n ≡ None
-within-le k n le = go (nat_lt k n) refl
-  where
-    go : (b : Bool) → nat_lt k n ≡ b → cond b (Some k) None ≡ None
-    go true e = let lt = ltb-true k n e in absurd (omega (arith, le, lt))
-    go false e = refl
+    within : position_or_len (λ (x : JInsn). x.at == i.at) insns ≡ k → position (λ (x : JInsn). x.at == i.at) insns ≡ Some k
+    within is = ap (λ n. cond (nat_lt n (length insns)) (Some n) None) is ∙ go (nat_lt k (length insns)) refl
+      where
+        go : (b : Bool) → nat_lt k (length insns) ≡ b → cond b (Some k) None ≡ Some k
+        go true f = refl
+        go false f = let le = ltb-false k (length insns) f in absurd (omega (arith, le, inside))
 
--- where a first place among n + 1 is, by whether it is among n and whether the last passes
-found : (last : Bool) (a n : ℕ) → a ≤ n → within (cond (a == n) (n + cond last 0 1) a) (n + 1) ≡ or_else (within a n) (cond last (Some n) None)
-found last a n le = go (a == n) refl
-  where
-    at_end : (last : Bool) → within (n + cond last 0 1) (n + 1) ≡ cond last (Some n) None
-    at_end true = within-lt (n + 0) (n + 1) (omega arith) ∙ ap Some (add-zero n)
-    at_end false = within-le (n + 1) (n + 1) (omega arith)
+-- ---- a search
 
-    go : (b : Bool) → (a == n) ≡ b → within (cond b (n + cond last 0 1) a) (n + 1) ≡ or_else (within a n) (cond last (Some n) None)
-    go true e = at_end last ∙ sym (ap (λ x. or_else x (cond last (Some n) None)) (within-le a n (let same = eqb-true a n e in omega (arith, same))))
-    go false e =
-        let lt : a < n = let other : a ≢ n = eqb-false a n e in omega (arith, le) in
-        within-lt a (n + 1) (omega arith) ∙ sym (ap (λ x. or_else x (cond last (Some n) None)) (within-lt a n lt))
+abbrev no_insn : JInsn
+no_insn = record { at = 0; op = jop.Nop }
 
-position-push : {X : Type 0} (p : X → Bool) (xs : List X) (y : X) → position p (xs ++ y ∷ []) ≡ or_else (position p xs) (cond (p y) (Some (length xs)) None)
-position-push p xs y =
-    ap (λ k. within k (length (xs ++ y ∷ []))) (position_or_len_push p xs y)
-    ∙ ap (λ n. within (cond (position_or_len p xs == length xs) (length xs + cond (p y) 0 1) (position_or_len p xs)) n) (length_push xs y)
-    ∙ found (p y) (position_or_len p xs) (length xs) (position_le p xs)
+abbrev offset_at : List JInsn → ℕ → ℕ
+offset_at insns k = (get_or insns k no_insn).at
 
--- what stands at a place of a row with one more
-get_or-put : (places : List (Option ℕ)) (at place offset : ℕ) → at < length places → get_or (put places at place) offset None ≡ or_else (get_or places offset None) (cond (at == offset) (Some place) None)
-get_or-put places at place offset lt = go (get_or places at None) refl
-  where
-    unchanged : (o : Option ℕ) → o ≡ or_else o None
-    unchanged None = refl
-    unchanged (Some k) = refl
+module _ (insns : List JInsn) (order : AreInOrder insns) (offset : ℕ) where
+  rises : (i j : ℕ) → i < j → j < length insns → offset_at insns i < offset_at insns j
+  rises i j less lt = order i j (get_or insns i no_insn) (get_or insns j no_insn) (slice_get-get_or insns i no_insn (omega (arith, less, lt))) (slice_get-get_or insns j no_insn lt) less
 
-    free : get_or places at None ≡ None → (b : Bool) → (at == offset) ≡ b → get_or (slice_set places at (Some place)) offset None ≡ or_else (get_or places offset None) (cond b (Some place) None)
-    free none true e =
-        let same : at ≡ offset = eqb-true at offset e in
-        subst (λ (k : ℕ). get_or (slice_set places at (Some place)) k None ≡ or_else (get_or places k None) (Some place)) same
-        (get_or-set_same places at (Some place) None lt ∙ sym (ap (λ x. or_else x (Some place)) none))
-    free none false e = get_or-set_other places at offset (Some place) None (λ is. eqb-false at offset e (sym is)) ∙ unchanged (get_or places offset None)
+  comparisons_rise : IsNonDecreasingBy (λ (i : JInsn). ordering_index (nat_cmp i.at offset)) insns
+  comparisons_rise = IsNonDecreasingBy-from_default (λ (i : JInsn). ordering_index (nat_cmp i.at offset)) insns no_insn (λ i j le lt.
+      let up : offset_at insns i ≤ offset_at insns j = grind (arith, rises i j, λ (same : i ≡ j). ap (offset_at insns) same) in
+      grind (arith, nat_tests))
 
-    taken : (k : ℕ) → get_or places at None ≡ Some k → (b : Bool) → (at == offset) ≡ b → get_or places offset None ≡ or_else (get_or places offset None) (cond b (Some place) None)
-    taken k some true e =
-        let same : at ≡ offset = eqb-true at offset e in
-        subst (λ (n : ℕ). get_or places n None ≡ or_else (get_or places n None) (Some place)) same (some ∙ sym (ap (λ x. or_else x (Some place)) some))
-    taken k some false e = unchanged (get_or places offset None)
+  -- no instruction stands at an offset between two of them
+  none_there : ((k : ℕ) → k < length insns → offset_at insns k ≡ offset → ⊥) → place_at insns offset ≡ None
+  none_there none = go (place_at insns offset) refl
+    where
+      go : (o : Option ℕ) → place_at insns offset ≡ o → o ≡ None
+      go None e = refl
+      go (Some p) e =
+          let at = position-Some (λ (i : JInsn). i.at == offset) insns p no_insn e in
+          absurd (none p at.0 (eqb-true (get_or insns p no_insn).at offset at.1))
 
-    go : (o : Option ℕ) → get_or places at None ≡ o → get_or (put_where o places at place) offset None ≡ or_else (get_or places offset None) (cond (at == offset) (Some place) None)
-    go None e = free e (at == offset) refl
-    go (Some k) e = taken k e (at == offset) refl
+  pub found_place : (k : ℕ) (r : Result ℕ ℕ) → IsSearchInRange r (length insns) → IsBinarySearchResult (λ (i : JInsn). nat_cmp i.at offset) insns r → r ≡ Ok k → (k < length insns) × (place_at insns offset ≡ Some k)
+  found_place k (Ok p) inside at e =
+      let same : p ≡ k = cc in
+      let lt : k < length insns = rw (sym same) inside in
+      let is : (get_or insns k no_insn).at ≡ offset = ap (λ (n : ℕ). (get_or insns n no_insn).at) (sym same) ∙ ranked _ offset _ (sym (at no_insn)) in
+      (lt, ap (place_at insns) (sym is) ∙ own_place insns order k (get_or insns k no_insn) (slice_get-get_or insns k no_insn lt))
+  found_place k (Err p) inside at e = absurd cc
 
--- the index of one instruction more
-pub index_more : (insns : List JInsn) (k : ℕ) (insn : JInsn) (places new : List (Option ℕ)) → k < length insns → insn ≡ get_or insns k insn → All (λ (i : JInsn). i.at < length places) insns → IsIndex (take k insns) places → new ≡ put places insn.at k → IsIndex (take (k + 1) insns) new
-index_more insns k insn places new lt is inside was now offset =
-    let at_insn : insn.at < length places = subst (λ (i : JInsn). i.at < length places) (sym is) (inside k insn lt) in
-    ap (λ (ps : List (Option ℕ)). get_or ps offset None) now
-    ∙ get_or-put places insn.at k offset at_insn
-    ∙ ap (λ x. or_else x (cond (insn.at == offset) (Some k) None)) (was offset)
-    ∙ sym (ap (position (λ (i : JInsn). i.at == offset)) (take_more insns k insn lt ∙ ap (λ (i : JInsn). take k insns ++ i ∷ []) (sym is))
-    ∙ position-push (λ (i : JInsn). i.at == offset) (take k insns) insn
-    ∙ ap (λ n. or_else (place_at (take k insns) offset) (cond (insn.at == offset) (Some n) None)) (length-take-le k insns (omega arith)))
-
-pub length-put : (places : List (Option ℕ)) (at place : ℕ) → length (put places at place) ≡ length places
-length-put places at place = go (get_or places at None)
-  where
-    go : (o : Option ℕ) → length (put_where o places at place) ≡ length places
-    go None = length-set places at (Some place)
-    go (Some k) = refl
-
--- the bound of one offset more
-pub above_more : (insns : List JInsn) (k : ℕ) (insn : JInsn) (before after : ℕ) → k < length insns → insn ≡ get_or insns k insn → All (λ (i : JInsn). i.at < before) (take k insns) → before ≤ after → insn.at < after → All (λ (i : JInsn). i.at < after) (take (k + 1) insns)
-above_more insns k insn before after lt is was le now =
-    All-more (λ (i : JInsn). i.at < after) insns k insn lt
-    (All-weaker (λ (i : JInsn). i.at < before) (λ (i : JInsn). i.at < after) (λ i h. omega (arith, h, le)) (take k insns) was)
-    (subst (λ (i : JInsn). i.at < after) is now)
-
-pub above_all : (insns : List JInsn) (k bound : ℕ) → length insns ≤ k → All (λ (i : JInsn). i.at < bound) (take k insns) → All (λ (i : JInsn). i.at < bound) insns
-above_all insns k bound le h = subst (All (λ (i : JInsn). i.at < bound)) (take_all k insns le) h
+  pub missing_place : (k : ℕ) (r : Result ℕ ℕ) → IsSearchInRange r (length insns) → IsBinarySearchResult (λ (i : JInsn). nat_cmp i.at offset) insns r → r ≡ Err k → place_at insns offset ≡ None
+  missing_place k (Ok p) inside at e = absurd cc
+  missing_place k (Err p) inside parted e = none_there (λ i lt is. elim (cases_lt i p) [
+    | inl less ↦ let low : (get_or insns i no_insn).at < offset = ranked _ offset _ (sym ((parted comparisons_rise).0 i no_insn (omega arith) less)) in omega (arith, low, is)
+    | inr past ↦ let high : offset < (get_or insns i no_insn).at = ranked _ offset _ (sym ((parted comparisons_rise).1 i no_insn past lt)) in omega (arith, high, is)
+  ])

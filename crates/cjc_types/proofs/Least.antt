@@ -7,7 +7,9 @@ use Rattle.cjc_classfile.specs.declared.tree.ClassTree.{ClassTree}
 use Rattle.cjc_classfile.specs.declared.tree.MethodTree.{MethodTree}
 use Rattle.cjc_code.specs.declared.insn.JInsn.{JInsn}
 use Rattle.cjc_code.specs.declared.method_code.MethodCode.{MethodCode}
+use Rattle.cjc_fixpoint.specs.Kept.{StandsForLeast, full}
 use Rattle.cjc_fixpoint.specs.Tables.{HasRow}
+use Rattle.cjc_fixpoint.proofs.Walking.{kept_in_full, kept_same}
 use Rattle.cjc_world.specs.Classes.{Class}
 use Rattle.cjc_world.specs.Files.{Files}
 use Rattle.cjc_types.specs.declared.cell.Cell.{Cell}
@@ -19,10 +21,11 @@ use Rattle.cjc_types.specs.declared.state.State.{State}
 use Rattle.cjc_types.specs.declared.table.Frame.{Frame}
 use Rattle.cjc_types.specs.declared.table.TypeTable.{TypeTable}
 use Rattle.cjc_types.specs.Flow.{Body, body_of, type_flow}
-use Rattle.cjc_types.specs.Search.{first_from, frames_of}
+use Rattle.cjc_types.specs.Marks.{marks_of}
+use Rattle.cjc_types.specs.Search.{first_from, frame_of, frames_of}
 use Rattle.cjc_types.specs.Working.StateLaws.{same_state}
-use Rattle.cjc_types.specs.Tables.{state_of, states_of, IsLeastTable, IsMethodOf, Breach, FirstBreach, IsTypeTable, IsBrokenBy, IsBroken, IsAnswer, Answers}
-use Rattle.cjc_types.proofs.Answering.{first_breach, unbroken_rows, states-frames}
+use Rattle.cjc_types.specs.Tables.{state_of, states_of, rows_of, IsLeastTable, IsMethodOf, Breach, FirstBreach, IsTypeTable, IsBrokenBy, IsBroken, IsAnswer, Answers}
+use Rattle.cjc_types.proofs.Answering.{first_breach, unbroken_rows, framed_rows, states-frames}
 
 -- ---- one least table
 
@@ -94,13 +97,17 @@ frames_same (x ∷ xs) (y ∷ ys) e =
 
 pub one_table : (w : List Class) (b : Body) (left right : TypeTable) → IsTypeTable w b left → IsTypeTable w b right → left ≡ right
 one_table w b left right h k =
-    let frames : left.frames ≡ right.frames = frames_same left.frames right.frames (one_least b (states_of left.frames) (states_of right.frames) h.least k.least) in
-    let make : List (Option Frame) → TypeTable = λ fs. record { frames = fs } in
-    ap make frames
+    let places = length b.insns in
+    let marks : left.marks ≡ right.marks = h.marks ∙ sym k.marks in
+    let other : StandsForLeast (type_flow b) places left.marks (states_of right.frames) = subst (λ (ms : List ℕ). StandsForLeast (type_flow b) places ms (states_of right.frames)) (sym marks) k.stands in
+    let rows = one_least b (full (type_flow b) places left.marks (states_of left.frames)) (full (type_flow b) places left.marks (states_of right.frames)) h.stands.least other.least in
+    let frames : left.frames ≡ right.frames = frames_same left.frames right.frames (kept_same (type_flow b) places left.marks (states_of left.frames) (states_of right.frames) h.stands other rows) in
+    let make : List ℕ → List (Option Frame) → TypeTable = λ ms fs. record { marks = ms; frames = fs } in
+    ap (λ (ms : List ℕ). make ms left.frames) marks ∙ ap (λ (fs : List (Option Frame)). make right.marks fs) frames
 
 pub not_both : (w : List Class) (b : Body) (table : TypeTable) (x : BrokenAt) → IsTypeTable w b table → IsBrokenBy w b x → ⊥
 not_both w b table x h k =
-    h.unbroken k.place x.rule (subst (λ (rows : List (Option State)). Breach w b rows k.place x.rule) (one_least b k.rows (states_of table.frames) k.least h.least) k.first.breach)
+    h.unbroken k.place x.rule (subst (λ (rows : List (Option State)). Breach w b rows k.place x.rule) (one_least b k.rows (rows_of b table) k.least h.stands.least) k.first.breach)
 
 -- two first breaches of the rows are at one place, and by one rule
 same_first : (w : List Class) (b : Body) (rows : List (Option State)) (k i r q : ℕ) → FirstBreach w b rows k r → FirstBreach w b rows i q → (k ≡ i) × (r ≡ q)
@@ -148,39 +155,56 @@ module _ (w : List Class) (b : Body) where
 -- ---- the method
 
 -- the method that a code names is the one that is read
-pub answers_for : (w : List Class) (files : Files) (code : MethodCode) (class : ClassTree) (method : MethodTree) (tree : CodeTree) (insns : List JInsn) (result : Result TypeTable InferError)
-    → class ≡ get_or files.classes code.class class → method ≡ get_or class.methods code.method method → method.code ≡ Some tree → insns ≡ code.insns
-    → Answers w (body_of class method tree insns) result
-    → (c : ClassTree) (m : MethodTree) (t : CodeTree) → IsMethodOf files code c m t → Answers w (body_of c m t code.insns) result
-answers_for w files code class method tree insns result is_class is_method is_code is_insns h c m t of =
+pub method_same : (files : Files) (code : MethodCode) (class : ClassTree) (method : MethodTree) → class ≡ get_or files.classes code.class class → method ≡ get_or class.methods code.method method
+    → (c : ClassTree) (m : MethodTree) (t : CodeTree) → IsMethodOf files code c m t → (class ≡ c) × (method ≡ m)
+method_same files code class method is_class is_method c m t of =
     let same_class : class ≡ c = is_class ∙ get_or_from_slice_get files.classes code.class c class of.is_class in
     let methods : get_or class.methods code.method method ≡ get_or c.methods code.method method = ap (λ (k : ClassTree). get_or k.methods code.method method) same_class in
-    let same_method : method ≡ m = is_method ∙ methods ∙ get_or_from_slice_get c.methods code.method m method of.is_method in
-    let codes : Some tree ≡ Some t = sym is_code ∙ ap (λ (k : MethodTree). k.code) same_method ∙ of.is_code in
+    (same_class, is_method ∙ methods ∙ get_or_from_slice_get c.methods code.method m method of.is_method)
+
+pub body_same : (files : Files) (code : MethodCode) (class : ClassTree) (method : MethodTree) (tree : CodeTree) (insns : List JInsn)
+    → class ≡ get_or files.classes code.class class → method ≡ get_or class.methods code.method method → method.code ≡ Some tree → insns ≡ code.insns
+    → (c : ClassTree) (m : MethodTree) (t : CodeTree) → IsMethodOf files code c m t → body_of class method tree insns ≡ body_of c m t code.insns
+body_same files code class method tree insns is_class is_method is_code is_insns c m t of =
+    let same = method_same files code class method is_class is_method c m t of in
+    let codes : Some tree ≡ Some t = sym is_code ∙ ap (λ (k : MethodTree). k.code) same.1 ∙ of.is_code in
     let same_tree : tree ≡ t = cc in
-    subst (λ (k : ClassTree). Answers w (body_of k m t code.insns) result) same_class
-    (subst (λ (k : MethodTree). Answers w (body_of class k t code.insns) result) same_method
-    (subst (λ (k : CodeTree). Answers w (body_of class method k code.insns) result) same_tree
-    (subst (λ (k : List JInsn). Answers w (body_of class method tree k) result) is_insns h)))
+    ap (λ (k : ClassTree). body_of k method tree insns) same.0
+    ∙ ap (λ (k : MethodTree). body_of c k tree insns) same.1
+    ∙ ap (λ (k : CodeTree). body_of c m k insns) same_tree
+    ∙ ap (λ (k : List JInsn). body_of c m t k) is_insns
 
 -- ---- what is judged
 
-pub judged_broken : (w : List Class) (b : Body) (rows given : List (Option State)) (insns : List JInsn) (answer : Option FirstBroken) (f : FirstBroken) (d : JInsn) (x : BrokenAt)
-    → IsLeastTable b rows → insns ≡ b.insns → given ≡ rows → answer ≡ first_from w b 0 insns given → answer ≡ Some f → x ≡ record { rule = f.rule; offset = (get_or insns f.place d).at }
-    → IsBroken w b (errors.Broken x)
-judged_broken w b rows given insns answer f d x least is_insns is_rows is_answer is_some told =
-    let found : first_from w b 0 b.insns rows ≡ Some f = sym (ap (λ (xs : List (Option State)). first_from w b 0 b.insns xs) is_rows) ∙ sym (ap (λ (is : List JInsn). first_from w b 0 is given) is_insns) ∙ sym is_answer ∙ is_some in
-    let first = first_breach w b rows f found in
-    let same : get_or insns f.place d ≡ first.breach.insn = ap (λ (is : List JInsn). get_or is f.place d) is_insns ∙ get_or_from_slice_get b.insns f.place first.breach.insn d first.breach.is_insn in
-    let this : IsBrokenBy w b (record { rule = f.rule; offset = (get_or insns f.place d).at }) = record { rows = rows; least = least; place = f.place; first = first; is = ap (λ (i : JInsn). i.at) same } in
-    inr (x, subst (IsBrokenBy w b) (sym told) this, refl)
+module _ (w : List Class) (b : Body) (marks : List ℕ) (kept : List (Option State)) (stands : StandsForLeast (type_flow b) (length b.insns) marks kept) (answer : Option FirstBroken) where
+  abbrev all : List (Option State)
+  all = full (type_flow b) (length b.insns) marks kept
 
-pub judged_fine : (w : List Class) (b : Body) (rows given : List (Option State)) (insns : List JInsn) (answer : Option FirstBroken) (frames : List (Option Frame))
-    → IsLeastTable b rows → insns ≡ b.insns → given ≡ rows → answer ≡ first_from w b 0 insns given → answer ≡ None → frames ≡ frames_of rows → IsTypeTable w b (record { frames = frames })
-judged_fine w b rows given insns answer frames least is_insns is_rows is_answer is_none is =
-    let none : first_from w b 0 b.insns rows ≡ None = sym (ap (λ (xs : List (Option State)). first_from w b 0 b.insns xs) is_rows) ∙ sym (ap (λ (is : List JInsn). first_from w b 0 is given) is_insns) ∙ sym is_answer ∙ is_none in
-    let same : states_of frames ≡ rows = ap states_of is ∙ states-frames w b 0 b.insns rows least.closed.sized none in
-    record {
-      least = subst (IsLeastTable b) (sym same) least;
-      unbroken = λ place rule h. unbroken_rows w b rows none place rule (subst (λ (xs : List (Option State)). Breach w b xs place rule) same h);
-    }
+  pub judged_broken : (insns : List JInsn) (f : FirstBroken) (d : JInsn) (x : BrokenAt) → insns ≡ b.insns → answer ≡ first_from w b 0 b.insns (full (type_flow b) (length b.insns) marks kept) → answer ≡ Some f
+      → x ≡ record { rule = f.rule; offset = (get_or insns f.place d).at } → IsBroken w b (errors.Broken x)
+  judged_broken insns f d x is_insns is_answer is_some told =
+      let found : first_from w b 0 b.insns all ≡ Some f = sym is_answer ∙ is_some in
+      let first = first_breach w b all f found in
+      let same : get_or insns f.place d ≡ first.breach.insn = ap (λ (is : List JInsn). get_or is f.place d) is_insns ∙ get_or_from_slice_get b.insns f.place first.breach.insn d first.breach.is_insn in
+      let this : IsBrokenBy w b (record { rule = f.rule; offset = (get_or insns f.place d).at }) = record { rows = all; least = stands.least; place = f.place; first = first; is = ap (λ (i : JInsn). i.at) same } in
+      inr (x, subst (IsBrokenBy w b) (sym told) this, refl)
+
+  -- a kept row is a row of the table, which is no clash
+  kept_frames : ((place rule : ℕ) → Breach w b (full (type_flow b) (length b.insns) marks kept) place rule → ⊥) → (k : ℕ) (x : State) → HasRow kept k x → state_of (frame_of x) ≡ x
+  kept_frames unbroken k x row =
+      let lt = slice_get_within kept k (Some x) row in
+      let sized = stands.sized in
+      let at = get_or marks k 0 in
+      let in_all = kept_in_full (type_flow b) (length b.insns) marks kept stands k at (slice_get-get_or marks k 0 (omega (arith, lt, sized))) in
+      framed_rows w b all stands.least.closed.sized unbroken at x (in_all ∙ row)
+
+  pub judged_fine : (frames : List (Option Frame)) → marks ≡ marks_of b → answer ≡ first_from w b 0 b.insns (full (type_flow b) (length b.insns) marks kept) → answer ≡ None → frames ≡ frames_of kept → IsTypeTable w b (record { marks = marks; frames = frames })
+  judged_fine frames is_marks is_answer is_none is =
+      let none : first_from w b 0 b.insns all ≡ None = sym is_answer ∙ is_none in
+      let unbroken : (place rule : ℕ) → Breach w b all place rule → ⊥ = unbroken_rows w b all none in
+      let same : kept ≡ states_of frames = sym (ap states_of is ∙ states-frames kept (kept_frames unbroken)) in
+      record {
+        marks = is_marks;
+        stands = subst (λ (rows : List (Option State)). StandsForLeast (type_flow b) (length b.insns) marks rows) same stands;
+        unbroken = subst (λ (rows : List (Option State)). (place rule : ℕ) → Breach w b (full (type_flow b) (length b.insns) marks rows) place rule → ⊥) same unbroken;
+      }

@@ -9,6 +9,8 @@ pub mod Heights
 pub mod Indexing
 pub mod Joining
 pub mod Least
+pub mod Marked
+pub mod Onwards
 pub mod Passing
 pub mod Reversed
 pub mod Telling

@@ -1,7 +1,6 @@
 -- A table without a broken rule has what each instruction takes.
-use Rattle.std.proofs.Common.{◌≡◌, ◌||◌, ◌&&◌, not, ◌≤◌, ◌<◌, ◌+◌, ℕ, zero, suc, Bool, true, false, cond, nat_lt, List, [], ◌∷◌, map, filter_map, length, slice_get, Option, Some, None, option_map, Contains, refl, sym, ◌∙◌, ap, subst, inl, inr, add-zero, arith}
+use Rattle.std.proofs.Common.{◌≡◌, ◌||◌, ◌&&◌, not, ◌≤◌, ◌<◌, ◌+◌, ℕ, zero, suc, Bool, true, false, cond, nat_lt, List, [], ◌∷◌, map, filter_map, length, Option, Some, None, option_map, Contains, refl, sym, ◌∙◌, ap, subst, inl, inr, add-zero, arith}
 use Rattle.std.proofs.lemmas.Bool.{ltb-false}
-use Rattle.std.proofs.lemmas.Option.{slice_get-map}
 use Rattle.std.proofs.lemmas.List.Elements.{Contains-append_left, Contains-append_right}
 use Rattle.std.specs.List.{cons_option}
 use Rattle.cjc_classfile.specs.declared.tree.Catch.{Catch}
@@ -9,17 +8,17 @@ use Rattle.cjc_code.specs.declared.insn.JInsn.{JInsn}
 use Rattle.cjc_code.specs.declared.insn.JOp.{JOp}
 use Rattle.cjc_fixpoint.specs.declared.flow.Edge.{Edge}
 use Rattle.cjc_fixpoint.specs.Working.Edges.{contains_head, contains_tail, contains_cons}
-use Rattle.cjc_fixpoint.specs.Tables.{HasRow}
 use Rattle.cjc_world.specs.Classes.{Class}
 use Rattle.cjc_types.specs.declared.cell.Cell.{Cell}
 use Rattle.cjc_types.specs.declared.state.State.{State}
-use Rattle.cjc_types.specs.declared.table.Frame.{Frame}
 use Rattle.cjc_types.specs.declared.table.TypeTable.{TypeTable}
 use Rattle.cjc_types.specs.Steps.{operand, takes, stack_behind, after}
 use Rattle.cjc_types.specs.Flow.{Body, place_at, successors, edge, covers, caught, handler_edge, insn_edges, place_edges, type_flow}
 use Rattle.cjc_types.specs.Rules.{accepts, has_wrong, has_wrong_local, is_wrong_return, is_wrong, is_off, wrong, off}
-use Rattle.cjc_types.specs.Tables.{state_of, states_of, IsTypeTable}
-use Rattle.cjc_types.specs.Typed.{AreTyped, Leads}
+use Rattle.cjc_types.specs.Tables.{state_of, rows_of, IsTypeTable}
+use Rattle.cjc_types.specs.Search.{frame_of}
+use Rattle.cjc_types.specs.Typed.{AreFrames, AreTyped, Leads}
+use Rattle.cjc_types.proofs.Answering.{framed_rows}
 
 -- ---- tests
 
@@ -47,19 +46,16 @@ unless : (b : Bool) → (b ≡ true → ⊥) → b ≡ false
 unless true h = absurd (h refl)
 unless false h = refl
 
--- ---- rows
+-- ---- lists
 
-row_of : (frames : List (Option Frame)) (k : ℕ) (f : Frame) → slice_get frames k ≡ Some (Some f) → HasRow (states_of frames) k (state_of f)
-row_of frames k f e = slice_get-map (option_map state_of) frames k ∙ ap (option_map (option_map state_of)) e
-
-contains_mapped : {A B : Type 0} (f : A → B) (xs : List A) (x : A) → Contains xs x → Contains (map f xs) (f x)
+pub contains_mapped : {A B : Type 0} (f : A → B) (xs : List A) (x : A) → Contains xs x → Contains (map f xs) (f x)
 contains_mapped f [] x (k, lt, e) = absurd (omega arith)
 contains_mapped {A} {B} f (y ∷ ys) x is = elim (contains_cons y ys x is) [
   | inl same ↦ subst (λ (z : A). Contains (f y ∷ map f ys) (f z)) same (contains_head (f y) (map f ys))
   | inr later ↦ contains_tail (f y) (map f ys) (f x) (contains_mapped f ys x later)
 ]
 
-contains_kept : {A B : Type 0} (h : A → Option B) (xs : List A) (x : A) (y : B) → Contains xs x → h x ≡ Some y → Contains (filter_map h xs) y
+pub contains_kept : {A B : Type 0} (h : A → Option B) (xs : List A) (x : A) (y : B) → Contains xs x → h x ≡ Some y → Contains (filter_map h xs) y
 contains_kept h [] x y (k, lt, e) is = absurd (omega arith)
 contains_kept {A} {B} h (z ∷ zs) x y has is = elim (contains_cons z zs x has) [
   | inl same ↦ subst (λ (o : Option B). Contains (cons_option o (filter_map h zs)) y) (sym (ap h same ∙ is)) (contains_head y (filter_map h zs))
@@ -73,7 +69,7 @@ contains_kept {A} {B} h (z ∷ zs) x y has is = elim (contains_cons z zs x has) 
 -- ---- each instruction
 
 pub are_typed : (w : List Class) (b : Body) (table : TypeTable) → IsTypeTable w b table → AreTyped w b table
-are_typed w b table h place insn frame is_insn is_frame = record {
+are_typed w b table h place insn frame is_insn row = record {
   locals = own.1;
   there = there;
   operands = accepted w b insn.op (takes insn.op) frame.stack right.0 there;
@@ -85,11 +81,8 @@ are_typed w b table h place insn frame is_insn is_frame = record {
   handled = λ c is covered to found. steps (edge (caught c (state_of frame)) to) (Contains-append_right _ _ _ (contains_kept (handler_edge b.insns insn.at (state_of frame)) b.catches c (edge (caught c (state_of frame)) to) is (handler c to covered found)));
 }
   where
-    row : HasRow (states_of table.frames) place (state_of frame)
-    row = row_of table.frames place frame is_frame
-
     own : (type_flow b).Own (state_of frame)
-    own = h.least.closed.own place (state_of frame) row
+    own = h.stands.least.closed.own place (state_of frame) row
 
     not_wrong : is_wrong w b insn.op frame.locals frame.stack ≡ false
     not_wrong = unless (is_wrong w b insn.op frame.locals frame.stack) (λ e. h.unbroken place 502 (record { insn = insn; is_insn = is_insn; state = state_of frame; reached = row; breaks = wrong frame.stack frame.locals e }))
@@ -117,8 +110,11 @@ are_typed w b table h place insn frame is_insn is_frame = record {
     there : takes insn.op ≤ length frame.stack
     there = ltb-false (length frame.stack) (takes insn.op) heights.0
 
-    steps : (e : Edge State) → Contains (insn_edges b place insn (state_of frame)) e → Leads b table.frames e.to e.state
-    steps e is = h.least.closed.steps place (state_of frame) row e (subst (λ (o : Option JInsn). Contains (place_edges b place o (state_of frame)) e) (sym is_insn) is)
+    steps : (e : Edge State) → Contains (insn_edges b place insn (state_of frame)) e → Leads b (rows_of b table) e.to e.state
+    steps e is = h.stands.least.closed.steps place (state_of frame) row e (subst (λ (o : Option JInsn). Contains (place_edges b place o (state_of frame)) e) (sym is_insn) is)
 
     handler : (c : Catch) (to : ℕ) → covers c insn.at ≡ true → place_at b.insns c.target ≡ Some to → handler_edge b.insns insn.at (state_of frame) c ≡ Some (edge (caught c (state_of frame)) to)
     handler c to covered found = ap (λ is. cond is (option_map (edge (caught c (state_of frame))) (place_at b.insns c.target)) None) covered ∙ ap (option_map (edge (caught c (state_of frame)))) found
+
+pub are_frames : (w : List Class) (b : Body) (table : TypeTable) → IsTypeTable w b table → AreFrames (rows_of b table)
+are_frames w b table h place x row = (frame_of x, sym (framed_rows w b (rows_of b table) h.stands.least.closed.sized h.unbroken place x row))

@@ -12,4 +12,5 @@ pub mod Rules
 pub mod Tables
 pub mod Search
 pub mod Typed
+pub mod Walks
 pub mod Among

@@ -10,6 +10,7 @@ use Rattle.cjc_code.specs.Decoded.{decoding_at}
 use Rattle.cjc_bytes.specs.declared.breaks.BrokenAt.{BrokenAt}
 use Rattle.cjc_code.specs.declared.insn.JInsn.{JInsn}
 use Rattle.cjc_code.specs.declared.method_code.MethodCode.{MethodCode}
+use Rattle.cjc_fixpoint.specs.Kept.{StandsForLeast, full}
 use Rattle.cjc_fixpoint.specs.Tables.{HasRow, IsLeastClosed}
 use Rattle.cjc_world.specs.Classes.{Class}
 use Rattle.cjc_world.specs.Files.{Files}
@@ -20,6 +21,7 @@ use Rattle.cjc_types.specs.declared.state.State.{State}
 use Rattle.cjc_types.specs.declared.table.Frame.{Frame}
 use Rattle.cjc_types.specs.declared.table.TypeTable.{TypeTable}
 use Rattle.cjc_types.specs.Flow.{Body, type_flow}
+use Rattle.cjc_types.specs.Marks.{marks_of}
 use Rattle.cjc_types.specs.Rules.{Breaks}
 
 -- ---- which method
@@ -44,6 +46,11 @@ state_of f = record { stack = Cells f.stack; locals = f.locals }
 -- the states that the frames of a table are
 abbrev pub states_of : List (Option Frame) → List (Option State)
 states_of frames = map (option_map state_of) frames
+
+-- The states before all instructions, which the frames at marked ones stand for: where an instruction has no mark, the state is
+-- what the instruction before hands on.
+abbrev pub rows_of : Body → TypeTable → List (Option State)
+rows_of b table = full (type_flow b) (length b.insns) table.marks (states_of table.frames)
 
 -- the least table that is closed under the instructions of a method
 abbrev pub IsLeastTable : Body → List (Option State) → Type 0
@@ -73,10 +80,11 @@ refusal_in file class method broken = record {
   place = record { file = file; class = class.name; member = method.name ++ method.desc; offset = broken.offset };
 }
 
--- The table is the least one, and no reached instruction breaks a rule.
+-- The table has the marked places with their frames and stands for the least one, and no reached instruction breaks a rule.
 pub record IsTypeTable (w : List Class) (b : Body) (table : TypeTable) : Type 0 where
-  pub least : IsLeastTable b (states_of table.frames)
-  pub unbroken : (place rule : ℕ) → Breach w b (states_of table.frames) place rule → ⊥
+  pub marks : table.marks ≡ marks_of b
+  pub stands : StandsForLeast (type_flow b) (length b.insns) table.marks (states_of table.frames)
+  pub unbroken : (place rule : ℕ) → Breach w b (rows_of b table) place rule → ⊥
 
 -- The rule is that of the first breach of the least table, and the offset that of its instruction.
 pub record IsBrokenBy (w : List Class) (b : Body) (broken : BrokenAt) : Type 0 where

@@ -1,10 +1,12 @@
 //! Inference: the least table of a method, or the first rule that it breaks.
 
-ghost use Rattle.std.specs.Prelude.{◌≡◌, ◌<◌, ◌^◌, List, length, option_map, IfOk, IfErr, IfSome, Ok, Err, ℕ};
+ghost use Rattle.std.specs.Prelude.{◌≡◌, ◌<◌, ◌^◌, length, IfOk, IfErr, IfSome, Ok, Err};
 ghost use Rattle.cjc_world.specs.Classes.{all_classes};
-ghost use Rattle.cjc_types.specs.Search.{row_rule as row_rule_of, first_from, cells_of as cells_of_stack, frame_of as frame_of_state, frames_of};
-ghost use Rattle.cjc_types.specs.Flow.{body_of};
-ghost use Rattle.cjc_types.specs.Tables.{Answers, IsAnswer, IsBroken, IsBrokenBy, IsLeastTable, IsMethodOf, IsOfPackage, IsRefused, IsRefusedBy, IsTypeTable, refusal_in};
+ghost use Rattle.cjc_types.specs.Search.{row_rule as row_rule_of, first_from, frames_of};
+ghost use Rattle.cjc_fixpoint.specs.Kept.{StandsForLeast, full};
+ghost use Rattle.cjc_types.specs.Flow.{body_of, type_flow};
+ghost use Rattle.cjc_types.specs.Marks.{marks_of as marks_by};
+ghost use Rattle.cjc_types.specs.Tables.{Answers, IsAnswer, IsBroken, IsBrokenBy, IsMethodOf, IsOfPackage, IsRefused, IsRefusedBy, IsTypeTable, refusal_in};
 ghost use Rattle.cjc_types.specs.Working.Told.{ToldAs};
 ghost use Rattle.cjc_types.specs.declared.inference.InferError.TheVariants as errors;
 ghost use Rattle.cjc_bytes.specs.declared.breaks.BrokenAt.{BrokenAt as Wrong};
@@ -16,16 +18,15 @@ ghost use Rattle.cjc_classfile.specs.declared.tree.MethodTree.{MethodTree as Cla
 ghost use Rattle.cjc_bytes.specs.declared.fault.Refusal.{Refusal as Told};
 ghost use Rattle.cjc_types.specs.declared.table.TypeTable.{TypeTable as Types};
 
-use crate::index::index;
+use crate::marks::marks_of;
 use crate::method::Method;
-use crate::operands::Operands;
 use crate::rules;
-use crate::state::{Stack, State};
-use crate::table::{Frame, TypeTable};
+use crate::state::State;
+use crate::table::{Frame, TypeTable, frame_in};
 use cjc_bytes::{BrokenAt, Bytes, Fault, NoMemory, Place, Refusal, Row, Rule};
-use cjc_classfile::{ClassTree, Code, MethodTree};
+use cjc_classfile::{ClassTree, MethodTree};
 use cjc_code::{JInsn, MethodCode};
-use cjc_fixpoint::{all_marks, solve};
+use cjc_fixpoint::{Table, Walk, solve};
 use cjc_world::World;
 use std::alloc::Global;
 
@@ -72,54 +73,27 @@ fn row_rule(
     }
 }
 
-/// The first rule that a method breaks.
+/// The first rule that a method breaks by its least table.
 fn first_broken(
+    alloc: Global,
     world: &World<'_>,
     method: &Method<'_>,
-    insns: &[JInsn],
-    rows: &[Option<State>],
-) -> Option<FirstBroken>
-    requires { length rows.now ≡ length insns.now }
-    ensures first { result ≡ first_from (all_classes world.now) method.now 0 insns.now rows.now }
-    ensures within { IfSome result (λ f. f.place < length insns.now) }
+    table: &Table<State>,
+) -> Result<Option<FirstBroken>, NoMemory>
+    requires { StandsForLeast (type_flow method.now) (length method.now.insns) table.now.marks table.now.rows }
+    ensures first { IfOk result (λ first. first ≡ first_from (all_classes world.now) method.now 0 method.now.insns (full (type_flow method.now) (length method.now.insns) table.now.marks table.now.rows)) }
+    ensures within { IfOk result (λ first. IfSome first (λ f. f.place < length method.now.insns)) }
 {
+    let insns = method.insns;
+    let mut walk = Walk::new(method, table, method.places());
     for place in 0..insns.len() {
-        if let Some(rule) = row_rule(world, method, &insns[place], &rows[place]) {
-            return Some(FirstBroken { place, rule });
+        let broken = row_rule(world, method, &insns[place], walk.row());
+        match broken {
+            Some(rule) => return Ok(Some(FirstBroken { place, rule })),
+            None => walk.advance(alloc)?,
         }
     }
-    None
-}
-
-/// The cells of a stack; of a clash none.
-fn cells_of(alloc: Global, stack: Stack) -> Operands
-    ensures { result ≡ cells_of_stack stack }
-{
-    match stack {
-        Stack::Cells(cells) => cells,
-        Stack::Clash => Operands::new(alloc),
-    }
-}
-
-/// The frame of a state.
-fn frame_of(alloc: Global, state: State) -> Frame
-    ensures { result ≡ frame_of_state state }
-{
-    let State { stack, locals } = state;
-    Frame {
-        stack: cells_of(alloc, stack),
-        locals,
-    }
-}
-
-/// The frame of a row.
-fn frame_in(alloc: Global, row: Option<State>) -> Option<Frame>
-    ensures { result ≡ option_map frame_of_state row }
-{
-    match row {
-        Some(state) => Some(frame_of(alloc, state)),
-        None => None,
-    }
+    Ok(None)
 }
 
 /// The frames of all rows.
@@ -156,57 +130,39 @@ fn refused(
     })
 }
 
-/// What the least table of a method gives: the table, or the first rule that it breaks.
+/// The least table of a method, with rows at its marks.
+fn least_table(alloc: Global, method: &Method<'_>) -> Result<Table<State>, NoMemory>
+    ensures marks { IfOk result (λ table. table.marks ≡ marks_by method.now) }
+    ensures stands { IfOk result (λ table. StandsForLeast (type_flow method.now) (length method.now.insns) table.marks table.rows) }
+{
+    let marks = marks_of(alloc, method)?;
+    solve(alloc, method, method.places(), &marks)
+}
+
+/// What the least table of a method gives: the types, or the first rule that it breaks.
 fn judged(
     alloc: Global,
     world: &World<'_>,
-    body: &Method<'_>,
-    rows: Vec<Option<State>>,
+    method: &Method<'_>,
+    table: Table<State>,
 ) -> Result<TypeTable, InferError>
-    requires { IsLeastTable body.now rows.items }
-    ensures { Answers (all_classes world.now) body.now result }
+    requires marks { table.marks ≡ marks_by method.now }
+    requires stands { StandsForLeast (type_flow method.now) (length method.now.insns) table.marks table.rows }
+    ensures { Answers (all_classes world.now) method.now result }
 {
-    let first = first_broken(world, body, body.insns, &rows);
+    let first = first_broken(alloc, world, method, &table)?;
     match first {
         Some(first) => {
-            let offset = body.insns[first.place].at;
+            let offset = method.insns[first.place].at;
             let rule = first.rule;
             Err(InferError::Broken(BrokenAt { rule, offset }))
         }
         None => {
-            let frames = frames(alloc, rows)?;
-            Ok(TypeTable { frames })
+            let Table { marks, rows } = table;
+            let frames = frames(alloc, rows.into_vec())?;
+            Ok(TypeTable { marks, frames })
         }
     }
-}
-
-/// Inference for a method of a class with its code and its instructions.
-fn infer_code(
-    alloc: Global,
-    world: &World<'_>,
-    class: &ClassTree<'_>,
-    method: &MethodTree<'_>,
-    tree: &Code<'_>,
-    insns: &[JInsn],
-) -> Result<TypeTable, InferError>
-    requires { length insns.now < 2 ^ 32 }
-    ensures { Answers (all_classes world.now) (body_of class.now method.now tree.now insns.now) result }
-{
-    let places = index(alloc, insns)?;
-    let body = Method {
-        class: class.name.items(),
-        flags: method.flags,
-        desc: method.desc.items(),
-        max_stack: tree.max_stack,
-        max_locals: tree.max_locals,
-        catches: tree.catches.items(),
-        insns,
-        places: places.items(),
-    };
-    let count = insns.len() as u32;
-    let marks = all_marks(alloc, count)?;
-    let table = solve(alloc, &body, count, &marks)?;
-    judged(alloc, world, &body, table.rows.into_vec())
 }
 
 /// The types of a method: the least table that is closed under its instructions.
@@ -237,12 +193,9 @@ pub fn infer_method(
     ensures breaks { (c : Class) (m : ClassMethod) (t : CodeTree) → IsMethodOf world.now code.now c m t
         → (b : Wrong) → IsBrokenBy (all_classes world.now) (body_of c m t code.now.insns) b → IsAnswer (Err (errors.Broken b)) result }
 {
-    let class = &world.classes().items()[code.class as usize];
-    let method = &class.methods.items()[code.method as usize];
-    match &method.code {
-        Some(tree) => infer_code(alloc, world, class, method, tree, code.insns.items()),
-        None => Err(InferError::NoMemory),
-    }
+    let method = Method::new(world, code);
+    let table = least_table(alloc, &method)?;
+    judged(alloc, world, &method, table)
 }
 
 /// An answer with a broken rule as the refusal of a method.

@@ -28,8 +28,8 @@ ghost use Rattle.cjc_types.specs.Flow.{Body, entry, type_flow};
 ghost use Rattle.cjc_types.specs.Marks.{marks_of};
 ghost use Rattle.cjc_types.specs.Repeats.{CoverAlike, repeats_at};
 ghost use Rattle.cjc_types.specs.Rules.{is_number, is_reference, all_types, is_of};
-ghost use Rattle.cjc_types.specs.Tables.{Breach, IsLeastTable, IsMethodOf, IsTypeTable};
-ghost use Rattle.cjc_types.specs.Typed.{AreTyped, Leads};
+ghost use Rattle.cjc_types.specs.Tables.{Breach, IsLeastTable, IsMethodOf, IsTypeTable, rows_of};
+ghost use Rattle.cjc_types.specs.Typed.{AreFrames, AreTyped, Leads};
 
 /// The flow of every method obeys the laws of flows and stays among the method's instructions.
 pub fn flow_laws()
@@ -56,12 +56,14 @@ pub fn code_laws()
 
 /// A method has one least table. No stack of it is cut off for its height. A rule is broken at an instruction of it only
 /// where each closed table breaks a rule there. In a table without a broken rule the entry leads to the first instruction, and each
-/// instruction that is reached has the operands that it takes, each of its kind and class, and leads to what follows.
+/// instruction that is reached has a frame, with the operands that it takes, each of its kind and class, and leads to what
+/// follows. So it is of all instructions, also where the table has no frame of its own.
 pub fn table_laws()
     ensures one { (b : Body) (xs ys : List (Option Before)) → IsLeastTable b xs → IsLeastTable b ys → xs ≡ ys }
-    ensures first { (w : List Class) (b : Body) (table : Types) → IsTypeTable w b table → 0 < length b.insns → Leads b table.frames 0 (entry b) }
+    ensures first { (w : List Class) (b : Body) (table : Types) → IsTypeTable w b table → 0 < length b.insns → Leads b (rows_of b table) 0 (entry b) }
     ensures uncut { (b : Body) (xs : List (Option Before)) → IsLeastTable b xs → length b.insns ≤ 65535 → (place : ℕ) (x : Before) (s : List Known) (op : JOp) → HasRow xs place x → x.stack ≡ stacks.Cells s → stack_after op x.locals x.stack ≡ stacks.Cells (stack_behind op x.locals s) }
     ensures broken { (w : List Class) (b : Body) (xs : List (Option Before)) (place rule : ℕ) → IsLeastTable b xs → Breach w b xs place rule → (ys : List (Option Before)) → IsClosed (type_flow b) (length b.insns) ys → (other : ℕ) × Breach w b ys place other }
+    ensures framed { (w : List Class) (b : Body) (table : Types) → IsTypeTable w b table → AreFrames (rows_of b table) }
     ensures typed { (w : List Class) (b : Body) (table : Types) → IsTypeTable w b table → AreTyped w b table }
 {}
 

@@ -1,25 +1,31 @@
 //! A method as a dataflow problem, whose places are its instructions.
 
 ghost use Rattle.std.specs.Prelude.{◌≡◌, ◌<◌, ◌≤◌, ◌+◌, ◌^◌, [], ◌∷◌, ◌++◌, map, filter_map, length, slice_get, option_to_list, IfOk, OnOk};
-ghost use Rattle.cjc_types.specs.Flow.{arguments as arguments_of, entry as entry_of, place_at as place_by, next_place as next_by, successors as successors_of, edge, covers as covers_offset, caught_type as type_caught, caught as caught_by, handler_edge as handler_edge_of, insn_edges as insn_edges_of, place_edges as edges_of_place};
 ghost use Rattle.std.specs.List.{list_any};
+ghost use Rattle.cjc_types.specs.Flow.{Body, body_of, arguments as arguments_of, entry as entry_of, place_at as place_by, next_place as next_by, successors as successors_of, edge, covers as covers_offset, caught_type as type_caught, caught as caught_by, handler_edge as handler_edge_of, insn_edges as insn_edges_of, place_edges as edges_of_place};
+ghost use Rattle.cjc_types.specs.Index.{AreInOrder};
+ghost use Rattle.cjc_types.specs.Tables.{IsMethodOf, IsOfPackage};
 ghost use Rattle.cjc_types.specs.Working.Onward.{begins_at, gone_on, may_lead as may_lead_by};
 ghost use Rattle.cjc_types.specs.Types.{parts, value_of};
+ghost use Rattle.cjc_classfile.specs.Code.{CodeTree};
+ghost use Rattle.cjc_classfile.specs.declared.tree.ClassTree.{ClassTree as Class};
+ghost use Rattle.cjc_classfile.specs.declared.tree.MethodTree.{MethodTree as ClassMethod};
 
 use crate::cell::Cell;
 use crate::operands::Operands;
 use crate::state::{self, Stack, State};
-use crate::{names, steps, types};
+use crate::{index, names, steps, types};
 use cjc_bytes::{Bytes, NoMemory, Row, is_static};
-use cjc_classfile::Catch;
-use cjc_code::{JInsn, JOp};
+use cjc_classfile::{Catch, ClassTree, Code, MethodTree};
+use cjc_code::{JInsn, JOp, MethodCode};
 use cjc_fixpoint::{Edge, Flow, Repeating, moved_on};
+use cjc_world::World;
 use std::alloc::Global;
 use std::marker::Model;
 
-/// What inference reads of a method with code.
+/// What inference reads of a method with code. Contracts see it as its body.
 #[derive(Drop)]
-pub(crate) struct Method<'a> {
+pub struct Method<'a> {
     /// The class that holds the method.
     pub(crate) class: &'a [u8],
     pub(crate) flags: u16,
@@ -28,20 +34,18 @@ pub(crate) struct Method<'a> {
     pub(crate) max_locals: u16,
     pub(crate) catches: &'a [Catch],
     pub(crate) insns: &'a [JInsn],
-    /// By the offset of an instruction its place.
-    pub(crate) places: &'a [Option<u32>],
 }
 
 impl<'a> Model for Method<'a> {
     ghost use Rattle.std.specs.Prelude.{◌<◌, ◌^◌, length};
     ghost use Rattle.cjc_types.specs.Flow.{Body};
-    ghost use Rattle.cjc_types.specs.Index.{IsIndex};
+    ghost use Rattle.cjc_types.specs.Index.{AreInOrder};
 
     ghost Value = { Body };
 
     ghost view = { λ m. record { class = m.class.now; flags = m.flags; desc = m.desc.now; max_stack = m.max_stack; max_locals = m.max_locals; catches = m.catches.now; insns = m.insns.now } };
 
-    ghost invariant = { λ m. IsIndex m.insns.now m.places.now × (length m.insns.now < 2 ^ 32) };
+    ghost invariant = { λ m. AreInOrder m.insns.now × (length m.insns.now < 2 ^ 32) };
 }
 
 /// The class that a handler catches.
@@ -136,6 +140,48 @@ fn put_parameters(alloc: Global, cells: &mut Row<Cell>, desc: &[u8]) -> Result<(
 }
 
 impl<'a> Method<'a> {
+    /// A method of a class with its code and its instructions.
+    fn of(
+        class: &'a ClassTree<'_>,
+        method: &'a MethodTree<'_>,
+        tree: &'a Code<'_>,
+        insns: &'a [JInsn],
+    ) -> Method<'a>
+        requires few { length insns.now < 2 ^ 32 }
+        requires order { AreInOrder insns.now }
+        ensures { result ≡ body_of class.now method.now tree.now insns.now }
+    {
+        Method {
+            class: class.name.items(),
+            flags: method.flags,
+            desc: method.desc.items(),
+            max_stack: tree.max_stack,
+            max_locals: tree.max_locals,
+            catches: tree.catches.items(),
+            insns,
+        }
+    }
+
+    /// The method that the code names. Takes no memory.
+    pub fn new(world: &'a World<'_>, code: &'a MethodCode) -> Method<'a>
+        requires { IsOfPackage world.now code.now }
+        ensures { (c : Class) (m : ClassMethod) (t : CodeTree) → IsMethodOf world.now code.now c m t → result ≡ body_of c m t code.now.insns }
+    {
+        let class = &world.classes().items()[code.class as usize];
+        let method = &class.methods.items()[code.method as usize];
+        match &method.code {
+            Some(tree) => Method::of(class, method, tree, code.insns.items()),
+            None => unreachable!(),
+        }
+    }
+
+    /// The number of instructions.
+    pub(crate) fn places(&self) -> u32
+        ensures { result ≡ length self.now.insns }
+    {
+        self.insns.len() as u32
+    }
+
     /// What the arguments of the method are.
     fn arguments(&self, alloc: Global) -> Result<Row<Cell>, NoMemory>
         ensures { IfOk result (λ cells. cells ≡ arguments_of self.now) }
@@ -150,13 +196,10 @@ impl<'a> Method<'a> {
     }
 
     /// The place of the instruction at an offset.
-    fn place_at(&self, offset: u32) -> Option<u32>
+    pub(crate) fn place_at(&self, offset: u32) -> Option<u32>
         ensures { result ≡ place_by self.now.insns offset }
     {
-        match self.places.get(offset as usize) {
-            Some(place) => *place,
-            None => None,
-        }
+        index::place_at(self.insns, offset)
     }
 
     /// Puts the place behind at the end, where an instruction stands there and may follow.

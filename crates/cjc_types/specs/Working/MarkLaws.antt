@@ -125,7 +125,7 @@ module _ (b : Body) where
       let sized = length-replicate (length b.insns) false in
       mark_each unmarked (Some 0) at (omega (arith, lt, sized)) ∙ ap (λ (was : Bool). was || (0 == at)) (get_or-replicate (length b.insns) at false false lt) ∙ first_mark at
 
-  all_sized : length (with_all b) ≡ length b.insns
+  pub all_sized : length (with_all b) ≡ length b.insns
   unfolding begun unmarked
   all_sized = handlers_sized b.insns b.catches (with_jumps b.insns begun b.insns) ∙ jumps_sized b.insns b.insns begun ∙ begun_sized
 
