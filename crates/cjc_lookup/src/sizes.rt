@@ -9,9 +9,9 @@ ghost use Rattle.cjc_sentences.specs.Complete.{applet_size, package_size, interf
 use crate::along::{Item, total};
 use cjc_capread::{
     Applet, AppletEntry, ArrayInit, CapTree, ClassDescriptor, ClassEntry, ClassInfo, ClassRef,
-    ConstantPool, Descriptor, Export, ExportedClass, FieldDescriptor, Handler, Header, ImplementedInterface,
-    Import, ImportedPackage, InterfaceEntry, Method, MethodDescriptor, PoolEntry,
-    ReferenceLocation, StaticField, TypeDescriptor,
+    ConstantPool, Descriptor, Export, ExportedClass, FieldDescriptor, Handler, Header,
+    ImplementedInterface, Import, ImportedPackage, InterfaceEntry, Method, MethodDescriptor,
+    PoolEntry, ReferenceLocation, StaticField, TypeDescriptor,
 };
 
 impl Item for AppletEntry {
