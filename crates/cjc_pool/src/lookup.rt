@@ -1,0 +1,33 @@
+//! Look-ups of a constant pool, for whoever emits code.
+
+ghost use Rattle.std.specs.Prelude.{◌≡◌, position};
+ghost use Rattle.cjc_ncode.specs.PoolOrder.{same_key};
+ghost use Rattle.cjc_ncode.specs.declared.narrow.PoolKey.TheVariants as keys;
+ghost use Rattle.cjc_pool.specs.Pool.{token_in};
+
+use crate::pool::Pool;
+use cjc_bytes::MemberId;
+use cjc_emit::PoolLookup;
+use cjc_keys::Key;
+use cjc_ncode::PoolKey;
+
+impl PoolLookup for Pool {
+    ghost pool_keys = { λ p. p.keys };
+
+    ghost method_token = { token_in };
+
+    fn index(&self, key: &PoolKey) -> Option<u16> {
+        let place = self.numbers.index_of(key)?;
+        Some(place as u16)
+    }
+
+    fn class_index(&self, class: &[u8]) -> Option<u16> {
+        let place = self.numbers.find(&Key::class(class))?;
+        Some(place as u16)
+    }
+
+    fn interface_token(&self, method: &MemberId) -> Option<u8> {
+        let place = self.calls.find(&Key::method(method))?;
+        *self.tokens.items().get(place)?
+    }
+}
