@@ -26,16 +26,16 @@ form_of shapes.Byte = Some (Fields (Byte ∷ []))
 form_of shapes.Signed1 = Some (Fields (Signed1 ∷ []))
 form_of shapes.Signed2 = Some (Fields (Signed2 ∷ []))
 form_of shapes.Signed4 = Some (Fields (Signed4 ∷ []))
-form_of shapes.ByteSigned1 = Some (Fields (Byte ∷ Signed1 ∷ []))
-form_of shapes.ByteSigned2 = Some (Fields (Byte ∷ Signed2 ∷ []))
+form_of shapes.Increment1 = Some (Fields (Byte ∷ Signed1 ∷ []))
+form_of shapes.Increment2 = Some (Fields (Byte ∷ Signed2 ∷ []))
 form_of shapes.Index1 = Some (Fields (Index1 ∷ []))
 form_of shapes.Index2 = Some (Fields (Index2 ∷ []))
 form_of shapes.Typed = Some (Fields (Byte ∷ Index2 ∷ []))
 form_of shapes.Call = Some (Fields (Byte ∷ Index2 ∷ Byte ∷ []))
 form_of shapes.ShortTable = Some (Table Signed2)
 form_of shapes.IntTable = Some (Table Signed4)
-form_of shapes.ShortLookup = Some (Lookup Signed2)
-form_of shapes.IntLookup = Some (Lookup Signed4)
+form_of shapes.ShortPairs = Some (Lookup Signed2)
+form_of shapes.IntPairs = Some (Lookup Signed4)
 
 -- the operands that stand before a table, or that are all
 abbrev pub before : Option Form → List Operand
@@ -65,6 +65,6 @@ match_of false = Signed2
 
 -- what the entries of its table are, if it has one
 abbrev pub matches_in : Shape → Matches
-matches_in shapes.ShortLookup = Short
-matches_in shapes.IntLookup = Int
+matches_in shapes.ShortPairs = Short
+matches_in shapes.IntPairs = Int
 matches_in _ = Counted

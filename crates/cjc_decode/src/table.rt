@@ -164,8 +164,8 @@ pub(crate) fn table_of<'a>(shape: Shape, operands: Operands, bytes: &'a [u8]) ->
     match shape {
         Shape::NoOp => None,
         Shape::ShortTable | Shape::IntTable => counted(operands, bytes),
-        Shape::ShortLookup => looked_up(false, operands, bytes),
-        Shape::IntLookup => looked_up(true, operands, bytes),
+        Shape::ShortPairs => looked_up(false, operands, bytes),
+        Shape::IntPairs => looked_up(true, operands, bytes),
         _ => Some(no_entries(Matches::Counted, bytes)),
     }
 }

@@ -4,7 +4,7 @@ use Rattle.std.specs.Prelude.{option_map, if◌then◌else◌}
 use Rattle.cjc_capread.specs.Opcodes.{Form, Fields, Table, Lookup, form, info}
 use Rattle.cjc_capread.specs.Decode.{Instruction, size, size_by}
 use Rattle.cjc_codes.specs.declared.code.At.{At}
-use Rattle.cjc_codes.specs.Walked.{placed_of}
+use Rattle.cjc_codes.specs.Bodies.{placed_of}
 use Rattle.cjc_decode.specs.Shapes.{form_of}
 use Rattle.cjc_decode.specs.Decoded.{instruction_of, values}
 use Rattle.cjc_decode.specs.declared.shape.Shape.{Shape}
@@ -18,8 +18,8 @@ index_is shapes.NoOp vs = refl
 index_is shapes.Bare vs = refl
 index_is shapes.ShortTable vs = refl
 index_is shapes.IntTable vs = refl
-index_is shapes.ShortLookup vs = refl
-index_is shapes.IntLookup vs = refl
+index_is shapes.ShortPairs vs = refl
+index_is shapes.IntPairs vs = refl
 index_is shapes.Byte [] = refl
 index_is shapes.Byte (v ∷ vs) = refl
 index_is shapes.Signed1 [] = refl
@@ -28,12 +28,12 @@ index_is shapes.Signed2 [] = refl
 index_is shapes.Signed2 (v ∷ vs) = refl
 index_is shapes.Signed4 [] = refl
 index_is shapes.Signed4 (v ∷ vs) = refl
-index_is shapes.ByteSigned1 [] = refl
-index_is shapes.ByteSigned1 (v ∷ []) = refl
-index_is shapes.ByteSigned1 (v ∷ w ∷ vs) = refl
-index_is shapes.ByteSigned2 [] = refl
-index_is shapes.ByteSigned2 (v ∷ []) = refl
-index_is shapes.ByteSigned2 (v ∷ w ∷ vs) = refl
+index_is shapes.Increment1 [] = refl
+index_is shapes.Increment1 (v ∷ []) = refl
+index_is shapes.Increment1 (v ∷ w ∷ vs) = refl
+index_is shapes.Increment2 [] = refl
+index_is shapes.Increment2 (v ∷ []) = refl
+index_is shapes.Increment2 (v ∷ w ∷ vs) = refl
 index_is shapes.Index1 [] = refl
 index_is shapes.Index1 (pos n ∷ vs) = refl
 index_is shapes.Index1 (negsuc n ∷ vs) = refl
@@ -57,16 +57,16 @@ place_by shapes.Byte i = omega arith
 place_by shapes.Signed1 i = omega arith
 place_by shapes.Signed2 i = omega arith
 place_by shapes.Signed4 i = omega arith
-place_by shapes.ByteSigned1 i = omega arith
-place_by shapes.ByteSigned2 i = omega arith
+place_by shapes.Increment1 i = omega arith
+place_by shapes.Increment2 i = omega arith
 place_by shapes.Index1 i = omega arith
 place_by shapes.Index2 i = omega arith
 place_by shapes.Typed i = omega arith
 place_by shapes.Call i = omega arith
 place_by shapes.ShortTable i = omega arith
 place_by shapes.IntTable i = omega arith
-place_by shapes.ShortLookup i = omega arith
-place_by shapes.IntLookup i = omega arith
+place_by shapes.ShortPairs i = omega arith
+place_by shapes.IntPairs i = omega arith
 
 pub place_within : (s : Shape) (i : Instruction) → form_of s ≡ form i.opcode → index_place_in (form_of s) ≤ size i
 place_within s i e = subst (λ (o : Option Form). index_place_in (form_of s) ≤ size_by o i) e (place_by s i)

@@ -9,7 +9,7 @@ use Rattle.std.proofs.lemmas.Option.{same_Some}
 use Rattle.cjc_capread.specs.Opcodes.{Signed2, form}
 use Rattle.cjc_capread.specs.Decode.{First, Instruction, operand, signed}
 use Rattle.cjc_codes.specs.declared.code.At.{At}
-use Rattle.cjc_codes.specs.Walked.{placed_of}
+use Rattle.cjc_codes.specs.Bodies.{placed_of}
 use Rattle.cjc_decode.specs.Decoded.{numbers}
 use Rattle.cjc_decode.specs.Shapes.{entry_size, form_of, matches_in}
 use Rattle.cjc_decode.specs.declared.shape.Shape.{Shape}
@@ -131,16 +131,16 @@ by_shape : (P : ℤ → Bool) (s : Shape) (i : Instruction) (m : Matches) → is
     → list_all P (switch_offsets (form_of s) i) ≡ (list_all P (default_of i.operands) && list_all P (offsets_in m i.table))
 by_shape P shapes.ShortTable i m is e = rw e (all_append P (default_of i.operands) i.table)
 by_shape P shapes.IntTable i m is e = rw e (all_append P (default_of i.operands) i.table)
-by_shape P shapes.ShortLookup i m is e = rw e (all_append P (default_of i.operands) (pair_offsets i.table))
-by_shape P shapes.IntLookup i m is e = rw e (all_append P (default_of i.operands) (pair_offsets i.table))
+by_shape P shapes.ShortPairs i m is e = rw e (all_append P (default_of i.operands) (pair_offsets i.table))
+by_shape P shapes.IntPairs i m is e = rw e (all_append P (default_of i.operands) (pair_offsets i.table))
 by_shape P shapes.NoOp i m is e = absurd cc
 by_shape P shapes.Bare i m is e = absurd cc
 by_shape P shapes.Byte i m is e = absurd cc
 by_shape P shapes.Signed1 i m is e = absurd cc
 by_shape P shapes.Signed2 i m is e = absurd cc
 by_shape P shapes.Signed4 i m is e = absurd cc
-by_shape P shapes.ByteSigned1 i m is e = absurd cc
-by_shape P shapes.ByteSigned2 i m is e = absurd cc
+by_shape P shapes.Increment1 i m is e = absurd cc
+by_shape P shapes.Increment2 i m is e = absurd cc
 by_shape P shapes.Index1 i m is e = absurd cc
 by_shape P shapes.Index2 i m is e = absurd cc
 by_shape P shapes.Typed i m is e = absurd cc

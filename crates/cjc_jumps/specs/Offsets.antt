@@ -3,7 +3,7 @@ use Rattle.std.specs.Prelude.{ℕ, ◌+◌, ◌<◌, ◌^◌, List, [], ◌∷�
 use Rattle.cjc_capread.specs.declared.tree.PoolEntry.{PoolEntry}
 use Rattle.cjc_capread.specs.Opcodes.{Form, Fields, Table, Lookup, info}
 use Rattle.cjc_decode.specs.declared.shape.Shape.{Shape}
-use Rattle.cjc_decode.specs.declared.shape.Shape.TheVariants.{Index1, Index2, Typed, Call, ShortTable, IntTable, ShortLookup, IntLookup}
+use Rattle.cjc_decode.specs.declared.shape.Shape.TheVariants.{Index1, Index2, Typed, Call, ShortTable, IntTable, ShortPairs, IntPairs}
 use Rattle.cjc_decode.specs.declared.table.Matches.{Matches}
 use Rattle.cjc_decode.specs.declared.table.Matches.TheVariants.{Counted, Short, Int}
 use Rattle.cjc_sentences.specs.declared.spot.Spot.{Spot}
@@ -20,8 +20,8 @@ offsets_in Int numbers = pair_offsets numbers
 abbrev pub is_switch : Shape → Bool
 is_switch ShortTable = true
 is_switch IntTable = true
-is_switch ShortLookup = true
-is_switch IntLookup = true
+is_switch ShortPairs = true
+is_switch IntPairs = true
 is_switch _ = false
 
 -- the index among the operands of a form, where it stands and its size

@@ -4,7 +4,7 @@
 ghost use Rattle.std.specs.Prelude.{◌≡◌, ◌+◌, ◌*◌, ◌<◌, ◌^◌, ◌++◌, ◌==◌, ◌||◌, IfSome, length, map, option_map, slice_get, Some};
 ghost use Rattle.std.specs.List.{find};
 ghost use Rattle.std.specs.Option.{option_copied};
-ghost use Rattle.cjc_codes.specs.Walked.{AreBodies, IsBody, code_of};
+ghost use Rattle.cjc_codes.specs.Bodies.{AreBodies, IsBody, code_of};
 ghost use Rattle.cjc_jumps.specs.Standing.{handler_stands, range_ends};
 ghost use Rattle.cjc_sentences.specs.Handlers.{in_code, is_classref, targets_from};
 ghost use Rattle.cjc_sentences.specs.Instructions.{has_start};

@@ -2,7 +2,7 @@
 //! Virtual Machine Specification 2.2.2, chapter 7). It knows the code of methods and the constant pool.
 
 ghost use Rattle.std.specs.Prelude.{◌≡◌, ◌++◌, ◌&&◌, flat_map, IfOk, IfSome, map, OnOk, option_map, slice_get};
-ghost use Rattle.cjc_codes.specs.Walked.{AreBodies, AllAt, IsAt, IsBody, code_of, placed_of};
+ghost use Rattle.cjc_codes.specs.Bodies.{AreBodies, AllAt, IsAt, IsBody, code_of, placed_of};
 ghost use Rattle.cjc_decode.specs.Decoded.{values};
 ghost use Rattle.cjc_jumps.specs.Offsets.{AreNear, IsNear, index_in, index_operand, index_place_in, index_size_in, index_spot, natural, operand_at, optional};
 ghost use Rattle.cjc_decode.specs.Shapes.{form_of};

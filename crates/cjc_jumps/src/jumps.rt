@@ -3,7 +3,7 @@
 
 ghost use Rattle.std.specs.Prelude.{◌≡◌, ◌+◌, ◌<◌, ◌&&◌, ◌||◌, ◌+ℤ◌, flat_map, map, nat_lt, not, pos, Some};
 ghost use Rattle.std.specs.List.{list_all};
-ghost use Rattle.cjc_codes.specs.Walked.{AreBodies, IsAt, IsBody, code_of, placed_of};
+ghost use Rattle.cjc_codes.specs.Bodies.{AreBodies, IsAt, IsBody, code_of, placed_of};
 ghost use Rattle.cjc_decode.specs.Decoded.{numbers_of, values};
 ghost use Rattle.cjc_jumps.specs.Offsets.{is_switch, natural, offsets_in};
 ghost use Rattle.cjc_sentences.specs.Instructions.{code_spots, default_of, ends_code, in_code, is_empty, is_jump, jumps_land, lands};
@@ -100,7 +100,7 @@ fn is_switch(shape: Shape) -> bool
     ensures { result ≡ is_switch shape }
 {
     match shape {
-        Shape::ShortTable | Shape::IntTable | Shape::ShortLookup | Shape::IntLookup => true,
+        Shape::ShortTable | Shape::IntTable | Shape::ShortPairs | Shape::IntPairs => true,
         _ => false,
     }
 }
