@@ -2,7 +2,7 @@
 
 ghost use Rattle.std.specs.Prelude.{◌≡◌, IfOk, map};
 ghost use Rattle.cjc_check.specs.Coded.{AreCoded};
-ghost use Rattle.cjc_codes.specs.Walked.{AreBodies, IsCut, code_of, cut_of};
+ghost use Rattle.cjc_codes.specs.Bodies.{AreBodies, IsCut, code_of, cut_of};
 ghost use Rattle.cjc_lookup.specs.Indexed.{IsIndexed};
 ghost use Rattle.cjc_lookup.specs.Parts.{complete_of};
 ghost use Rattle.cjc_sentences.specs.Codes.{all_codes, codes, whole_spots};

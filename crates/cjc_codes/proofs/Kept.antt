@@ -4,7 +4,7 @@ use Rattle.std.proofs.lemmas.Bool.{cases_lt}
 use Rattle.std.proofs.lemmas.List.{get_or_append_left}
 use Rattle.std.proofs.Math.Seq.{get_or-append_seam}
 use Rattle.cjc_sentences.specs.Codes.{onto}
-use Rattle.cjc_codes.specs.Walked.{behind}
+use Rattle.cjc_codes.specs.Working.Steps.{behind}
 
 pub each_more : {A : Type 0} (P : A → Type 0) (xs : List A) (x : A) → ((k : ℕ) (d : A) → k < length xs → P (get_or xs k d)) → P x
     → (k : ℕ) (d : A) → k < length (xs ++ x ∷ []) → P (get_or (xs ++ x ∷ []) k d)

@@ -7,7 +7,7 @@ use Rattle.cjc_capread.specs.declared.tree.ClassDescriptor.{ClassDescriptor}
 use Rattle.cjc_capread.specs.declared.tree.MethodDescriptor.{MethodDescriptor}
 use Rattle.cjc_sentences.specs.Classes.{is_own_class}
 use Rattle.cjc_sentences.proofs.Firsts.{either}
-use Rattle.cjc_codes.specs.Walked.{methods_of, methods_of_all}
+use Rattle.cjc_codes.specs.Working.Steps.{methods_of, methods_of_all}
 
 pub classes_more : (info : ClassInfo) (i : ℕ) (x : ClassDescriptor) (xs : List ClassDescriptor) (done next total : List MethodDescriptor) → i < length xs → x ≡ get_or xs i x
     → next ≡ done ++ methods_of info x → done ++ methods_of_all info (drop i xs) ≡ total → next ++ methods_of_all info (drop (i + 1) xs) ≡ total

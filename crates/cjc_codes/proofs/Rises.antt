@@ -6,7 +6,7 @@ use Rattle.cjc_capread.specs.Decode.{Instruction, decode, size}
 use Rattle.cjc_sentences.specs.Spots.{Placed}
 use Rattle.cjc_sentences.specs.Codes.{instructions, onto, with_instruction}
 use Rattle.cjc_codes.specs.declared.code.At.{At}
-use Rattle.cjc_codes.specs.Walked.{placed_of}
+use Rattle.cjc_codes.specs.Bodies.{placed_of}
 
 abbrev pub Ascends : (from : ℕ) → List ℕ → Type 0
 Ascends from [] = Unit {0}

@@ -14,7 +14,8 @@ use Rattle.cjc_sentences.specs.Codes.{Code, codes_from, instructions, onto, with
 use Rattle.cjc_codes.specs.declared.code.At.{At}
 use Rattle.cjc_codes.specs.declared.code.Body.{Body}
 use Rattle.cjc_codes.specs.declared.cutting.Step.{Step}
-use Rattle.cjc_codes.specs.Walked.{EndsAt, placed_of, code_of, behind, followed}
+use Rattle.cjc_codes.specs.Bodies.{placed_of, code_of}
+use Rattle.cjc_codes.specs.Working.Steps.{EndsAt, behind, followed}
 use Rattle.cjc_codes.proofs.Kept.{behind_none, behind_more}
 
 -- ---- instructions

@@ -3,7 +3,8 @@
 
 ghost use Rattle.std.specs.Prelude.{◌≡◌, ℕ, ◌+◌, ◌-◌, ◌*◌, ◌<◌, ◌≤◌, ◌∷◌, ◌^◌, IfOk, List, Result, drop, length};
 ghost use Rattle.cjc_capread.specs.declared.tree.MethodDescriptor.{MethodDescriptor as Described};
-ghost use Rattle.cjc_codes.specs.Walked.{EndsAt, IsCut, IsStep, cut_of, followed};
+ghost use Rattle.cjc_codes.specs.Bodies.{IsCut, cut_of};
+ghost use Rattle.cjc_codes.specs.Working.Steps.{EndsAt, IsStep, followed};
 ghost use Rattle.cjc_lookup.specs.Indexed.{IsIndexed};
 ghost use Rattle.cjc_lookup.specs.Parts.{complete_of};
 ghost use Rattle.cjc_sentences.specs.Codes.{Code, codes_from, cut, instructions, where_cut_ends, with_code};

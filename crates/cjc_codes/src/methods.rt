@@ -2,7 +2,7 @@
 //! Called by `cutting`.
 
 ghost use Rattle.std.specs.Prelude.{◌≡◌, ◌++◌, IfOk, OnOk};
-ghost use Rattle.cjc_codes.specs.Walked.{methods_of, methods_of_all};
+ghost use Rattle.cjc_codes.specs.Working.Steps.{methods_of, methods_of_all};
 ghost use Rattle.cjc_lookup.specs.Indexed.{IsIndexed};
 
 use cjc_bytes::{NoMemory, Row};

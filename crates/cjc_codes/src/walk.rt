@@ -2,7 +2,7 @@
 //! `cut`.
 
 ghost use Rattle.std.specs.Prelude.{◌≡◌, ◌+◌, ◌<◌, ◌≤◌, ◌^◌, IfOk, length};
-ghost use Rattle.cjc_codes.specs.Walked.{IsWalk, walk_of};
+ghost use Rattle.cjc_codes.specs.Working.Steps.{IsWalk, walk_of};
 ghost use Rattle.cjc_sentences.specs.Codes.{instructions};
 
 use crate::code::At;

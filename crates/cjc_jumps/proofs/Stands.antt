@@ -7,7 +7,7 @@ use Rattle.std.proofs.lemmas.List.{drop_all}
 use Rattle.cjc_capread.specs.declared.tree.Handler.{Handler}
 use Rattle.cjc_codes.specs.declared.code.At.{At}
 use Rattle.cjc_codes.specs.declared.code.Body.{Body}
-use Rattle.cjc_codes.specs.Walked.{AllAt, code_of, placed_of}
+use Rattle.cjc_codes.specs.Bodies.{AllAt, code_of, placed_of}
 use Rattle.cjc_sentences.specs.declared.spot.Spot.{Spot}
 use Rattle.cjc_sentences.specs.Spots.{earlier, first, in_info, unless}
 use Rattle.cjc_sentences.specs.Codes.{Code}

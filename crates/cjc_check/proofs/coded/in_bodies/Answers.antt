@@ -2,7 +2,7 @@ use Rattle.std.proofs.Common.{ℕ, List, ◌+◌, ◌++◌, ap, ◌∙◌, lengt
 use Rattle.std.specs.Prelude.{flat_map}
 use Rattle.cjc_capread.specs.declared.tree.Handler.{Handler}
 use Rattle.cjc_capread.specs.declared.tree.PoolEntry.{PoolEntry}
-use Rattle.cjc_codes.specs.Walked.{code_of}
+use Rattle.cjc_codes.specs.Bodies.{code_of}
 use Rattle.cjc_jumps.specs.Listing.{wanted_ones, wanted_twos}
 use Rattle.cjc_jumps.specs.Offsets.{index_spot, operand_at}
 use Rattle.cjc_jumps.specs.Standing.{handler_stands}

@@ -3,7 +3,8 @@ use Rattle.std.proofs.lemmas.Bool.Decides.{nat_tests}
 use Rattle.std.proofs.lemmas.Slice.{between_to_end}
 use Rattle.cjc_sentences.specs.Codes.{codes_from}
 use Rattle.cjc_codes.specs.declared.code.Body.{Body}
-use Rattle.cjc_codes.specs.Walked.{AreBodies, IsBody, behind, code_of}
+use Rattle.cjc_codes.specs.Bodies.{AreBodies, IsBody, code_of}
+use Rattle.cjc_codes.specs.Working.Steps.{behind}
 use Rattle.cjc_codes.proofs.Kept.{each_more}
 use Rattle.cjc_codes.proofs.Walks.{cut_all, cut_more, cut_over, same_item}
 use Rattle.cjc_codes.proofs.cutting.codes_from.Goals as goal

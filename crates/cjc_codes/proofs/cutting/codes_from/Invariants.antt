@@ -1,6 +1,7 @@
 use Rattle.std.proofs.Common.{◌≡◌, ◌+◌, drop, length, map}
 use Rattle.cjc_sentences.specs.Codes.{codes_from}
-use Rattle.cjc_codes.specs.Walked.{AreBodies, behind, code_of}
+use Rattle.cjc_codes.specs.Bodies.{AreBodies, code_of}
+use Rattle.cjc_codes.specs.Working.Steps.{behind}
 use Rattle.cjc_codes.proofs.cutting.codes_from.Given as goal
 
 abbrev pub invariant-loop-method : goal.invariant-loop-method

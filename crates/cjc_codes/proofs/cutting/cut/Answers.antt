@@ -5,7 +5,7 @@ use Rattle.cjc_capread.specs.declared.tree.MethodDescriptor.{MethodDescriptor}
 use Rattle.cjc_sentences.specs.Codes.{codes_from}
 use Rattle.cjc_lookup.specs.Parts.{complete_of}
 use Rattle.cjc_sentences.specs.Members.{class_methods}
-use Rattle.cjc_codes.specs.Walked.{methods_of_all}
+use Rattle.cjc_codes.specs.Working.Steps.{methods_of_all}
 use Rattle.cjc_codes.proofs.MethodLists.{methods_are}
 use Rattle.cjc_codes.proofs.Walks.{both}
 use Rattle.cjc_codes.proofs.cutting.cut.Goals as goal

@@ -1,5 +1,5 @@
 use Rattle.std.proofs.Common.{◌≡◌, ◌++◌, drop}
-use Rattle.cjc_codes.specs.Walked.{methods_of_all}
+use Rattle.cjc_codes.specs.Working.Steps.{methods_of_all}
 use Rattle.cjc_codes.proofs.methods.methods_of_all.Given as goal
 
 abbrev pub invariant-loop-class : goal.invariant-loop-class

@@ -4,7 +4,8 @@ use Rattle.std.proofs.lemmas.Slice.{between_to_end}
 use Rattle.cjc_capread.specs.Decode.{decode}
 use Rattle.cjc_sentences.specs.Codes.{instructions}
 use Rattle.cjc_codes.specs.declared.code.At.{At}
-use Rattle.cjc_codes.specs.Walked.{AllAt, IsAt, behind, placed_of}
+use Rattle.cjc_codes.specs.Bodies.{AllAt, IsAt, placed_of}
+use Rattle.cjc_codes.specs.Working.Steps.{behind}
 use Rattle.cjc_codes.proofs.Kept.{each_more}
 use Rattle.cjc_codes.proofs.Walks.{walk_more, walk_ends, walk_all}
 use Rattle.cjc_codes.proofs.walk.instructions.Goals as goal

@@ -1,6 +1,7 @@
 use Rattle.std.proofs.Common.{◌≡◌, ◌+◌, ◌-◌, ◌≤◌, length, map}
 use Rattle.cjc_sentences.specs.Codes.{instructions}
-use Rattle.cjc_codes.specs.Walked.{AllAt, behind, placed_of}
+use Rattle.cjc_codes.specs.Bodies.{AllAt, placed_of}
+use Rattle.cjc_codes.specs.Working.Steps.{behind}
 use Rattle.cjc_codes.proofs.walk.instructions.Given as goal
 
 abbrev pub invariant-loop-left : goal.invariant-loop-left

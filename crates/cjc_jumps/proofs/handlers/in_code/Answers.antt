@@ -1,7 +1,7 @@
 use Rattle.std.proofs.Common.{◌∙◌, ap, sym}
 use Rattle.std.specs.Prelude.{option_map}
 use Rattle.std.specs.Option.{option_copied}
-use Rattle.cjc_codes.specs.Walked.{code_of}
+use Rattle.cjc_codes.specs.Bodies.{code_of}
 use Rattle.cjc_codes.specs.declared.code.Body.{Body}
 use Rattle.cjc_jumps.proofs.Stands.{none_stands}
 use Rattle.cjc_jumps.proofs.handlers.in_code.Goals as goal

@@ -1,6 +1,6 @@
 use Rattle.std.proofs.Common.{◌≡◌, ◌++◌, drop, map}
 use Rattle.std.specs.Prelude.{flat_map}
-use Rattle.cjc_codes.specs.Walked.{placed_of}
+use Rattle.cjc_codes.specs.Bodies.{placed_of}
 use Rattle.cjc_sentences.specs.Instructions.{indices}
 use Rattle.cjc_jumps.specs.Offsets.{AreNear, operand_at}
 use Rattle.cjc_jumps.proofs.indices.put_indices.Given as goal

@@ -1,6 +1,6 @@
 use Rattle.std.proofs.Common.{List, ap, ◌∙◌, map}
 use Rattle.cjc_codes.specs.declared.code.At.{At}
-use Rattle.cjc_codes.specs.Walked.{code_of, placed_of}
+use Rattle.cjc_codes.specs.Bodies.{code_of, placed_of}
 use Rattle.cjc_sentences.specs.Instructions.{in_code}
 use Rattle.cjc_sentences.specs.Spots.{first}
 use Rattle.cjc_jumps.proofs.Flat.{same_item}

@@ -1,5 +1,5 @@
 use Rattle.std.proofs.Common.{◌≡◌, drop, map}
-use Rattle.cjc_codes.specs.Walked.{code_of, placed_of}
+use Rattle.cjc_codes.specs.Bodies.{code_of, placed_of}
 use Rattle.cjc_sentences.specs.Instructions.{in_code}
 use Rattle.cjc_sentences.specs.Spots.{earlier, first}
 use Rattle.cjc_jumps.proofs.jumps.in_code.Given as goal

@@ -1,4 +1,4 @@
-use Rattle.cjc_codes.specs.Walked.{code_of}
+use Rattle.cjc_codes.specs.Bodies.{code_of}
 use Rattle.cjc_sentences.specs.Instructions.{code_spots}
 use Rattle.cjc_jumps.proofs.Flat.{flat_all, flat_more}
 use Rattle.cjc_jumps.proofs.jumps.jump_spot.Goals as goal

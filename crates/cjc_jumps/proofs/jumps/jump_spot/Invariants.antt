@@ -1,6 +1,6 @@
 use Rattle.std.proofs.Common.{◌≡◌, drop, map}
 use Rattle.std.specs.Prelude.{flat_map}
-use Rattle.cjc_codes.specs.Walked.{code_of}
+use Rattle.cjc_codes.specs.Bodies.{code_of}
 use Rattle.cjc_sentences.specs.Instructions.{code_spots}
 use Rattle.cjc_sentences.specs.Spots.{earlier, first}
 use Rattle.cjc_jumps.proofs.jumps.jump_spot.Given as goal

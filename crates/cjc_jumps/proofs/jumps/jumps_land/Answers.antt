@@ -1,6 +1,6 @@
 use Rattle.std.proofs.Common.{◌≡◌, true, false, sym, ◌∙◌, rules}
 use Rattle.std.specs.List.{list_all}
-use Rattle.cjc_codes.specs.Walked.{code_of}
+use Rattle.cjc_codes.specs.Bodies.{code_of}
 use Rattle.cjc_decode.specs.Decoded.{instruction_of, values}
 use Rattle.cjc_sentences.specs.Instructions.{default_of, is_jump, lands}
 use Rattle.cjc_jumps.specs.Offsets.{is_switch}

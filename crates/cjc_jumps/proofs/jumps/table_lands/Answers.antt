@@ -1,7 +1,7 @@
 use Rattle.std.proofs.Common.{◌≡◌, true, false, List, ℕ, ap, ◌∙◌, arith, rules, length}
 use Rattle.std.specs.List.{list_all}
 use Rattle.std.proofs.lemmas.Slice.{between_to_end}
-use Rattle.cjc_codes.specs.Walked.{code_of}
+use Rattle.cjc_codes.specs.Bodies.{code_of}
 use Rattle.cjc_decode.specs.Decoded.{numbers}
 use Rattle.cjc_sentences.specs.Instructions.{lands}
 use Rattle.cjc_jumps.specs.Offsets.{offsets_in}

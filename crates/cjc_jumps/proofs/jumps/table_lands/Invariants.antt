@@ -1,6 +1,6 @@
 use Rattle.std.proofs.Common.{◌≡◌, length}
 use Rattle.std.specs.List.{list_all}
-use Rattle.cjc_codes.specs.Walked.{code_of}
+use Rattle.cjc_codes.specs.Bodies.{code_of}
 use Rattle.cjc_decode.specs.Decoded.{numbers}
 use Rattle.cjc_sentences.specs.Instructions.{lands}
 use Rattle.cjc_jumps.specs.Offsets.{offsets_in}
