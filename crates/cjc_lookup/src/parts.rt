@@ -10,7 +10,7 @@ use cjc_capread::{
 };
 
 /// Components, each by itself.
-#[derive(Drop)]
+#[derive(Clone, Copy)]
 pub struct Parts<'a> {
     pub applet: &'a Option<Applet>,
     pub import: &'a Import,
