@@ -1,14 +1,11 @@
-use Rattle.std.proofs.Common.{rules, ◌≡◌, ℕ, List, ◌+◌, ◌∷◌, ◌∙◌, ap, sym, drop, refl, true}
-use Rattle.std.specs.Prelude.{FitsSigned, Some, slice_set}
-use Rattle.std.specs.Int.{w32, cast_signed, cast_unsigned}
-use Rattle.std.proofs.lemmas.Int.{to_z-of_z}
-use Rattle.cjc_script.specs.declared.value.Value.{Value}
-use Rattle.cjc_script.specs.declared.report.Thing.TheVariants.{Array}
-use Rattle.cjc_script.specs.Sorts.{shape_named}
-use Rattle.cjc_by_name.specs.Effects.{Effect, Go, only_if, is_kind, of_references, with_kept, after_array_store}
+use Rattle.std.proofs.Common.{rules, ◌≡◌, ◌+◌, ◌∙◌, ap, sym, drop, refl, true}
+use Rattle.std.specs.Prelude.{FitsSigned}
+use Rattle.std.specs.Int.{w32}
+use Rattle.cjc_by_name.specs.Effects.{Go, is_kind, of_references, with_kept}
 use Rattle.cjc_heap.specs.Kinds.{effect_moves}
-use Rattle.cjc_heap.specs.Looks.{name_at, items_at, element_at}
+use Rattle.cjc_heap.specs.Looks.{name_at, items_at}
 use Rattle.cjc_jvm.specs.Rows.{store_of}
+use Rattle.cjc_jvm.proofs.Storing.{at_element, replaced, store_finds}
 use Rattle.cjc_jvm.proofs.stores.store_element.Goals as goal
 
 pub returns-in_default-clause-row : goal.returns-in_default-clause-row
@@ -21,21 +18,11 @@ returns-in-Err-clause-row g c = λ statics.
     let heap = c.args.heap.now in
     let moves = effect_moves c.args.moves in
     let v = c.in-Some.value in
-    let r = c.in-Some.reference in
-    let i = c.in-Some.index in
-    let fits : FitsSigned w32 i = search rules in
-    let same : i ≡ cast_signed w32 (cast_unsigned w32 i) = sym (to_z-of_z w32 i fits) in
+    let fits : FitsSigned w32 c.in-Some.index = search rules in
     let kind : is_kind (of_references moves) v ≡ true = cc in
-    let next : List ℕ → List Value → ℕ → ℕ → Value → Effect = λ desc items k n w. Go (f.at + 1) (drop 3 f.stack) f.locals (store_of (slice_set heap k (Array desc (slice_set items n w))) statics) in
-    let go : ℕ → List ℕ → List Value → ℕ → Value → Effect = λ k desc items n old. with_kept l f.method f.at f.locals (store_of heap statics) moves (shape_named desc) v (next desc items k n) in
     let done = c.deed_of.ensures f (store_of heap statics) in
     record {
-      effect =
-          ap (λ s. after_array_store l f.method f.at f.locals (store_of heap statics) (Some moves) s) c.in-Some.ensures
-          ∙ ap (λ t. only_if t (element_at moves heap r i go)) kind
-          ∙ ap (λ j. element_at moves heap r j go) same
-          ∙ c.in-Err.ensures.found go
-          ∙ sym done.0;
+      effect = store_finds l f heap statics moves v c.in-Some.reference c.in-Some.index fits c.in-Some.ensures kind ∙ c.in-Err.ensures.found (at_element l f heap statics moves v) ∙ sym done.0;
       keeps = done.1;
     }
 
@@ -46,24 +33,16 @@ returns-in-Ok-kept-clause-row g c = λ statics.
     let heap = c.args.heap.now in
     let moves = effect_moves c.args.moves in
     let v = c.in-Some.value in
-    let r = c.in-Some.reference in
-    let i = c.in-Some.index in
-    let fits : FitsSigned w32 i = search rules in
-    let same : i ≡ cast_signed w32 (cast_unsigned w32 i) = sym (to_z-of_z w32 i fits) in
+    let fits : FitsSigned w32 c.in-Some.index = search rules in
     let kind : is_kind (of_references moves) v ≡ true = cc in
     let e = c.in-Ok.element in
-    let name = name_at heap e.array in
-    let items = items_at heap e.array in
-    let next : List ℕ → List Value → ℕ → ℕ → Value → Effect = λ desc items k n w. Go (f.at + 1) (drop 3 f.stack) f.locals (store_of (slice_set heap k (Array desc (slice_set items n w))) statics) in
-    let go : ℕ → List ℕ → List Value → ℕ → Value → Effect = λ k desc items n old. with_kept l f.method f.at f.locals (store_of heap statics) moves (shape_named desc) v (next desc items k n) in
+    let next = replaced l f heap statics e.array (name_at heap e.array) (items_at heap e.array) e.place in
     record {
       effect =
-          ap (λ s. after_array_store l f.method f.at f.locals (store_of heap statics) (Some moves) s) c.in-Some.ensures
-          ∙ ap (λ t. only_if t (element_at moves heap r i go)) kind
-          ∙ ap (λ j. element_at moves heap r j go) same
-          ∙ c.in-Ok.ensures.found go
-          ∙ ap (λ s. with_kept l f.method f.at f.locals (store_of heap statics) moves s v (next name items e.array e.place)) c.in-Ok.ensures.kind
-          ∙ c.in-Ok-kept.ensures statics (next name items e.array e.place)
+          store_finds l f heap statics moves v c.in-Some.reference c.in-Some.index fits c.in-Some.ensures kind
+          ∙ c.in-Ok.ensures.found (at_element l f heap statics moves v)
+          ∙ ap (λ s. with_kept l f.method f.at f.locals (store_of heap statics) moves s v next) c.in-Ok.ensures.kind
+          ∙ c.in-Ok-kept.ensures statics next
           ∙ ap (λ h. Go (f.at + 1) (drop 3 f.stack) f.locals (store_of h statics)) (sym c.set_element.ensures)
           ∙ ap (λ h. Go h.at h.stack h.locals (store_of c.set_element.new.self statics)) (sym c.pass.ensures);
       keeps = ap (λ h. h.method) c.pass.ensures;
@@ -76,25 +55,17 @@ returns-in-Err-kept-clause-row g c = λ statics.
     let heap = c.args.heap.now in
     let moves = effect_moves c.args.moves in
     let v = c.in-Some.value in
-    let r = c.in-Some.reference in
-    let i = c.in-Some.index in
-    let fits : FitsSigned w32 i = search rules in
-    let same : i ≡ cast_signed w32 (cast_unsigned w32 i) = sym (to_z-of_z w32 i fits) in
+    let fits : FitsSigned w32 c.in-Some.index = search rules in
     let kind : is_kind (of_references moves) v ≡ true = cc in
     let e = c.in-Ok.element in
-    let name = name_at heap e.array in
-    let items = items_at heap e.array in
-    let next : List ℕ → List Value → ℕ → ℕ → Value → Effect = λ desc items k n w. Go (f.at + 1) (drop 3 f.stack) f.locals (store_of (slice_set heap k (Array desc (slice_set items n w))) statics) in
-    let go : ℕ → List ℕ → List Value → ℕ → Value → Effect = λ k desc items n old. with_kept l f.method f.at f.locals (store_of heap statics) moves (shape_named desc) v (next desc items k n) in
+    let next = replaced l f heap statics e.array (name_at heap e.array) (items_at heap e.array) e.place in
     let done = c.deed_of-in-Err-kept.ensures f (store_of heap statics) in
     record {
       effect =
-          ap (λ s. after_array_store l f.method f.at f.locals (store_of heap statics) (Some moves) s) c.in-Some.ensures
-          ∙ ap (λ t. only_if t (element_at moves heap r i go)) kind
-          ∙ ap (λ j. element_at moves heap r j go) same
-          ∙ c.in-Ok.ensures.found go
-          ∙ ap (λ s. with_kept l f.method f.at f.locals (store_of heap statics) moves s v (next name items e.array e.place)) c.in-Ok.ensures.kind
-          ∙ c.in-Err-kept.ensures statics (next name items e.array e.place)
+          store_finds l f heap statics moves v c.in-Some.reference c.in-Some.index fits c.in-Some.ensures kind
+          ∙ c.in-Ok.ensures.found (at_element l f heap statics moves v)
+          ∙ ap (λ s. with_kept l f.method f.at f.locals (store_of heap statics) moves s v next) c.in-Ok.ensures.kind
+          ∙ c.in-Err-kept.ensures statics next
           ∙ sym done.0;
       keeps = done.1;
     }
