@@ -6,20 +6,21 @@ use Rattle.std.proofs.lemmas.List.FromFn.{get_or-range_with_len, length-range_wi
 use Rattle.std.specs.Prelude.{All}
 use Rattle.std.specs.List.{range_with_len}
 use Rattle.cjc_bytes.specs.Breaks.{Break}
-use Rattle.cjc_bytes.specs.Format.{Format, FileBreaks, FileSpells}
+use Rattle.cjc_bytes.specs.Format.{Format, FileBreaks, FileSpells, Spells}
 use Rattle.cjc_bytes.specs.Order.{FilePlace}
 use Rattle.cjc_bytes.specs.Reading.{read_file}
 use Rattle.cjc_bytes.specs.Refused.{IsBreak, refusal}
 use Rattle.cjc_bytes.specs.declared.order.FileKey.TheVariants as keys
 use Rattle.cjc_bytes.specs.declared.fault.Fault.{Fault}
 use Rattle.cjc_bytes.specs.declared.fault.Fault.TheVariants as faults
-use Rattle.cjc_bytes.proofs.Laws.{file_breaks, file_spelt}
+use Rattle.cjc_bytes.proofs.Laws.{file_breaks, file_ok, file_spelt}
 use Rattle.cjc_bytes.specs.declared.fault.Refusal.{Refusal}
-use Rattle.cjc_capread.specs.Component.{component}
-use Rattle.cjc_capread.specs.Kinds.{directory_of}
+use Rattle.cjc_capread.specs.Component.{component, info}
+use Rattle.cjc_capread.specs.Kinds.{directory_of, header_of}
 use Rattle.cjc_capread.specs.declared.tree.Component.{Component}
 use Rattle.cjc_capread.specs.declared.tree.Component.TheVariants as components
 use Rattle.cjc_capread.specs.declared.tree.Directory.{Directory}
+use Rattle.cjc_capread.specs.declared.tree.Header.{Header}
 use Rattle.cjc_capread.specs.declared.tree.CapTree.{CapTree}
 use Rattle.cjc_export.specs.ExportFile.{export_file}
 use Rattle.cjc_export.specs.declared.tree.ExportTree.{ExportTree}
@@ -64,6 +65,21 @@ pub read_refused : (tag : ℕ) (bytes name : List ℕ) (r : Result Component Fau
     → IfErr r (IsForemost (break_in 106 (component_place tag) (read_component tag bytes)))
 read_refused tag bytes name (Ok x) is h = tt
 read_refused tag bytes name (Err e) is h = foremost_of (component tag (length bytes)) bytes 106 (component_place tag) e (rw is at h)
+
+no_header : (h : Header) (x : Component) → components.Header h ≡ x → header_of x ≡ None → ⊥
+no_header h x is none = let some : Some h ≡ None = ap header_of is ∙ none in cc
+
+no_directory : (d : Directory) (x : Component) → components.Directory d ≡ x → directory_of x ≡ None → ⊥
+no_directory d x is none = let some : Some d ≡ None = ap directory_of is ∙ none in cc
+
+-- a component of tag 1 is a Header, and one of tag 2 a Directory
+pub says_header : (bytes : List ℕ) (x : Component) → read_component 1 bytes ≡ Ok x → header_of x ≡ None → ⊥
+unfolding Spells component info
+says_header bytes x read none = let spelt = file_ok (component 1 (length bytes)) bytes x read in no_header spelt.5.5.0 x spelt.5.5.5.1 none
+
+pub says_directory : (bytes : List ℕ) (x : Component) → read_component 2 bytes ≡ Ok x → directory_of x ≡ None → ⊥
+unfolding Spells component info
+says_directory bytes x read none = let spelt = file_ok (component 2 (length bytes)) bytes x read in no_directory spelt.5.5.0 x spelt.5.5.5.1 none
 
 pub tags_some : (bytes : List ℕ) (x : Component) (d : Directory) → FileSpells (component 2 (length bytes)) x bytes → directory_of x ≡ Some d → tags_of bytes ≡ tags_with_size d.component_sizes
 tags_some bytes x d spelt is = ap tags_in (file_spelt (component 2 (length bytes)) bytes x spelt) ∙ of x is

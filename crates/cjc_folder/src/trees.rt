@@ -55,7 +55,7 @@ fn header_in(alloc: Global, bytes: &[u8]) -> Result<Header, Fault>
 {
     match component_in(alloc, 1, bytes)?.into_header() {
         Some(header) => Ok(header),
-        None => Err(Fault::NoMemory),
+        None => unreachable!(),
     }
 }
 
@@ -66,7 +66,7 @@ fn directory_in(alloc: Global, bytes: &[u8]) -> Result<Directory, Fault>
 {
     match component_in(alloc, 2, bytes)?.into_directory() {
         Some(directory) => Ok(directory),
-        None => Err(Fault::NoMemory),
+        None => unreachable!(),
     }
 }
 
