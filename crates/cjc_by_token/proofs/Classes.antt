@@ -1,12 +1,12 @@
 -- What instructions ask of classes is the same by name and by token.
 use Rattle.std.proofs.Common.{◌≡◌, ℕ, refl, sym, ap, ◌∙◌, true, List, [], ◌∷◌, map}
-use Rattle.std.specs.Prelude.{Option, Some, None, option_map, if◌then◌else◌}
+use Rattle.std.specs.Prelude.{Option, Some, None, option_map}
 use Rattle.cjc_bytes.specs.declared.fault.MemberId.{MemberId}
 use Rattle.cjc_script.specs.declared.value.Value.{Value}
 use Rattle.cjc_bytecode.specs.Effects.{Letter, IsOperand, Slot, Object, slot_of}
 use Rattle.cjc_bytecode.specs.Renaming.{option_as, keys, KnownHeapObject, object_known, AreAlike}
 use Rattle.cjc_card.specs.ByToken
-use Rattle.cjc_card.specs.Classes.{same_field, slots_upwards, depth}
+use Rattle.cjc_card.specs.Classes.{same_field}
 use Rattle.cjc_card.specs.Classes as card
 use Rattle.cjc_card.specs.Statics.{get_static, put_static}
 use Rattle.cjc_ncode.specs.ByLabel.{Named, slot_for, fresh}
@@ -32,15 +32,16 @@ module _ (n : Naming) (l : Named) (names : Names) (says : SaysClasses n l names)
   cell : (k : Letter) (f : MemberId) → may_access names.order k f ≡ true → n.cell f ≡ cell_of names.order f
   cell k f may = says.cell f (both_left (is_one_of f (fields names.order)) (same_letter (letter f) k) may)
 
-  made_same : (c : List ℕ) → names.class c ≡ true → card.fresh n.loaded (n.class c) ≡ option_as (slots_of n c) (fresh l c)
-  made_same c is = by (l.fields c) refl
+  made_there : (c : List ℕ) (held : List (Slot MemberId)) → names.class c ≡ true → fresh l c ≡ Some held → card.fresh n.loaded (n.class c) ≡ Some (slots_of n c held)
+  made_there c held is e = by (l.fields c) refl e
     where
-      by : (o : Option (List MemberId)) → l.fields c ≡ o → card.fresh n.loaded (n.class c) ≡ option_as (slots_of n c) (option_map (map slot_for) (l.fields c))
-      by None e = ap (λ t. if t then None else Some (slots_upwards n.loaded (depth n.loaded) (Some (n.class c)))) (says.not_made c is e) ∙ sym (ap (λ o. option_as (slots_of n c) (option_map (map slot_for) o)) e)
-      by (Some own) e =
-          let m = says.made c own is e in
+      by : (o : Option (List MemberId)) → l.fields c ≡ o → option_map (map slot_for) o ≡ Some held → card.fresh n.loaded (n.class c) ≡ Some (slots_of n c held)
+      by None h made = cc
+      by (Some own) h made =
+          let m = says.made c own is h in
           let a = object c own m.0 in
-          a.fresh m.1 ∙ sym (ap (λ o. option_as (slots_of n c) (option_map (map slot_for) o)) e)
+          let same : map slot_for own ≡ held = cc in
+          a.fresh m.1 ∙ ap (λ slots. Some (slots_of n c slots)) same
 
   made_known : (c : List ℕ) (held : List (Slot MemberId)) → names.class c ≡ true → fresh l c ≡ Some held → KnownHeapObject (known_by (tests names)) (Object c held)
   made_known c held is e = by (l.fields c) refl e
@@ -68,7 +69,7 @@ module _ (n : Naming) (l : Named) (names : Names) (says : SaysClasses n l names)
     is_of = says.kinds;
     get = λ c held f is may. let a = object c (keys held) is in a.get held f refl may;
     put = λ c held f old new is may there. let a = object c (keys held) is in a.put held f old new refl may there;
-    fresh = made_same;
+    fresh = made_there;
     fresh_known = made_known;
     bare = λ c is. let a = object c [] is in a.bare refl;
     get_static = get_there;

@@ -41,7 +41,6 @@ pub record SaysClasses (n : Naming) (l : Named) (names : Names) : Type 0 where
   pub kinds : (a b : Shape (List ℕ)) → KnownShape (known_by (tests names)) a → KnownShape (known_by (tests names)) b → is_of n.loaded (shape_as n.class a) (shape_as n.class b) ≡ l.is_of a b
   -- objects are made of classes that are no interfaces, with these fields
   pub made : (c : List ℕ) (own : List MemberId) → names.class c ≡ true → l.fields c ≡ Some own → (names.object c own ≡ true) × (is_interface n.loaded (n.class c) ≡ false)
-  pub not_made : (c : List ℕ) → names.class c ≡ true → l.fields c ≡ None → is_interface n.loaded (n.class c) ≡ true
   pub objects : (c : List ℕ) (own : List MemberId) → names.object c own ≡ true → HasObjects n names.field c own
   -- each static field has its cell
   pub statics : HasCells names.order names.statics

@@ -9,7 +9,7 @@ use Rattle.cjc_script.specs.Sorts.{Element, Shape, OfClass}
 use Rattle.cjc_bytecode.specs.Numbers.{spelt_by, is_word}
 use Rattle.cjc_bytecode.specs.Calculations.{IndexOutside, ClassCast, ArrayStore, Result, Fine, Fails, Wrong, Choice, Takes, Neither, one_number, two_numbers, one_value, one_int, int_words}
 use Rattle.cjc_bytecode.specs.Effects.{Letter, Reference, Byte, Short, Int, Access, Load, Store, Length, Throw, Return, Arm, Slot, HeapObject, Numbers, References, Object, shape, Memory, Classes, Operation, Do, Branch, Pick, Touch, Get, Put, GetStatic, PutStatic, Call, New, NewNumbers, NewReferences, Cast, Ask, Undone, Effect, Go, Raise, Stick, one_reference, operand, IsOperand, a_null, an_object, a_byte, a_short, an_int, words_of, same_kind, is_element, slot_of, slots_with, arm_of, with_some, item_at, finished, chosen, onward, thing_of, object_in, numbers_in, references_in, length_in, thrown, returned, receiver, sized, counted, made, truth, item_of, with_thing, kept, loaded, stored, touched, cast_of, cast, asked, put_slot, effect, load_reference_item, load_number, store_reference, store_number}
-use Rattle.cjc_bytecode.specs.Renaming.{option_as, shape_as, arm_as, heap_object_as, memory_as, operation_as, effect_as, Knows, KnownShape, KnownHeapObject, numbers_known, references_known, object_known, KnownHeap, no_things, one_thing, KnownMemory, KnownOperation, KnownEffect, AreAlike, keys}
+use Rattle.cjc_bytecode.specs.Renaming.{option_as, shape_as, arm_as, heap_object_as, memory_as, operation_as, effect_as, Knows, KnownShape, KnownHeapObject, numbers_known, references_known, object_known, KnownHeap, no_things, one_thing, KnownMemory, KnownOperation, KnownEffect, UnmadeAlike, AreAlike, keys}
 
 -- ---- lists
 
@@ -317,49 +317,55 @@ module _ {C F S X D G T Y : Type 0} (known : Knows C F S X) (class : C → D) (f
     by_slot None v a a' h = refl
     by_slot (Some old) v a a' h = by_if (same_kind old v) a a' Stick (h old refl)
 
-    pub effect_natural : (d : Operation C F S M) (room next : ℕ) (locals : List (Option Value)) (m : Memory C F X) (stack : List Value) → KnownMemory known m → KnownOperation known KnownMethod d → effect classes' (operation_as class field cell method to d) room (to next) locals (memory m) stack ≡ moved (effect classes d room next locals m stack)
-    effect_natural (Do calculation) room next locals m stack km kd = by_result (calculation room locals stack) next m
-    effect_natural (Branch test place) room next locals m stack km kd = by_choice (test stack) place next locals m
+    -- the second does what the first does, where the first is not stuck
+    pub data Follows : Effect C F M X → Effect D G N Y → Type 0 where
+      does : {a : Effect C F M X} {b : Effect D G N Y} → b ≡ moved a → Follows a b
+      -- a new object, where none is made
+      sticks : {b : Effect D G N Y} → (UnmadeAlike known class field slots cell statics classes classes' → b ≡ Stick) → Follows Stick b
+
+    pub effect_natural : (d : Operation C F S M) (room next : ℕ) (locals : List (Option Value)) (m : Memory C F X) (stack : List Value) → KnownMemory known m → KnownOperation known KnownMethod d → Follows (effect classes d room next locals m stack) (effect classes' (operation_as class field cell method to d) room (to next) locals (memory m) stack)
+    effect_natural (Do calculation) room next locals m stack km kd = does (by_result (calculation room locals stack) next m)
+    effect_natural (Branch test place) room next locals m stack km kd = does (by_choice (test stack) place next locals m)
     effect_natural (Pick false other arms) room next locals m stack km kd =
-        by_number stack _ _ (λ x rest. ap (λ at. Go at rest locals (memory m)) (arm_of_map to other arms x))
+        does (by_number stack _ _ (λ x rest. ap (λ at. Go at rest locals (memory m)) (arm_of_map to other arms x)))
     effect_natural (Pick true other arms) room next locals m stack km kd =
-        by_int stack (λ x rest. Go (arm_of other arms x) rest locals m) (λ x rest. Go (arm_of (to other) (map (arm_as to) arms) x) rest locals (memory m)) (λ x rest. ap (λ at. Go at rest locals (memory m)) (arm_of_map to other arms x))
-    effect_natural (Touch access) room next locals m stack km kd = touch_moved access room next locals m stack km
+        does (by_int stack (λ x rest. Go (arm_of other arms x) rest locals m) (λ x rest. Go (arm_of (to other) (map (arm_as to) arms) x) rest locals (memory m)) (λ x rest. ap (λ at. Go at rest locals (memory m)) (arm_of_map to other arms x)))
+    effect_natural (Touch access) room next locals m stack km kd = does (touch_moved access room next locals m stack km)
     effect_natural (Get this letter f) room next locals m stack km kd =
-        by_receiver this locals stack _ _ (λ r rest. by_thing m.heap r _ _ km.heap (λ k t kt. by_object t _ _ kt (λ c held kc ko.
+        does (by_receiver this locals stack _ _ (λ r rest. by_thing m.heap r _ _ km.heap (λ k t kt. by_object t _ _ kt (λ c held kc ko.
         ap (λ o. with_some Stick o (λ v. words_of letter v Stick (λ words. onward words room (to next) locals (memory m) rest))) (alike.get c held f ko kd)
-        ∙ by_some (slot_of classes.same_field held f) _ _ (λ v. by_words letter v _ _ (λ words. by_onward words room next locals m rest)))))
+        ∙ by_some (slot_of classes.same_field held f) _ _ (λ v. by_words letter v _ _ (λ words. by_onward words room next locals m rest))))))
     effect_natural (Put this letter f) room next locals m stack km kd =
-        by_operand letter stack _ _ (λ v below op. by_receiver this locals below _ _ (λ r rest. by_thing m.heap r _ _ km.heap (λ k t kt. by_object t _ _ kt (λ c held kc ko.
+        does (by_operand letter stack _ _ (λ v below op. by_receiver this locals below _ _ (λ r rest. by_thing m.heap r _ _ km.heap (λ k t kt. by_object t _ _ kt (λ c held kc ko.
         ap (λ o. put_slot classes' o v (Go (to next) rest locals (with_thing (memory m) k (Object (class c) (slots_with classes'.same_field (slots c held) (field f) v))))) (alike.get c held f ko kd)
         ∙ by_slot (slot_of classes.same_field held f) v _ _ (λ old e.
         ap (λ ss. Go (to next) rest locals (with_thing (memory m) k (Object (class c) ss))) (alike.put c held f old v ko kd e)
-        ∙ put_there next rest locals m k (Object c (slots_with classes.same_field held f v)))))))
+        ∙ put_there next rest locals m k (Object c (slots_with classes.same_field held f v))))))))
     effect_natural (GetStatic letter s) room next locals m stack km kd =
-        ap (λ o. with_some Stick o (λ v. words_of letter v Stick (λ words. onward words room (to next) locals (memory m) stack))) (alike.get_static letter s m.statics kd km.statics)
-        ∙ by_some (classes.get_static letter s m.statics) _ _ (λ v. by_words letter v _ _ (λ words. by_onward words room next locals m stack))
+        does (ap (λ o. with_some Stick o (λ v. words_of letter v Stick (λ words. onward words room (to next) locals (memory m) stack))) (alike.get_static letter s m.statics kd km.statics)
+        ∙ by_some (classes.get_static letter s m.statics) _ _ (λ v. by_words letter v _ _ (λ words. by_onward words room next locals m stack)))
     effect_natural (PutStatic letter s) room next locals m stack km kd =
-        by_operand letter stack _ _ (λ v rest op.
+        does (by_operand letter stack _ _ (λ v rest op.
         ap (λ o. with_some Stick o (λ y. Go (to next) rest locals (record (memory m) { statics = y }))) (alike.put_static letter s v m.statics op kd km.statics)
-        ∙ by (classes.put_static letter s v m.statics) rest)
+        ∙ by (classes.put_static letter s v m.statics) rest))
       where
         by : (o : Option X) (rest : List Value) → with_some Stick (option_as statics o) (λ y. Go (to next) rest locals (record (memory m) { statics = y })) ≡ moved (with_some Stick o (λ x. Go next rest locals (record m { statics = x })))
         by None rest = refl
         by (Some x) rest = refl
-    effect_natural (Call method) room next locals m stack km kd = refl
-    effect_natural (New c) room next locals m stack km kd =
-        ap (λ o. with_some Stick o (λ held. made (Object (class c) held) room (to next) locals (memory m) stack)) (alike.fresh c kd) ∙ by (classes.fresh c)
+    effect_natural (Call method) room next locals m stack km kd = does refl
+    effect_natural (New c) room next locals m stack km kd = by (classes.fresh c) refl
       where
-        by : (o : Option (List (Slot F))) → with_some Stick (option_as (slots c) o) (λ held. made (Object (class c) held) room (to next) locals (memory m) stack) ≡ moved (with_some Stick o (λ held. made (Object c held) room next locals m stack))
-        by None = refl
-        by (Some held) = by_made (Object c held) room next locals m stack
+        by : (o : Option (List (Slot F))) → classes.fresh c ≡ o → Follows (with_some Stick o (λ held. made (Object c held) room next locals m stack)) (with_some Stick (classes'.fresh (class c)) (λ held. made (Object (class c) held) room (to next) locals (memory m) stack))
+        by None e = sticks (λ unmade. ap (λ o. with_some Stick o (λ held. made (Object (class c) held) room (to next) locals (memory m) stack)) (unmade c kd e))
+        by (Some held) e =
+            does (ap (λ o. with_some Stick o (λ held. made (Object (class c) held) room (to next) locals (memory m) stack)) (alike.fresh c held kd e) ∙ by_made (Object c held) room next locals m stack)
     effect_natural (NewNumbers element) room next locals m stack km kd =
-        by_counted stack _ _ (λ n rest. by_made (Numbers element (replicate n (pos 0))) room next locals m rest)
+        does (by_counted stack _ _ (λ n rest. by_made (Numbers element (replicate n (pos 0))) room next locals m rest))
     effect_natural (NewReferences c) room next locals m stack km kd =
-        by_counted stack _ _ (λ n rest. by_made (References c (replicate n Null)) room next locals m rest)
-    effect_natural (Cast target) room next locals m stack km kd = cast_moved target next locals m stack km kd
-    effect_natural (Ask target) room next locals m stack km kd = asked_moved target next locals m stack km kd
-    effect_natural Undone room next locals m stack km kd = refl
+        does (by_counted stack _ _ (λ n rest. by_made (References c (replicate n Null)) room next locals m rest))
+    effect_natural (Cast target) room next locals m stack km kd = does (cast_moved target next locals m stack km kd)
+    effect_natural (Ask target) room next locals m stack km kd = does (asked_moved target next locals m stack km kd)
+    effect_natural Undone room next locals m stack km kd = does refl
 
   -- ---- what is known stays known
 

@@ -18,11 +18,12 @@ use Rattle.cjc_script.specs.Sorts.{Shape, OfClass, OfNumbers, OfReferences, Sort
 use Rattle.cjc_bytecode.specs.Calculations.{Fault, NullPointer}
 use Rattle.cjc_bytecode.specs.Effects.{HeapObject, Numbers, References, Object, shape, Effect, Go, Raise, Toss, Invoke, Leave, Stick, effect}
 use Rattle.cjc_bytecode.specs.Arguments.{first_and, event_values, result_words, result_of}
-use Rattle.cjc_bytecode.specs.Renaming.{option_as, shape_as, heap_object_as, memory_as, operation_as, effect_as, Knows, KnownShape, KnownHeapObject, numbers_known, references_known, object_known, KnownHeap, no_things, one_thing, KnownMemory, KnownEffect}
+use Rattle.cjc_bytecode.specs.Renaming.{option_as, shape_as, heap_object_as, memory_as, operation_as, effect_as, Knows, KnownShape, KnownHeapObject, numbers_known, references_known, object_known, KnownHeap, no_things, one_thing, KnownMemory, KnownOperation, KnownEffect}
 use Rattle.cjc_bytecode.specs.Machine.{Start, Reached, Nowhere, Within, Abroad, Fetched, Setting, Frame, State, Turn, Next, Ended, StuckAt}
 use Rattle.cjc_bytecode.specs.Machine
-use Rattle.cjc_bytecode.specs.Alike.{start_as, frame_as, Names, state_as, KnownKind, KnownFrames, no_frames, one_frame, KnownState, SettingsAlike, IsFree, RunsAgree}
-use Rattle.cjc_bytecode.proofs.Natural.{get_map, set_map, map_last, length_as, get_known, set_known, last_known, shape_known, effect_natural, effect_keeps}
+use Rattle.cjc_bytecode.specs.Alike.{start_as, frame_as, Names, state_as, KnownThing, KnownKind, KnownFrames, no_frames, one_frame, KnownState, SettingsAlike, MissesAlike, IsFree, RunsAgree, RunsStickAlike}
+use Rattle.cjc_bytecode.proofs.Natural
+use Rattle.cjc_bytecode.proofs.Natural.{get_map, set_map, map_last, length_as, get_known, set_known, last_known, shape_known, Follows, does, effect_natural, effect_keeps}
 
 module _ {P C F S M X Q D G T N Y : Type 0} (n : Names P C F S M X Q D G T N Y) (known : Knows C F S X) (KnownCode : P → Type 0) (KnownMethod : M → Type 0) (set : Setting P C F S M X) (set' : Setting Q D G T N Y) (alike : SettingsAlike n known KnownCode KnownMethod set set') where
   abbrev St : Type 0
@@ -52,11 +53,17 @@ module _ {P C F S M X Q D G T N Y : Type 0} (n : Names P C F S M X Q D G T N Y) 
   abbrev KnownT : HeapObject C F → Type 0
   KnownT t = KnownHeapObject known t
 
-  -- both go on together, or end alike, or the first is stuck
+  abbrev Misses : Type 0
+  Misses = MissesAlike n known KnownCode KnownMethod set set'
+
+  -- both go on together, or end alike, or the first is stuck, and then also the second where it finds nothing that the first does not find
   pub data Together : Turn P C F X → Turn Q D G Y → Type 0 where
     onward : (s : State P C F X) → KnownState n known KnownCode KnownMethod s → Together (Next s) (Next (state_as n s))
     over : (o : Outcome) (s : State P C F X) → KnownState n known KnownCode KnownMethod s → Together (Ended o s) (Ended o (state_as n s))
-    stuck : {at : ℕ} {s : State P C F X} {t : Turn Q D G Y} → Together (StuckAt at s) t
+    sticks : {at : ℕ} {s : State P C F X} {t : Turn Q D G Y} → (at' : ℕ) → (MissesAlike n known KnownCode KnownMethod set set' → t ≡ StuckAt at' (state_as n s)) → Together (StuckAt at s) t
+
+  stuck : {at at' : ℕ} {s : State P C F X} → Together (StuckAt at s) (StuckAt at' (state_as n s))
+  stuck {at' = at'} = sticks at' (λ misses. refl)
 
   -- ---- types and names
 
@@ -149,8 +156,17 @@ module _ {P C F S M X Q D G T N Y : Type 0} (n : Names P C F S M X Q D G T N Y) 
 
   -- ---- fitting
 
+  -- the type that a name stands for is known
   abbrev some_kind : (o : Option (Shape C)) → Type 0
-  some_kind o = KnownKind n known KnownCode KnownMethod o
+  some_kind None = Unit {0}
+  some_kind (Some kind) = KnownShape known kind
+
+  -- what calls are made on is known
+  abbrev Receiver : (o : Option (Shape C)) → Type 0
+  Receiver o = KnownKind n known KnownCode KnownMethod o
+
+  receiver_of : (t : HeapObject C F) → KnownHeapObject known t → KnownThing n known KnownCode KnownMethod (shape t)
+  receiver_of t kt = record { thing = t; is_known = kt; is_of = refl }
 
   test_same : (t : HeapObject C F) (kind : Shape C) → KnownHeapObject known t → KnownShape known kind → set'.classes.is_of (shape (thing t)) (shape_as n.class kind) ≡ set.classes.is_of (shape t) kind
   test_same t kind kt kk =
@@ -359,11 +375,12 @@ module _ {P C F S M X Q D G T N Y : Type 0} (n : Names P C F S M X Q D G T N Y) 
       by false = onward (record s { frames = Machine.entered m args ∷ f ∷ outer }) (record { frames = one_frame km kf; memory = ks.memory })
 
   -- what the first reaches, the second reaches
-  reaches_together : (m : M) (o : Option (Shape C)) (on : Bool) (args : List Value) (f : Frame P) (outer : List (Frame P)) (s : State P C F X) → KnownMethod m → some_kind o → Frames (f ∷ outer) → Known s → Together (Machine.reaches set (set.reached m o) on args f outer s) (Machine.reaches set' (set'.reached (n.method m) (option_as (shape_as n.class) o)) on args (there f) (map there outer) (moved s))
+  reaches_together : (m : M) (o : Option (Shape C)) (on : Bool) (args : List Value) (f : Frame P) (outer : List (Frame P)) (s : State P C F X) → KnownMethod m → Receiver o → Frames (f ∷ outer) → Known s → Together (Machine.reaches set (set.reached m o) on args f outer s) (Machine.reaches set' (set'.reached (n.method m) (option_as (shape_as n.class) o)) on args (there f) (map there outer) (moved s))
   reaches_together m o on args f outer s km kk kf ks = by (set.reached m o) refl
     where
       by : (r : Reached P) → set.reached m o ≡ r → Together (Machine.reaches set r on args f outer s) (Machine.reaches set' (set'.reached (n.method m) (option_as (shape_as n.class) o)) on args (there f) (map there outer) (moved s))
-      by Nowhere e = stuck
+      by Nowhere e =
+          sticks (n.to f.code f.at) (λ misses. ap (λ r. Machine.reaches set' r on args (there f) (map there outer) (moved s)) (misses.reached m o km kk e))
       by (Within start) e =
           subst (λ r. Together (Machine.inside set start args f outer s) (Machine.reaches set' r on args (there f) (map there outer) (moved s))) (sym (alike.reached m o (Within start) km kk e tt))
           (inside_together start args f outer s (alike.reached_known m o start km kk e) kf ks)
@@ -375,7 +392,7 @@ module _ {P C F S M X Q D G T N Y : Type 0} (n : Names P C F S M X Q D G T N Y) 
   on_thing m None args f outer s km kt kf ks = stuck
   on_thing m (Some t) args f outer s km kt kf ks =
       subst (λ k. Together (Machine.reaches_on set m (Some t) args f outer s) (Machine.reaches set' (set'.reached (n.method m) (Some k)) true args (there f) (map there outer) (moved s))) (sym (shape_there t))
-      (reaches_together m (Some (shape t)) true args f outer s km (shape_known known (kt t refl)) kf ks)
+      (reaches_together m (Some (shape t)) true args f outer s km (receiver_of t (kt t refl)) kf ks)
 
   receiver_together : (m : M) (args : List Value) (f : Frame P) (outer : List (Frame P)) (s : State P C F X) → KnownMethod m → Frames (f ∷ outer) → Known s → Together (Machine.on_receiver set m args f outer s) (Machine.on_receiver set' (n.method m) args (there f) (map there outer) (moved s))
   receiver_together m [] f outer s km kf ks = stuck
@@ -390,7 +407,8 @@ module _ {P C F S M X Q D G T N Y : Type 0} (n : Names P C F S M X Q D G T N Y) 
   args_together false m args f outer s km kf ks = reaches_together m None false args f outer s km tt kf ks
 
   counted_together : (o : Option ℕ) (m : M) (f : Frame P) (outer : List (Frame P)) (s : State P C F X) → set.words m ≡ o → KnownMethod m → Frames (f ∷ outer) → Known s → Together (Machine.counted set o m f outer s) (Machine.counted set' (set'.words (n.method m)) (n.method m) (there f) (map there outer) (moved s))
-  counted_together None m f outer s e km kf ks = stuck
+  counted_together None m f outer s e km kf ks =
+      sticks (n.to f.code f.at) (λ misses. ap (λ o. Machine.counted set' o (n.method m) (there f) (map there outer) (moved s)) (misses.words m km e))
   counted_together (Some w) m f outer s e km (one_frame kc kfs) ks =
       subst (λ o. Together (Machine.counted set (Some w) m f outer s) (Machine.counted set' o (n.method m) (there f) (map there outer) (moved s))) (sym (alike.words m w km e))
       (subst (λ on. Together (Machine.counted set (Some w) m f outer s) (if nat_le w (length f.stack) then Machine.with_args set' on (n.method m) (reverse (take w f.stack)) (record (there f) { stack = drop w f.stack }) (map there outer) (moved s) else StuckAt (n.to f.code f.at) (moved s))) (sym (alike.on_object m km))
@@ -420,22 +438,32 @@ module _ {P C F S M X Q D G T N Y : Type 0} (n : Names P C F S M X Q D G T N Y) 
   made_together Stick next f outer s ka kf ks = stuck
 
   fetched_together : (o : Option (Fetched C F S M)) (f : Frame P) (outer : List (Frame P)) (s : State P C F X) → set.fetch f.code f.at ≡ o → Frames (f ∷ outer) → Known s → Together (Machine.fetched set o f outer s) (Machine.fetched set' (set'.fetch (n.code f.code) (n.to f.code f.at)) (there f) (map there outer) (moved s))
-  fetched_together None f outer s e kf ks = stuck
+  fetched_together None f outer s e (one_frame kc kfs) ks =
+      sticks (n.to f.code f.at) (λ misses. ap (λ o. Machine.fetched set' o (there f) (map there outer) (moved s)) (misses.fetch f.code f.at kc e))
   fetched_together (Some i) f outer s e (one_frame kc kfs) ks =
-      let kd = alike.fetch_known f.code f.at i kc e in
-      let after : Effect D G N Y → Turn Q D G Y = λ a. Machine.made set' a (n.to f.code i.next) (there f) (map there outer) (moved s) in
-      let doing = effect set.classes i.operation (set.room f.code) i.next f.locals s.memory f.stack in
-      let same : Machine.fetched set' (set'.fetch (n.code f.code) (n.to f.code f.at)) (there f) (map there outer) (moved s) ≡ after (effect_as n.class n.slots n.method n.statics (n.to f.code) doing) =
-      ap (λ o. Machine.fetched set' o (there f) (map there outer) (moved s)) (alike.fetch f.code f.at i kc e)
-      ∙ ap (λ r. after (effect set'.classes (operation_as n.class n.field n.cell n.method (n.to f.code) i.operation) r (n.to f.code i.next) f.locals (memory_as n.class n.slots n.statics s.memory) f.stack)) (alike.room f.code kc)
-      ∙ ap after (effect_natural known n.class n.field n.slots n.cell n.statics set.classes set'.classes alike.classes KnownMethod n.method (n.to f.code) i.operation (set.room f.code) i.next f.locals s.memory f.stack ks.memory kd) in
       subst (λ t. Together (Machine.fetched set (Some i) f outer s) t) (sym same)
-      (made_together doing i.next f outer s (effect_keeps known n.class n.field n.slots n.cell n.statics set.classes set'.classes alike.classes M KnownMethod i.operation (set.room f.code) i.next f.locals s.memory f.stack ks.memory kd) (one_frame kc kfs) ks)
+      (by (effect_natural known n.class n.field n.slots n.cell n.statics set.classes set'.classes alike.classes KnownMethod n.method (n.to f.code) i.operation (set.room f.code) i.next f.locals s.memory f.stack ks.memory kd)
+          (effect_keeps known n.class n.field n.slots n.cell n.statics set.classes set'.classes alike.classes M KnownMethod i.operation (set.room f.code) i.next f.locals s.memory f.stack ks.memory kd))
+    where
+      kd : KnownOperation known KnownMethod i.operation
+      kd = alike.fetch_known f.code f.at i kc e
+
+      after : Effect D G N Y → Turn Q D G Y
+      after a = Machine.made set' a (n.to f.code i.next) (there f) (map there outer) (moved s)
+
+      same : Machine.fetched set' (set'.fetch (n.code f.code) (n.to f.code f.at)) (there f) (map there outer) (moved s) ≡ after (effect set'.classes (operation_as n.class n.field n.cell n.method (n.to f.code) i.operation) (set.room f.code) (n.to f.code i.next) f.locals (memory_as n.class n.slots n.statics s.memory) f.stack)
+      same =
+          ap (λ o. Machine.fetched set' o (there f) (map there outer) (moved s)) (alike.fetch f.code f.at i kc e)
+          ∙ ap (λ r. after (effect set'.classes (operation_as n.class n.field n.cell n.method (n.to f.code) i.operation) r (n.to f.code i.next) f.locals (memory_as n.class n.slots n.statics s.memory) f.stack)) (alike.room f.code kc)
+
+      by : {a : Effect C F M X} {b : Effect D G N Y} → Follows known n.class n.field n.slots n.cell n.statics set.classes set'.classes alike.classes KnownMethod n.method (n.to f.code) a b → KnownEffect known KnownMethod a → Together (Machine.made set a i.next f outer s) (after b)
+      by (does {a = a} is) ka = subst (λ b. Together (Machine.made set a i.next f outer s) (after b)) (sym is) (made_together a i.next f outer s ka (one_frame kc kfs) ks)
+      by (Natural.sticks is) ka = sticks (n.to f.code f.at) (λ misses. ap after (is misses.unmade))
 
   spent_together : (k : ℕ) {t : Turn P C F X} {u : Turn Q D G Y} → Together t u → Together (Machine.spent_by set k t) (Machine.spent_by set' k u)
   spent_together k (onward s ks) = onward s ks
   spent_together k (over o s ks) = over o s ks
-  spent_together k stuck = stuck
+  spent_together k (sticks at is) = sticks at (λ misses. ap (Machine.spent_by set' k) (is misses))
 
   step_together : (frames : List (Frame P)) (s : State P C F X) → Frames frames → Known s → Together (Machine.step set frames s) (Machine.step set' (map there frames) (moved s))
   step_together [] s kf ks = over Done s ks
@@ -455,7 +483,7 @@ module _ {P C F S M X Q D G T N Y : Type 0} (n : Names P C F S M X Q D G T N Y) 
   sent_to_same : (o : Option (HeapObject C F)) (id : MemberId) → ((t : HeapObject C F) → o ≡ Some t → KnownHeapObject known t) → SameStart (Machine.sent_to set o id) (Machine.sent_to set' (option_as thing o) id)
   sent_to_same None id kt = no_start
   sent_to_same (Some t) id kt =
-      let kk = shape_known known (kt t refl) in
+      let kk = receiver_of t (kt t refl) in
       subst (λ o. SameStart (set.sent (shape t) id) o) (sym (ap (λ k. set'.sent k id) (shape_there t) ∙ alike.sent (shape t) id kk))
       (start_same (set.sent (shape t) id) (λ m e. alike.sent_known (shape t) id m kk e))
 
@@ -512,7 +540,7 @@ module _ {P C F S M X Q D G T N Y : Type 0} (n : Names P C F S M X Q D G T N Y) 
   and_then_together : {t : Turn P C F X} {u : Turn Q D G Y} → Together t u → Together (Machine.and_then set t (λ s. Machine.step set s.frames s)) (Machine.and_then set' u (λ s. Machine.step set' s.frames s))
   and_then_together (onward s ks) = step_together s.frames s ks.frames ks
   and_then_together (over o s ks) = over o s ks
-  and_then_together stuck = stuck
+  and_then_together (sticks at is) = sticks at (λ misses. ap (λ u. Machine.and_then set' u (λ s. Machine.step set' s.frames s)) (is misses))
 
   turn_together : (s : State P C F X) → Known s → Together (Machine.turn set s) (Machine.turn set' (moved s))
   turn_together s ks = and_then_together (begins_together s.frames s.entries s ks)
@@ -527,8 +555,19 @@ module _ {P C F S M X Q D G T N Y : Type 0} (n : Names P C F S M X Q D G T N Y) 
   settled_same : (k : ℕ) → ((s : State P C F X) → Known s → IsFree n known KnownCode KnownMethod (Machine.run set k s) → Machine.run set' k (moved s) ≡ Machine.run set k s) → {t : Turn P C F X} {u : Turn Q D G Y} → Together t u → IsFree n known KnownCode KnownMethod (Machine.settled set t (Machine.run set k)) → Machine.settled set' u (Machine.run set' k) ≡ Machine.settled set t (Machine.run set k)
   settled_same k agree (onward s ks) free = agree s ks free
   settled_same k agree (over o s ks) free = report_same o s ks
-  settled_same k agree (stuck {at = at}) free = absurd (free at refl)
+  settled_same k agree (sticks {at = at} at' is) free = absurd (free at refl)
 
   pub runs_agree : RunsAgree n known KnownCode KnownMethod set set'
   runs_agree zero s ks free = ap (λ o. Machine.report set' o (moved s)) (idle_same s.frames s.entries) ∙ report_same (Machine.idle set s.frames s.entries) s ks
   runs_agree (suc k) s ks free = settled_same k (runs_agree k) (turn_together s ks) free
+
+  settled_stick : (k : ℕ) → Misses → ((s : State P C F X) → Known s → IsFree n known KnownCode KnownMethod (Machine.run set' k (moved s)) → IsFree n known KnownCode KnownMethod (Machine.run set k s)) → {t : Turn P C F X} {u : Turn Q D G Y} → Together t u → IsFree n known KnownCode KnownMethod (Machine.settled set' u (Machine.run set' k)) → IsFree n known KnownCode KnownMethod (Machine.settled set t (Machine.run set k))
+  settled_stick k misses stick (onward s ks) free = stick s ks free
+  settled_stick k misses stick (over o s ks) free = free
+  settled_stick k misses stick (sticks {at = at} at' is) free =
+      absurd (subst (λ u. IsFree n known KnownCode KnownMethod (Machine.settled set' u (Machine.run set' k))) (is misses) free at' refl)
+
+  pub runs_stick_alike : Misses → RunsStickAlike n known KnownCode KnownMethod set set'
+  runs_stick_alike misses zero s ks free =
+      subst (λ o. IsFree n known KnownCode KnownMethod (Machine.report set o s)) (idle_same s.frames s.entries) free
+  runs_stick_alike misses (suc k) s ks free = settled_stick k misses (runs_stick_alike misses k) (turn_together s ks) free

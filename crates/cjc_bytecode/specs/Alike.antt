@@ -5,8 +5,8 @@ use Rattle.cjc_script.specs.declared.report.Outcome.TheVariants.{Stuck}
 use Rattle.cjc_script.specs.declared.report.Report.{Report}
 use Rattle.cjc_script.specs.Sorts.{Shape}
 use Rattle.cjc_bytecode.specs.Calculations.{Fault}
-use Rattle.cjc_bytecode.specs.Effects.{Slot, Object}
-use Rattle.cjc_bytecode.specs.Renaming.{option_as, shape_as, memory_as, operation_as, Knows, KnownShape, KnownHeapObject, KnownMemory, KnownOperation, AreAlike}
+use Rattle.cjc_bytecode.specs.Effects.{Slot, HeapObject, Object, shape}
+use Rattle.cjc_bytecode.specs.Renaming.{option_as, shape_as, memory_as, operation_as, Knows, KnownShape, KnownHeapObject, KnownMemory, KnownOperation, UnmadeAlike, AreAlike}
 use Rattle.cjc_bytecode.specs.Machine.{Start, Reached, Nowhere, Within, Abroad, Fetched, Setting, Frame, State, run}
 
 -- a call that reaches something
@@ -59,10 +59,16 @@ module _ {P C F S M X Q D G T N Y : Type 0} (n : Names P C F S M X Q D G T N Y) 
   fetched_as p i = record { operation = operation_as n.class n.field n.cell n.method (n.to p) i.operation; next = n.to p i.next }
 
   module _ (known : Knows C F S X) (KnownCode : P → Type 0) (KnownMethod : M → Type 0) where
-    -- the type of a receiver that is there is known
+    -- a type of which there is a known array or object
+    pub record KnownThing (kind : Shape C) : Type 0 where
+      pub thing : HeapObject C F
+      pub is_known : KnownHeapObject known thing
+      pub is_of : shape thing ≡ kind
+
+    -- a receiver that is there is known
     abbrev pub KnownKind : Option (Shape C) → Type 0
     KnownKind None = Unit {0}
-    KnownKind (Some kind) = KnownShape known kind
+    KnownKind (Some kind) = KnownThing kind
 
     -- the code of each frame is known
     pub data KnownFrames : List (Frame P) → Type 0 where
@@ -96,11 +102,18 @@ module _ {P C F S M X Q D G T N Y : Type 0} (n : Names P C F S M X Q D G T N Y) 
       pub throwable_known : (name : List ℕ) (c : C) → set.throwable name ≡ Some c → KnownHeapObject known (Object c [])
       pub called : (id : MemberId) → set'.called id ≡ option_as (start_as n.code n.to) (set.called id)
       pub called_known : (id : MemberId) (start : Start P) → set.called id ≡ Some start → KnownCode start.code
-      pub sent : (kind : Shape C) (id : MemberId) → KnownShape known kind → set'.sent (shape_as n.class kind) id ≡ option_as (start_as n.code n.to) (set.sent kind id)
-      pub sent_known : (kind : Shape C) (id : MemberId) (start : Start P) → KnownShape known kind → set.sent kind id ≡ Some start → KnownCode start.code
+      pub sent : (kind : Shape C) (id : MemberId) → KnownThing kind → set'.sent (shape_as n.class kind) id ≡ option_as (start_as n.code n.to) (set.sent kind id)
+      pub sent_known : (kind : Shape C) (id : MemberId) (start : Start P) → KnownThing kind → set.sent kind id ≡ Some start → KnownCode start.code
       pub name : (c : C) → known.class c → set'.name (n.class c) ≡ set.name c
       pub fields : (c : C) (slots : List (Slot F)) → KnownHeapObject known (Object c slots) → set'.fields (n.class c) (n.slots c slots) ≡ set.fields c slots
       pub cells : (x : X) → known.statics x → set'.cells (n.statics x) ≡ set.cells x
+
+    -- Where the first finds nothing, the second finds nothing.
+    pub record MissesAlike (set : Setting P C F S M X) (set' : Setting Q D G T N Y) : Type 0 where
+      pub unmade : UnmadeAlike known n.class n.field n.slots n.cell n.statics set.classes set'.classes
+      pub fetch : (p : P) (at : ℕ) → KnownCode p → set.fetch p at ≡ None → set'.fetch (n.code p) (n.to p at) ≡ None
+      pub words : (m : M) → KnownMethod m → set.words m ≡ None → set'.words (n.method m) ≡ None
+      pub reached : (m : M) (o : Option (Shape C)) → KnownMethod m → KnownKind o → set.reached m o ≡ Nowhere → set'.reached (n.method m) (option_as (shape_as n.class) o) ≡ Nowhere
 
     -- the run is not stuck
     abbrev pub IsFree : Report → Type 0
@@ -109,3 +122,7 @@ module _ {P C F S M X Q D G T N Y : Type 0} (n : Names P C F S M X Q D G T N Y) 
     -- From a known state the two machines give equal reports, for every number of instructions, where the first is not stuck.
     abbrev pub RunsAgree : Setting P C F S M X → Setting Q D G T N Y → Type 0
     RunsAgree set set' = (k : ℕ) (s : State P C F X) → KnownState s → IsFree (run set k s) → run set' k (state_as s) ≡ run set k s
+
+    -- From a known state the first machine is not stuck where the second is not.
+    abbrev pub RunsStickAlike : Setting P C F S M X → Setting Q D G T N Y → Type 0
+    RunsStickAlike set set' = (k : ℕ) (s : State P C F X) → KnownState s → IsFree (run set' k (state_as s)) → IsFree (run set k s)

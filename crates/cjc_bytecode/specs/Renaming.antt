@@ -129,13 +129,18 @@ module _ {C F S X M : Type 0} (known : Knows C F S X) (KnownMethod : M → Type 
   KnownEffect Stick = Unit {0}
 
 module _ {C F S X D G T Y : Type 0} (known : Knows C F S X) (class : C → D) (field : F → G) (slots : C → List (Slot F) → List (Slot G)) (cell : S → T) (statics : X → Y) where
+  -- of a class of which the first makes no object, the second makes none
+  abbrev pub UnmadeAlike : Classes C F S X → Classes D G T Y → Type 0
+  UnmadeAlike classes classes' = (c : C) → known.class c → classes.fresh c ≡ None → classes'.fresh (class c) ≡ None
+
   -- Two sets of classes, under known names: what each asks is the same.
   pub record AreAlike (classes : Classes C F S X) (classes' : Classes D G T Y) : Type 0 where
     pub is_of : (a b : Shape C) → KnownShape known a → KnownShape known b → classes'.is_of (shape_as class a) (shape_as class b) ≡ classes.is_of a b
     -- what an object holds under a field, and with another value under one that it has
     pub get : (c : C) (held : List (Slot F)) (f : F) → known.object c (keys held) → known.field f → slot_of classes'.same_field (slots c held) (field f) ≡ slot_of classes.same_field held f
     pub put : (c : C) (held : List (Slot F)) (f : F) (old new : Value) → known.object c (keys held) → known.field f → slot_of classes.same_field held f ≡ Some old → slots_with classes'.same_field (slots c held) (field f) new ≡ slots c (slots_with classes.same_field held f new)
-    pub fresh : (c : C) → known.class c → classes'.fresh (class c) ≡ option_as (slots c) (classes.fresh c)
+    -- where the first makes objects of a class
+    pub fresh : (c : C) (held : List (Slot F)) → known.class c → classes.fresh c ≡ Some held → classes'.fresh (class c) ≡ Some (slots c held)
     pub fresh_known : (c : C) (held : List (Slot F)) → known.class c → classes.fresh c ≡ Some held → KnownHeapObject known (Object c held)
     -- an object without fields
     pub bare : (c : C) → known.object c [] → slots c [] ≡ []

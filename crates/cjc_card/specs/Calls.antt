@@ -13,7 +13,7 @@ use Rattle.cjc_script.specs.Sorts.{Shape, OfClass, Signature, signature_of}
 use Rattle.cjc_bytecode.specs.Arguments.{widths}
 use Rattle.cjc_bytecode.specs.Machine.{Start, Reached, Nowhere, Within, Abroad}
 use Rattle.cjc_card.specs.Loaded.{MethodName, ClassNames, Part, Loaded}
-use Rattle.cjc_card.specs.Classes.{Class, Own, Foreign, or_else, foreign, foreign_named, class_named, names_of, superclass, depth, is_interface, is_of, is_kind_of, shape_class}
+use Rattle.cjc_card.specs.Classes.{Class, Own, Foreign, or_else, foreign, foreign_named, class_named, names_of, superclass, depth, upwards, object_class, is_interface, is_of, is_kind_of, shape_class}
 use Rattle.cjc_card.specs.Dispatch.{Token, Open, Hidden, Selection, NotFound, At, Outward, tower, above, dispatched, dispatched_interface, exported_line}
 use Rattle.cjc_card.specs.Operations.{Callee, Fixed, Outer, OnObject, OnSuper, OnInterface}
 use Rattle.cjc_card.specs.Methods.{Code, start_of}
@@ -127,27 +127,27 @@ described_token d =
     let m = d.method in
     if has_no_token m then None else (if nat_lt m.token 0x80 then Some (Open m.token) else Some (Hidden d.part (m.token - 0x80)))
 
--- the token of the virtual method of this name
-abbrev pub listed_token : List ExportMethod → MemberId → Option ℕ
+-- the first method of this name and descriptor: its token, or that it has none since it is no virtual method
+abbrev pub listed_token : List ExportMethod → MemberId → Option (Option ℕ)
 listed_token [] id = None
 listed_token (m ∷ methods) id =
-    if is_virtual m && (bytes_eq m.name id.name && bytes_eq m.desc id.desc) then Some m.token else listed_token methods id
+    if bytes_eq m.name id.name && bytes_eq m.desc id.desc then Some (if is_virtual m then Some m.token else None) else listed_token methods id
 
--- the first of the classes that lists it
-abbrev pub token_in_files : List ExportClass → MemberId → Option ℕ
+-- the first of the classes that lists it decides
+abbrev pub token_in_files : List ExportClass → MemberId → Option (Option ℕ)
 token_in_files [] id = None
 token_in_files (c ∷ classes) id = or_else (listed_token c.methods id) (token_in_files classes id)
 
 -- a method that is declared decides, also where it has no token
-abbrev pub token_or : Option Described → (above : Option Token) → Option Token
+abbrev pub token_or : Option Described → (above : Option (Option Token)) → Option (Option Token)
 token_or None above = above
-token_or (Some d) above = described_token d
+token_or (Some d) above = Some (described_token d)
 
--- the token of the virtual method that is found from a class
-abbrev pub found_token : Loaded → (depth : ℕ) → Option Class → MemberId → Option Token
+-- the method that is found from a class: its token, or that it has none
+abbrev pub found_token : Loaded → (depth : ℕ) → Option Class → MemberId → Option (Option Token)
 found_token l zero class id = None
 found_token l (suc n) None id = None
-found_token l (suc n) (Some (Foreign tree token)) id = option_map Open (token_in_files (exported_line l (foreign l tree token)) id)
+found_token l (suc n) (Some (Foreign tree token)) id = option_map (option_map Open) (token_in_files (exported_line l (foreign l tree token)) id)
 found_token l (suc n) (Some (Own p offset)) id = token_or (declared l (Own p offset) id) (found_token l n (superclass l p offset) id)
 
 -- the place of the method of this name
@@ -157,19 +157,35 @@ place_named (n ∷ names) id = if is_named n id then Some 0 else option_map suc 
 
 -- the token of a method of an interface
 abbrev pub interface_token : Loaded → Class → MemberId → Option ℕ
-interface_token l (Foreign tree token) id = option_and_then (λ c. listed_token c.methods id) (foreign l tree token)
+interface_token l (Foreign tree token) id = option_and_then (λ c. option_and_then (λ t. t) (listed_token c.methods id)) (foreign l tree token)
 interface_token l (Own p offset) id = option_and_then (λ names. place_named names.interface_methods id) (names_of l p offset)
 
--- a selection by a token that is there
-abbrev pub by_token_of : {A : Type 0} → Option A → (A → Selection) → Selection
-by_token_of None go = NotFound
-by_token_of (Some token) go = go token
+-- the same of a class that may be an interface
+abbrev pub token_if_interface : Loaded → Class → MemberId → Option ℕ
+token_if_interface l c id = if is_interface l c then interface_token l c id else None
 
--- the method of the named class, on a receiver
-abbrev pub sent_to : Loaded → Option Class → (named : Class) → MemberId → Selection
+-- a method by its token in an interface, or what else is found
+abbrev pub through : Loaded → (receiver : Option Class) → (interface : Class) → Option ℕ → (otherwise : Selection) → Selection
+through l receiver i None otherwise = otherwise
+through l receiver i (Some token) otherwise = dispatched_interface l receiver i token
+
+-- by the first interface among these that has the method
+abbrev pub through_first : Loaded → (receiver : Option Class) → List Class → MemberId → Selection
+through_first l receiver [] id = NotFound
+through_first l receiver (c ∷ classes) id = through l receiver c (token_if_interface l c id) (through_first l receiver classes id)
+
+-- A method that is found decides, also where it has no token; else an interface above the named class may have it.
+abbrev pub sent_by : Loaded → (receiver : Option Class) → (named : Class) → MemberId → Option (Option Token) → Selection
+sent_by l receiver named id None = through_first l receiver (upwards l named) id
+sent_by l receiver named id (Some None) = NotFound
+sent_by l receiver named id (Some (Some token)) = dispatched_on l receiver token
+
+-- The method of the named class, on a receiver. An interface has the methods of java/lang/Object too.
+abbrev pub sent_to : Loaded → (receiver : Option Class) → (named : Class) → MemberId → Selection
 sent_to l receiver named id =
-    if is_interface l named then by_token_of (interface_token l named id) (dispatched_interface l receiver named)
-    else by_token_of (found_token l (suc (depth l)) (Some named) id) (dispatched_on l receiver)
+    if is_interface l named
+    then through l receiver named (interface_token l named id) (sent_by l receiver named id (found_token l (suc (depth l)) (object_class l) id))
+    else sent_by l receiver named id (found_token l (suc (depth l)) (Some named) id)
 
 -- a method of the group
 abbrev pub start_selected : Loaded → Selection → Option (Start Code)

@@ -5,9 +5,9 @@ use Rattle.cjc_bytes.specs.declared.fault.MemberId.{MemberId}
 use Rattle.cjc_script.specs.Sorts.{Shape, OfClass, OfNumbers, OfReferences}
 use Rattle.cjc_bytecode.specs.Effects.{Arm, Do, Branch, Pick, Touch, Get, Put, GetStatic, PutStatic, Call, New, NewNumbers, NewReferences, Cast, Ask, Undone}
 use Rattle.cjc_bytecode.specs.Renaming.{option_as, shape_as, arm_as, operation_as, object_known, AreAlike, KnownShape, KnownOperation}
-use Rattle.cjc_bytecode.specs.Machine.{Reached, Fetched}
-use Rattle.cjc_bytecode.specs.Alike.{SettingsAlike, RunsAgree, reached_as}
-use Rattle.cjc_bytecode.proofs.Together.{runs_agree}
+use Rattle.cjc_bytecode.specs.Machine.{Reached, Nowhere, Fetched}
+use Rattle.cjc_bytecode.specs.Alike.{SettingsAlike, MissesAlike, RunsAgree, RunsStickAlike, reached_as}
+use Rattle.cjc_bytecode.proofs.Together.{runs_agree, runs_stick_alike}
 use Rattle.cjc_ncode.specs.ByLabel.{Named, by_label, classes}
 use Rattle.cjc_ncode.specs.ByLabel
 use Rattle.cjc_lower.specs.Placed.{Placed}
@@ -85,7 +85,7 @@ module _ (l : Named) (methods : Methods) (agree : MethodsAgree l methods) where
     is_of = λ a b known_a known_b. ap (λ x. l.is_of x (shape_as (λ c. c) b)) (shape_stays a) ∙ ap (l.is_of a) (shape_stays b);
     get = λ c held f known_object known_field. refl;
     put = λ c held f old new known_object known_field there. refl;
-    fresh = λ c is_known. sym (option_stays (ByLabel.fresh l c));
+    fresh = λ c held is_known there. there;
     fresh_known = λ c held is_known there. object_known refl refl;
     bare = λ c is_known. refl;
     get_static = λ letter s x known_cell known_statics. refl;
@@ -135,5 +135,20 @@ module _ (l : Named) (methods : Methods) (agree : MethodsAgree l methods) where
     cells = λ x is_known. refl;
   }
 
+  nowhere_stays : (m : ByLabel.Callee) (o : Option (Shape Name)) → methods.reached m o ≡ Nowhere → l.reached m (option_as (shape_as (λ c. c)) o) ≡ Nowhere
+  nowhere_stays m o e = ap (l.reached m) (kind_stays o) ∙ agree.reached m o ∙ ap (reached_as (λ p. p.method) (λ p label. label)) e
+
+  pub code_misses_alike : MissesAlike code_alone (known_by everything) Any (IsKnownCall everything) (by_place l methods) (by_label l)
+  unfolding by_place by_label
+  code_misses_alike = record {
+    unmade = λ c is_known none. none;
+    fetch = λ p at is_known none. none;
+    words = λ m is_known none. none;
+    reached = λ m o is_known known_kind none. nowhere_stays m o none;
+  }
+
   pub code_runs_agree : RunsAgree code_alone (known_by everything) Any (IsKnownCall everything) (by_place l methods) (by_label l)
   code_runs_agree = runs_agree code_alone (known_by everything) Any (IsKnownCall everything) (by_place l methods) (by_label l) code_settings_alike
+
+  pub code_runs_stick_alike : RunsStickAlike code_alone (known_by everything) Any (IsKnownCall everything) (by_place l methods) (by_label l)
+  code_runs_stick_alike = runs_stick_alike code_alone (known_by everything) Any (IsKnownCall everything) (by_place l methods) (by_label l) code_settings_alike code_misses_alike

@@ -15,7 +15,7 @@ use Rattle.cjc_lower.specs.Package.{HoldsMethods}
 use Rattle.cjc_lower.specs.ByPlace.{Methods, by_place}
 use Rattle.cjc_lower.specs.Agreement.{Cells, Memories, names, everything, known_by, IsKnownCall, code_alone, IsAmong, TablesAgree, MethodsAgree}
 use Rattle.cjc_lower.proofs.Agreeing.{package_runs_agree}
-use Rattle.cjc_lower.proofs.ByCode.{code_runs_agree}
+use Rattle.cjc_lower.proofs.ByCode.{code_runs_agree, code_runs_stick_alike}
 
 abbrev Any : Placed → Type 0
 Any p = Unit {0}
@@ -34,7 +34,8 @@ state_known : (s : State Placed (List ℕ) MemberId Cells) → KnownState code_a
 state_known s = record { frames = frames_known s.frames; memory = record { heap = heap_known s.memory.heap; statics = refl } }
 
 module _ (n : Naming) (part : Part) (placed : List Placed) (memories : Memories) (l : Named) (methods : Methods) (known : Knows (List ℕ) MemberId MemberId Cells) (KnownMethod : ByLabel.Callee → Type 0) (holds : HoldsMethods n part placed) (tables : TablesAgree n placed memories l methods known KnownMethod) (agree : MethodsAgree l methods) where
-  pub as_by_label : (k : ℕ) (s : State Placed (List ℕ) MemberId Cells) → KnownState (names n memories) known (IsAmong placed) KnownMethod s → IsFree (names n memories) known (IsAmong placed) KnownMethod (run (by_place l methods) k s) → run (by_token n.loaded) k (state_as (names n memories) s) ≡ run (by_label l) k (state_as code_alone s)
+  pub as_by_label : (k : ℕ) (s : State Placed (List ℕ) MemberId Cells) → KnownState (names n memories) known (IsAmong placed) KnownMethod s → IsFree code_alone (known_by everything) Any (IsKnownCall everything) (run (by_label l) k (state_as code_alone s)) → run (by_token n.loaded) k (state_as (names n memories) s) ≡ run (by_label l) k (state_as code_alone s)
   as_by_label k s is_known free =
-      package_runs_agree n part placed memories l methods known KnownMethod holds tables k s is_known free
-      ∙ sym (code_runs_agree l methods agree k s (state_known s) free)
+      let placed_free = code_runs_stick_alike l methods agree k s (state_known s) free in
+      package_runs_agree n part placed memories l methods known KnownMethod holds tables k s is_known placed_free
+      ∙ sym (code_runs_agree l methods agree k s (state_known s) placed_free)

@@ -4,9 +4,9 @@ use Rattle.cjc_bytes.specs.declared.fault.MemberId.{MemberId}
 use Rattle.cjc_script.specs.Sorts.{Shape}
 use Rattle.cjc_bytecode.specs.Calculations.{Fault}
 use Rattle.cjc_bytecode.specs.Effects.{Letter, Slot, Object}
-use Rattle.cjc_bytecode.specs.Renaming.{option_as, shape_as, Knows, KnownShape, KnownHeapObject, KnownOperation, AreAlike}
+use Rattle.cjc_bytecode.specs.Renaming.{option_as, shape_as, Knows, KnownHeapObject, KnownOperation, AreAlike}
 use Rattle.cjc_bytecode.specs.Machine.{Start, Reached, Within}
-use Rattle.cjc_bytecode.specs.Alike.{Names, KnownKind, IsFound, start_as, reached_as}
+use Rattle.cjc_bytecode.specs.Alike.{Names, KnownThing, KnownKind, IsFound, start_as, reached_as}
 use Rattle.cjc_card.specs.Classes.{Class, Field, fault_class, name_of}
 use Rattle.cjc_card.specs.Classes
 use Rattle.cjc_card.specs.Statics.{Image, StaticCell}
@@ -92,8 +92,8 @@ module _ (n : Naming) (placed : List Placed) (memories : Memories) (l : Named) (
     pub throwable_known : (name c : List ℕ) → l.throwable name ≡ Some c → KnownHeapObject known (Object c [])
     pub called : (id : MemberId) → Calls.called n.loaded id ≡ option_as (start_as (code_of n) (offset_of n)) (methods.called id)
     pub called_known : (id : MemberId) (start : Start Placed) → methods.called id ≡ Some start → IsAmong placed start.code
-    pub sent : (kind : Shape (List ℕ)) (id : MemberId) → KnownShape known kind → Calls.sent n.loaded (shape_as n.class kind) id ≡ option_as (start_as (code_of n) (offset_of n)) (methods.sent kind id)
-    pub sent_known : (kind : Shape (List ℕ)) (id : MemberId) (start : Start Placed) → KnownShape known kind → methods.sent kind id ≡ Some start → IsAmong placed start.code
+    pub sent : (kind : Shape (List ℕ)) (id : MemberId) → KnownThing (names n memories) known (IsAmong placed) KnownMethod kind → Calls.sent n.loaded (shape_as n.class kind) id ≡ option_as (start_as (code_of n) (offset_of n)) (methods.sent kind id)
+    pub sent_known : (kind : Shape (List ℕ)) (id : MemberId) (start : Start Placed) → KnownThing (names n memories) known (IsAmong placed) KnownMethod kind → methods.sent kind id ≡ Some start → IsAmong placed start.code
     pub name : (c : List ℕ) → known.class c → name_of n.loaded (n.class c) ≡ c
     pub fields : (c : List ℕ) (slots : List (Slot MemberId)) → KnownHeapObject known (Object c slots) → ByToken.shown_fields n.loaded (n.class c) (memories.slots c slots) ≡ map shown_slot slots
     pub cells : (x : Cells) → known.statics x → (let l = n.loaded in ByToken.shown_cells 0 l.parts (memories.statics x) ≡ map shown_slot x)

@@ -8,7 +8,7 @@ ghost use Rattle.cjc_bytes.specs.declared.fault.MemberId.{MemberId};
 ghost use Rattle.cjc_script.specs.Sorts.{Shape};
 ghost use Rattle.cjc_bytecode.specs.Meanings.{meaning};
 ghost use Rattle.cjc_bytecode.specs.Renaming.{option_as, shape_as};
-ghost use Rattle.cjc_bytecode.specs.Alike.{SettingsAlike, RunsAgree, KnownState, IsFree, state_as};
+ghost use Rattle.cjc_bytecode.specs.Alike.{SettingsAlike, RunsAgree, RunsStickAlike, KnownState, IsFree, state_as};
 ghost use Rattle.cjc_card.specs.ByToken.{by_token};
 ghost use Rattle.cjc_card.specs.Operations.{operation};
 ghost use Rattle.cjc_bytecode.specs.Machine.{Fetched, State, run};
@@ -103,9 +103,10 @@ pub fn worked_package_is_laid_out()
 {}
 
 /// Methods told apart by where they stand run as by their code alone: equal reports for every script and every
-/// number of instructions where the first are not stuck.
+/// number of instructions where the first are not stuck; and they are not stuck where their code alone is not.
 pub fn placed_methods_run_as_by_label()
-    ensures { (l : Named) (methods : Methods) → MethodsAgree l methods → RunsAgree code_alone (known_by everything) (λ p. Unit {0}) (IsKnownCall everything) (by_place l methods) (by_label l) }
+    ensures reports { (l : Named) (methods : Methods) → MethodsAgree l methods → RunsAgree code_alone (known_by everything) (λ p. Unit {0}) (IsKnownCall everything) (by_place l methods) (by_label l) }
+    ensures sticks { (l : Named) (methods : Methods) → MethodsAgree l methods → RunsStickAlike code_alone (known_by everything) (λ p. Unit {0}) (IsKnownCall everything) (by_place l methods) (by_label l) }
 {}
 
 /// Each opcode that a form of narrow instruction can have means what the form says, of a jump in both its forms;
@@ -122,7 +123,7 @@ pub fn opcodes_are_formed()
 {}
 
 /// Components run as narrow code does by label: equal reports from every known state and for every number of
-/// instructions where narrow code of placed methods is not stuck.
+/// instructions where narrow code by label is not stuck.
 pub fn runs_agree()
-    ensures { (n : Naming) (part : Part) (placed : List Placed) (memories : Memories) (l : Named) (methods : Methods) (known : KnownNames) → HoldsMethods n part placed → TablesAgree n placed memories l methods (known_by known) (IsKnownCall known) → MethodsAgree l methods → (k : ℕ) (s : State Placed (List ℕ) MemberId Cells) → KnownState (names n memories) (known_by known) (IsAmong placed) (IsKnownCall known) s → IsFree (names n memories) (known_by known) (IsAmong placed) (IsKnownCall known) (run (by_place l methods) k s) → run (by_token n.loaded) k (state_as (names n memories) s) ≡ run (by_label l) k (state_as code_alone s) }
+    ensures { (n : Naming) (part : Part) (placed : List Placed) (memories : Memories) (l : Named) (methods : Methods) (known : KnownNames) → HoldsMethods n part placed → TablesAgree n placed memories l methods (known_by known) (IsKnownCall known) → MethodsAgree l methods → (k : ℕ) (s : State Placed (List ℕ) MemberId Cells) → KnownState (names n memories) (known_by known) (IsAmong placed) (IsKnownCall known) s → IsFree code_alone (known_by everything) (λ p. Unit {0}) (IsKnownCall everything) (run (by_label l) k (state_as code_alone s)) → run (by_token n.loaded) k (state_as (names n memories) s) ≡ run (by_label l) k (state_as code_alone s) }
 {}
