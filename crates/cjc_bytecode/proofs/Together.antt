@@ -443,7 +443,7 @@ module _ {P C F S M X Q D G T N Y : Type 0} (n : Names P C F S M X Q D G T N Y) 
   fetched_together (Some i) f outer s e (one_frame kc kfs) ks =
       subst (λ t. Together (Machine.fetched set (Some i) f outer s) t) (sym same)
       (by (effect_natural known n.class n.field n.slots n.cell n.statics set.classes set'.classes alike.classes KnownMethod n.method (n.to f.code) i.operation (set.room f.code) i.next f.locals s.memory f.stack ks.memory kd)
-          (effect_keeps known n.class n.field n.slots n.cell n.statics set.classes set'.classes alike.classes M KnownMethod i.operation (set.room f.code) i.next f.locals s.memory f.stack ks.memory kd))
+      (effect_keeps known n.class n.field n.slots n.cell n.statics set.classes set'.classes alike.classes M KnownMethod i.operation (set.room f.code) i.next f.locals s.memory f.stack ks.memory kd))
     where
       kd : KnownOperation known KnownMethod i.operation
       kd = alike.fetch_known f.code f.at i kc e

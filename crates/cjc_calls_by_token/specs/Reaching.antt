@@ -1,21 +1,25 @@
 -- What calls reach by name, of methods that know where they stand, and what they reach by token.
-use Rattle.std.specs.Prelude.{◌≡◌, ℕ, List, Option, Some, None, true, option_map, if◌then◌else◌}
+use Rattle.std.specs.Prelude.{◌≡◌, ℕ, List, Option, Some, None, Bool, true, option_map, if◌then◌else◌}
 use Rattle.cjc_bytes.specs.declared.fault.MemberId.{MemberId}
 use Rattle.cjc_script.specs.Sorts.{Shape, OfClass, shape_name}
 use Rattle.cjc_bytecode.specs.Machine.{Start, Reached, Nowhere, Within, Abroad}
 use Rattle.cjc_bytecode.specs.Alike.{IsFound, reached_as}
+use Rattle.cjc_bytecode.specs.Renaming.{option_as, shape_as}
 use Rattle.cjc_card.specs.Calls
+use Rattle.cjc_card.specs.Classes.{Foreign}
+use Rattle.cjc_card.specs.Dispatch.{Outward, above, interface_method, tower}
+use Rattle.cjc_card.specs.Operations as card
 use Rattle.cjc_card.specs.Methods.{start_of}
 use Rattle.cjc_world.specs.declared.found.Found.{Found}
 use Rattle.cjc_world.specs.Files.{Files}
 use Rattle.cjc_world.specs.Classes.{Class, all_classes, class_named}
 use Rattle.cjc_world.specs.Kin.{line}
-use Rattle.cjc_world.specs.Lookup.{receiver}
+use Rattle.cjc_world.specs.Lookup.{find_method, receiver}
 use Rattle.cjc_world.specs.Subtype.{is_subtype}
 use Rattle.cjc_by_name.specs.Linked.{Method, Inside}
 use Rattle.cjc_by_name.specs.Linked
-use Rattle.cjc_by_name.specs.OnePackage.{entry_named, first_imported, method_at, sent_named}
-use Rattle.cjc_ncode.specs.ByLabel.{Callee, OnObject}
+use Rattle.cjc_by_name.specs.OnePackage.{entry_named, first_imported, first_super, method_at, of_class, sent_named}
+use Rattle.cjc_ncode.specs.ByLabel.{Callee, Fixed, OnObject, OnSuper, OnInterface}
 use Rattle.cjc_narrow.specs.Package.{class_of_callee, on_class, selected_on}
 use Rattle.cjc_vtable.specs.Laws.{Under, selection}
 use Rattle.cjc_vtable.specs.Naming.{named}
@@ -70,3 +74,50 @@ abbrev pub VirtualCallsReach : Files → List Class → Naming → (place : Meth
 VirtualCallsReach files w n place x =
     (m : MemberId) (d : Class) (r : Reached Placed) → class_named w m.class ≡ Some d → SaysToken w n m → reached_at files w place (OnObject m) (Some (OfClass x)) ≡ r → IsFound r
     → Calls.reached n.loaded (callee n (OnObject m)) (Some (OfClass (n.class x))) ≡ reached_as (code_of n) (offset_of n) r
+
+-- ---- other calls
+
+-- Where a method is found from the class that code names, the card has it at its offset, or as an imported one.
+abbrev pub SaysFixed : List Class → Naming → (offset : Found → ℕ) → (on_object : Bool) → MemberId → Type 0
+SaysFixed w n offset on m =
+    (f : Found) → find_method w m.class m.name m.desc ≡ Some f → n.fixed on m ≡ (if f.imported then card.Outer on m else card.Fixed on n.part (offset f))
+
+-- A call of a static method, a constructor or a private method reaches by token the method that it reaches by name, or makes the same event.
+abbrev pub FixedCallsReach : Files → List Class → Naming → (place : Method → Placed) → (on_object : Bool) → MemberId → Type 0
+FixedCallsReach files w n place on m =
+    (o : Option (Shape (List ℕ))) (r : Reached Placed) → reached_at files w place (Fixed on m) o ≡ r → IsFound r
+    → Calls.reached n.loaded (callee n (Fixed on m)) (option_as (shape_as n.class) o) ≡ reached_as (code_of n) (offset_of n) r
+
+-- The class from whose superclass a call selects: its superclass, whose tables stand above its own, with the token that the method has there, and the imported
+-- class that events name.
+pub record SaysSuper (w : List Class) (n : Naming) (m : MemberId) (super z : List ℕ) : Type 0 where
+  pub known : (d : Class) × (class_named w super ≡ Some d)
+  pub first_one : first_super (class_named w m.class) ≡ Some super
+  pub tables : above (tower n.loaded (n.class m.class)) ≡ tower n.loaded (n.class super)
+  pub same_token : n.dispatch_token m ≡ n.dispatch_token (of_class super m)
+  pub token : SaysToken w n (of_class super m)
+  pub imported : first_imported (line w (receiver super)) ≡ z
+  pub itself : receiver super ≡ super
+  pub found : (f : Found) → selection w super (signature m) ≡ Some f → named w f ≡ Some (signature m)
+
+-- A call of a superclass's method reaches by token the method that it reaches by name, or makes the same event.
+abbrev pub SuperCallsReach : Files → List Class → Naming → (place : Method → Placed) → MemberId → Type 0
+SuperCallsReach files w n place m =
+    (o : Option (Shape (List ℕ))) (r : Reached Placed) → reached_at files w place (OnSuper m) o ≡ r → IsFound r
+    → Calls.reached n.loaded (callee n (OnSuper m)) (option_as (shape_as n.class) o) ≡ reached_as (code_of n) (offset_of n) r
+
+-- A call of an interface's method on an object of a class reaches by token the method that it reaches by name, or makes the same event.
+abbrev pub InterfaceCallReaches : Files → List Class → Naming → (place : Method → Placed) → (x : List ℕ) → MemberId → Type 0
+InterfaceCallReaches files w n place x m =
+    (words : ℕ) (r : Reached Placed) → reached_at files w place (OnInterface words m) (Some (OfClass x)) ≡ r → IsFound r
+    → Calls.reached n.loaded (callee n (OnInterface words m)) (Some (OfClass (n.class x))) ≡ reached_as (code_of n) (offset_of n) r
+
+-- an imported class whose objects are asked for the interface's method itself
+pub record SaysOutside (w : List Class) (n : Naming) (x : List ℕ) (m : MemberId) : Type 0 where
+  pub c : Class
+  pub known : class_named w (receiver x) ≡ Some c
+  pub imported : c.is_imported ≡ true
+  pub tree : ℕ
+  pub token : ℕ
+  pub on_card : n.class x ≡ Foreign tree token
+  pub event : interface_method n.loaded (n.class m.class) (n.interface_token m) ≡ Outward m

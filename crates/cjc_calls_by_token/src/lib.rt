@@ -3,10 +3,12 @@
 //! and does not know how a table or code was made.
 #![tactic(auto)]
 
-ghost use Rattle.std.specs.Prelude.{◌≡◌, ◌<◌, ◌≤◌, ℕ, List};
+ghost use Rattle.std.specs.Prelude.{◌≡◌, ◌<◌, ◌≤◌, ℕ, List, Bool, Some, false};
 ghost use Rattle.cjc_card.specs.Classes.{depth};
 ghost use Rattle.cjc_world.specs.declared.found.Found.{Found};
-ghost use Rattle.cjc_world.specs.Classes.{Class};
+ghost use Rattle.cjc_bytes.specs.AccessFlags.{is_abstract};
+ghost use Rattle.cjc_bytes.specs.declared.fault.MemberId.{MemberId};
+ghost use Rattle.cjc_world.specs.Classes.{Class, class_named};
 ghost use Rattle.cjc_world.specs.Kin.{IsAcyclic};
 ghost use Rattle.cjc_lower.specs.Naming.{Naming};
 ghost use Rattle.cjc_by_token.specs.Supers.{SaysKinds};
@@ -18,8 +20,8 @@ ghost use Rattle.cjc_by_name.specs.Linked.{Method};
 ghost use Rattle.cjc_narrow.specs.Package.{named};
 ghost use Rattle.cjc_lower.specs.Agreement.{MethodsAgree};
 ghost use Rattle.cjc_lower.specs.Placed.{Placed};
-ghost use Rattle.cjc_calls_by_token.specs.Reaching.{BeginsAtOffsets, SaysReceiver, VirtualCallsReach, placed_methods};
-ghost use Rattle.cjc_calls_by_token.specs.Selecting.{SelectionsAgree};
+ghost use Rattle.cjc_calls_by_token.specs.Reaching.{BeginsAtOffsets, SaysReceiver, VirtualCallsReach, placed_methods, SaysFixed, FixedCallsReach, SaysSuper, SuperCallsReach, InterfaceCallReaches, SaysOutside};
+ghost use Rattle.cjc_calls_by_token.specs.Selecting.{SaysInterface, SelectionsAgree};
 
 use cjc_vtable::dispatch_laws;
 use cjc_world::lookup_laws;
@@ -51,4 +53,23 @@ pub fn methods_are_placed()
 /// same event, where each method of the package begins at its offset.
 pub fn virtual_calls_reach()
     ensures { (files : Files) (w : List Class) (n : Naming) (offset : Found → ℕ) (place : Method → Placed) → BeginsAtOffsets files n offset place → (x z : List ℕ) → SaysReceiver w x z → SelectionsAgree w n offset x z → VirtualCallsReach files w n place x }
+{}
+
+/// A call of a static method, a constructor or a private method reaches by token the method that it reaches by name, or makes
+/// the same event, where the card has at its offset, or as an imported one, what is found from the class that code names.
+pub fn fixed_calls_reach()
+    ensures { (files : Files) (w : List Class) (n : Naming) (offset : Found → ℕ) (place : Method → Placed) → BeginsAtOffsets files n offset place → (on : Bool) (m : MemberId) → SaysFixed w n offset on m → FixedCallsReach files w n place on m }
+{}
+
+/// The same of a call of a superclass's method, which is selected from the superclass of the class that holds the code.
+pub fn super_calls_reach()
+    ensures { (files : Files) (w : List Class) (n : Naming) (offset : Found → ℕ) (place : Method → Placed) → BeginsAtOffsets files n offset place → (m : MemberId) (super z : List ℕ) → SaysSuper w n m super z → SelectionsAgree w n offset super z → SuperCallsReach files w n place m }
+{}
+
+/// The same of a call of an interface's method: on an object of a class of the package that is not abstract, and on one of an
+/// imported class, where it is the event of the interface.
+pub fn interface_calls_reach()
+    ensures inside { (files : Files) (w : List Class) (n : Naming) (offset : Found → ℕ) (place : Method → Placed) → BeginsAtOffsets files n offset place → (x z : List ℕ) → SaysReceiver w x z → SelectionsAgree w n offset x z
+        → (m : MemberId) (c : Class) → class_named w x ≡ Some c → c.is_imported ≡ false → is_abstract c.flags ≡ false → SaysInterface w n m c → InterfaceCallReaches files w n place x m }
+    ensures outside { (files : Files) (w : List Class) (n : Naming) (place : Method → Placed) (x : List ℕ) (m : MemberId) → SaysOutside w n x m → InterfaceCallReaches files w n place x m }
 {}
