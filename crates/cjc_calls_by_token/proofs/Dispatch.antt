@@ -27,6 +27,7 @@ use Rattle.cjc_by_token.proofs.Slots.{class_tells, class_same}
 use Rattle.cjc_by_token.proofs.Members.{bytes_tell, bytes_same}
 use Rattle.cjc_calls_by_token.specs.Dispatching.{table_entry, event, selection_of, SaysTables, SaysFile, SaysTower, of_file, DispatchAgrees}
 use Rattle.cjc_calls_by_token.specs.Dispatching as says
+use Rattle.cjc_calls_by_token.proofs.Towers.{tower_on_card, card_package, card_file}
 
 -- ---- entries
 
@@ -73,16 +74,7 @@ module _ (w : List Class) (is_kin : (xs : List (List ℕ)) → IsKin w xs (kin w
       ∙ ap (λ t. if t then tables.Exported (c ∷ upwards (kin w c.supers)) else tables.Info (table_of w c) (tower_in w (kin w c.supers))) imported
 
   abbrev on_card : (depth : ℕ) → List ℕ → Tower
-  on_card d x = tower_from n.loaded (suc d) (Some (n.class x))
-
-  card_package : (d : ℕ) (x super : List ℕ) (c : Class) (s : SaysTables w n offset x c super) → on_card (suc d) x ≡ Table n.part s.entry (on_card d super)
-  card_package d x super c s =
-      ap (λ q. tower_from n.loaded (suc (suc d)) (Some q)) s.on_card
-      ∙ (ap (λ o. table_or_missing n.part o (λ (e : ClassEntry). tower_from n.loaded (suc d) (class_of n.loaded n.part e.superclass))) s.there
-      ∙ ap (λ o. Table n.part s.entry (tower_from n.loaded (suc d) o)) s.superclass)
-
-  card_file : (d : ℕ) (x : List ℕ) (c : Class) (s : SaysFile w n x c) → on_card d x ≡ Exported (exported_line n.loaded (Some s.entry))
-  card_file d x c s = ap (λ q. tower_from n.loaded (suc d) (Some q)) s.on_card ∙ ap (λ o. Exported (exported_line n.loaded o)) s.there
+  on_card d x = tower_on_card n d x
 
   -- ---- tables
 
@@ -122,14 +114,14 @@ module _ (w : List Class) (is_kin : (xs : List (List ℕ)) → IsKin w xs (kin w
   open_same : {h : ℕ} {x z : List ℕ} → SaysTower w n offset h x z → (d : ℕ) → h ≤ d → (t : ℕ) (f : Found) (s : Signature) → tables.dispatched (tower_of w x) t ≡ Some f → named w f ≡ Some s → dispatched_open (on_card d x) t ≡ selection_of n offset z s f
   open_same (says.of_file {x = x} c known imported file) d le t f s e is =
       let found : first (own_by_token t) (c ∷ upwards (kin w c.supers)) ≡ Some f = sym (ap (λ q. tables.dispatched q t) (tower_file x c known imported)) ∙ e in
-      ap (λ q. dispatched_open q t) (card_file d x c file)
+      ap (λ q. dispatched_open q t) (card_file w n offset d x c file)
       ∙ (file.methods t f s found is ∙ sym (ap (λ b. if b then Outward (event x s) else At n.part (offset f)) (file.imported t f found)))
   open_same (says.of_package c super known imported supers class more) zero le t f s e is = absurd (omega arith)
   open_same (says.of_package {x = x} {z = z} c super known imported supers class more) (suc d) le t f s e is =
       let table = table_of w c in
       let found : tables.at_table table.public_base table.public t (tables.dispatched (tower_of w super) t) ≡ Some f = sym (ap (λ q. tables.dispatched q t) (tower_package x super c known imported supers)) ∙ e in
       let up = dispatched_open (on_card d super) t in
-      ap (λ q. dispatched_open q t) (card_package d x super c class)
+      ap (λ q. dispatched_open q t) (card_package w n offset d x super c class)
       ∙ (ap (λ b. at_table n.part b class.entry.public_methods t up) class.public_base
       ∙ (ap (λ ms. at_table n.part table.public_base ms t up) class.public_methods
       ∙ table_same table.public_base table.public t (tables.dispatched (tower_of w super) t) up f (selection_of n offset z s f)
@@ -144,7 +136,7 @@ module _ (w : List Class) (is_kin : (xs : List (List ℕ)) → IsKin w xs (kin w
       let table = table_of w c in
       let found = sym (ap (λ q. tables.dispatched_hidden q t) (tower_package x super c known imported supers)) ∙ e in
       let up = dispatched_hidden (on_card d super) n.part t in
-      ap (λ q. dispatched_hidden q n.part t) (card_package d x super c class)
+      ap (λ q. dispatched_hidden q n.part t) (card_package w n offset d x super c class)
       ∙ (ap (λ b. if b then at_table n.part class.entry.package_base class.entry.package_methods t up else up) (same_part n.part)
       ∙ (ap (λ b. at_table n.part b class.entry.package_methods t up) class.package_base
       ∙ (ap (λ ms. at_table n.part table.package_base ms t up) class.package_methods
@@ -197,11 +189,11 @@ module _ (w : List Class) (is_kin : (xs : List (List ℕ)) → IsKin w xs (kin w
 
   map_same : {h : ℕ} {x z : List ℕ} → SaysTower w n offset h x z → (d : ℕ) → h ≤ d → (i : List ℕ) → has_class w i ≡ true → map_of n.loaded (on_card d x) (n.class i) ≡ index (tables.map_of (tower_of w x) i)
   map_same (says.of_file {x = x} c known imported file) d le i is =
-      ap (λ q. map_of n.loaded q (n.class i)) (card_file d x c file) ∙ sym (ap (λ q. index (tables.map_of q i)) (tower_file x c known imported))
+      ap (λ q. map_of n.loaded q (n.class i)) (card_file w n offset d x c file) ∙ sym (ap (λ q. index (tables.map_of q i)) (tower_file x c known imported))
   map_same (says.of_package c super known imported supers class more) zero le i is = absurd (omega arith)
   map_same (says.of_package {x = x} c super known imported supers class more) (suc d) le i is =
       let table = table_of w c in
-      ap (λ q. map_of n.loaded q (n.class i)) (card_package d x super c class)
+      ap (λ q. map_of n.loaded q (n.class i)) (card_package w n offset d x super c class)
       ∙ (ap (λ ms. map_in n.loaded n.part ms (n.class i) (map_of n.loaded (on_card d super) (n.class i))) class.maps
       ∙ (map_in_same i is table.maps class.mapped (tables.map_of (tower_of w super) i) (map_of n.loaded (on_card d super) (n.class i)) (map_same more d (omega arith) i is)
       ∙ sym (ap (λ q. index (tables.map_of q i)) (tower_package x super c known imported supers))))

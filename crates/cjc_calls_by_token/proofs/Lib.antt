@@ -1,3 +1,4 @@
 mod Dispatch
 mod Selections
 mod Reaching
+mod Towers

@@ -5,6 +5,7 @@
 
 ghost use Rattle.std.specs.Prelude.{◌≡◌, ◌<◌, ◌≤◌, ℕ, List, Bool, Some, false};
 ghost use Rattle.cjc_card.specs.Classes.{depth};
+ghost use Rattle.cjc_card.specs.Dispatch.{above, tower};
 ghost use Rattle.cjc_world.specs.declared.found.Found.{Found};
 ghost use Rattle.cjc_bytes.specs.AccessFlags.{is_abstract};
 ghost use Rattle.cjc_bytes.specs.declared.fault.MemberId.{MemberId};
@@ -13,7 +14,7 @@ ghost use Rattle.cjc_world.specs.Kin.{IsAcyclic};
 ghost use Rattle.cjc_lower.specs.Naming.{Naming};
 ghost use Rattle.cjc_by_token.specs.Supers.{SaysKinds};
 ghost use Rattle.cjc_vtable.specs.Laws.{KeepsInterfaces, KeepsRules};
-ghost use Rattle.cjc_calls_by_token.specs.Dispatching.{DispatchAgrees, SaysTower};
+ghost use Rattle.cjc_calls_by_token.specs.Dispatching.{DispatchAgrees, SaysTables, SaysTower};
 ghost use Rattle.cjc_world.specs.declared.image.StaticImage.{StaticImage};
 ghost use Rattle.cjc_world.specs.Files.{Files};
 ghost use Rattle.cjc_by_name.specs.Linked.{Method};
@@ -72,4 +73,10 @@ pub fn interface_calls_reach()
     ensures inside { (files : Files) (w : List Class) (n : Naming) (offset : Found → ℕ) (place : Method → Placed) → BeginsAtOffsets files n offset place → (x z : List ℕ) → SaysReceiver w x z → SelectionsAgree w n offset x z
         → (m : MemberId) (c : Class) → class_named w x ≡ Some c → c.is_imported ≡ false → is_abstract c.flags ≡ false → SaysInterface w n m c → InterfaceCallReaches files w n place x m }
     ensures outside { (files : Files) (w : List Class) (n : Naming) (place : Method → Placed) (x : List ℕ) (m : MemberId) → SaysOutside w n x m → InterfaceCallReaches files w n place x m }
+{}
+
+/// What stands above the tables of a class of the package are the tables of its superclass: a call of a superclass's method
+/// is dispatched from there.
+pub fn superclass_stands_above()
+    ensures { (w : List Class) (n : Naming) (offset : Found → ℕ) (height : ℕ) (x super z : List ℕ) (c : Class) → SaysTables w n offset x c super → SaysTower w n offset height super z → height < depth n.loaded → above (tower n.loaded (n.class x)) ≡ tower n.loaded (n.class super) }
 {}
