@@ -1,8 +1,7 @@
 -- How a walk over the frames of a method goes on.
 use Rattle.std.proofs.Common.{◌≡◌, ◌<◌, ◌+◌, ℕ, zero, suc, List, [], ◌∷◌, Option, Some, None, option_map, slice_get, get_or, length, refl, sym, ◌∙◌, ap, subst, arith}
 use Rattle.std.proofs.lemmas.Option.{slice_get_within}
-use Rattle.cjc_fixpoint.specs.Kept.{handed_on, mark_of, kept_or, row_of, StandsForLeast}
-use Rattle.cjc_fixpoint.specs.Working.HandedLaws.{OwnMaybe}
+use Rattle.cjc_fixpoint.specs.Kept.{handed_on, mark_of, kept_or, row_of}
 use Rattle.cjc_fixpoint.proofs.Runs.{full_at}
 use Rattle.cjc_fixpoint.proofs.Walking as walking
 use Rattle.cjc_world.specs.Classes.{Class}
@@ -33,14 +32,10 @@ module _ (b : Body) (types : TypeTable) where
   pub inside : (at : ℕ) → at < length (rows_of b types) → at < length b.insns
   inside at lt = walking.inside (type_flow b) (length b.insns) types.marks (states_of types.frames) at lt
 
-  pub over : (at n : ℕ) (rest : Option Frame) → AreFrames (rows_of b types) → StandsForLeast (type_flow b) (length b.insns) types.marks (states_of types.frames) → at ≡ length b.insns → n ≡ length types.marks → IsTypeWalk b types at n rest
-  over at n rest framed stands ends is =
-      subst (λ (i : ℕ). IsTypeWalk b types i n rest) (sym ends)
-      (record { framed = framed; walk = walking.over (type_flow b) (length b.insns) types.marks (states_of types.frames) stands n (option_map state_of rest) is })
-
   pub begun : (w : List Class) → IsTypeTable w b types → IsTypeWalk b types 0 0 None
   begun w is = record {
     framed = are_frames w b types is;
+    marks = is.marks;
     walk = record {
       stands = is.stands;
       within = omega arith;
@@ -51,6 +46,12 @@ module _ (b : Body) (types : TypeTable) where
   }
 
   module _ (at mark : ℕ) (handed : Option Frame) (h : IsTypeWalk b types at mark handed) where
+    -- a walk that is over
+    pub over : (end n : ℕ) (rest : Option Frame) → end ≡ length b.insns → n ≡ length types.marks → IsTypeWalk b types end n rest
+    over end n rest ends is =
+        subst (λ (i : ℕ). IsTypeWalk b types i n rest) (sym ends)
+        (record { framed = h.framed; marks = h.marks; walk = walking.over (type_flow b) (length b.insns) types.marks (states_of types.frames) h.walk.stands n (option_map state_of rest) is })
+
     -- a frame that is read at a mark
     pub read_frame : (items : List (Option Frame)) (frame : Option Frame) → items ≡ types.frames → slice_get types.marks mark ≡ Some at → frame ≡ get_or items mark frame → frame ≡ get_or types.frames mark None
     read_frame items frame is there read =
@@ -64,10 +65,6 @@ module _ (b : Body) (types : TypeTable) where
 
     pub handed_row : (slice_get types.marks mark ≡ Some at → ⊥) → at < length b.insns → option_map state_of handed ≡ row_of (type_flow b) types.marks (states_of types.frames) at
     handed_row not lt = sym (walking.handed_row (type_flow b) (length b.insns) types.marks (states_of types.frames) at mark (option_map state_of handed) h.walk not lt)
-
-    -- it is a state of the flow
-    pub own : (frame : Option Frame) → at < length b.insns → option_map state_of frame ≡ row_of (type_flow b) types.marks (states_of types.frames) at → OwnMaybe (type_flow b) (option_map state_of frame)
-    own frame lt is = walking.row_own (type_flow b) (length b.insns) types.marks (states_of types.frames) h.walk.stands at lt (option_map state_of frame) (sym is)
 
     -- it is the row of the place
     pub given : (frame : Option Frame) → at < length b.insns → option_map state_of frame ≡ row_of (type_flow b) types.marks (states_of types.frames) at → slice_get (rows_of b types) at ≡ Some (option_map state_of frame)
@@ -94,6 +91,7 @@ module _ (b : Body) (types : TypeTable) where
         → IsTypeWalk b types (at + 1) (mark + 1) next
     after_mark frame next lt there is is_next = record {
       framed = h.framed;
+      marks = h.marks;
       walk = walking.after_mark (type_flow b) (length b.insns) types.marks (states_of types.frames) at mark (option_map state_of handed) h.walk (option_map state_of frame) (option_map state_of next) lt there
           (ap (option_map state_of) is ∙ states_at types.frames mark) (next_state frame next (kept_row frame there is) is_next);
     }
@@ -103,6 +101,7 @@ module _ (b : Body) (types : TypeTable) where
         → IsTypeWalk b types (at + 1) mark next
     after_unmarked next lt not is_next = record {
       framed = h.framed;
+      marks = h.marks;
       walk = walking.after_unmarked (type_flow b) (length b.insns) types.marks (states_of types.frames) at mark (option_map state_of handed) h.walk (option_map state_of next) lt not
           (next_state handed next (handed_row not lt) is_next);
     }

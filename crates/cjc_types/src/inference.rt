@@ -20,6 +20,7 @@ ghost use Rattle.cjc_types.specs.declared.table.TypeTable.{TypeTable as Types};
 
 use crate::marks::marks_of;
 use crate::method::Method;
+use crate::repeats::{MarkedMethod, bounds};
 use crate::rules;
 use crate::state::State;
 use crate::table::{Frame, TypeTable, frame_in};
@@ -77,15 +78,16 @@ fn row_rule(
 fn first_broken(
     alloc: Global,
     world: &World<'_>,
-    method: &Method<'_>,
+    marked: &MarkedMethod<'_>,
     table: &Table<State>,
 ) -> Result<Option<FirstBroken>, NoMemory>
-    requires { StandsForLeast (type_flow method.now) (length method.now.insns) table.now.marks table.now.rows }
-    ensures first { IfOk result (λ first. first ≡ first_from (all_classes world.now) method.now 0 method.now.insns (full (type_flow method.now) (length method.now.insns) table.now.marks table.now.rows)) }
-    ensures within { IfOk result (λ first. IfSome first (λ f. f.place < length method.now.insns)) }
+    requires { StandsForLeast (type_flow marked.now.method.now) (length marked.now.method.now.insns) table.now.marks table.now.rows }
+    ensures first { IfOk result (λ first. first ≡ first_from (all_classes world.now) marked.now.method.now 0 marked.now.method.now.insns (full (type_flow marked.now.method.now) (length marked.now.method.now.insns) table.now.marks table.now.rows)) }
+    ensures within { IfOk result (λ first. IfSome first (λ f. f.place < length marked.now.method.now.insns)) }
 {
+    let method = marked.method;
     let insns = method.insns;
-    let mut walk = Walk::new(method, table, method.places());
+    let mut walk = Walk::new(marked, table, method.places());
     for place in 0..insns.len() {
         let broken = row_rule(world, method, &insns[place], walk.row());
         match broken {
@@ -131,26 +133,26 @@ fn refused(
 }
 
 /// The least table of a method, with rows at its marks.
-fn least_table(alloc: Global, method: &Method<'_>) -> Result<Table<State>, NoMemory>
-    ensures marks { IfOk result (λ table. table.marks ≡ marks_by method.now) }
-    ensures stands { IfOk result (λ table. StandsForLeast (type_flow method.now) (length method.now.insns) table.marks table.rows) }
+fn least_table(alloc: Global, marked: &MarkedMethod<'_>) -> Result<Table<State>, NoMemory>
+    ensures marks { IfOk result (λ table. table.marks ≡ marks_by marked.now.method.now) }
+    ensures stands { IfOk result (λ table. StandsForLeast (type_flow marked.now.method.now) (length marked.now.method.now.insns) table.marks table.rows) }
 {
-    let marks = marks_of(alloc, method)?;
-    solve(alloc, method, method.places(), &marks)
+    solve(alloc, marked, marked.method.places(), marked.marks)
 }
 
 /// What the least table of a method gives: the types, or the first rule that it breaks.
 fn judged(
     alloc: Global,
     world: &World<'_>,
-    method: &Method<'_>,
+    marked: &MarkedMethod<'_>,
     table: Table<State>,
 ) -> Result<TypeTable, InferError>
-    requires marks { table.marks ≡ marks_by method.now }
-    requires stands { StandsForLeast (type_flow method.now) (length method.now.insns) table.marks table.rows }
-    ensures { Answers (all_classes world.now) method.now result }
+    requires marks { table.marks ≡ marks_by marked.now.method.now }
+    requires stands { StandsForLeast (type_flow marked.now.method.now) (length marked.now.method.now.insns) table.marks table.rows }
+    ensures { Answers (all_classes world.now) marked.now.method.now result }
 {
-    let first = first_broken(alloc, world, method, &table)?;
+    let method = marked.method;
+    let first = first_broken(alloc, world, marked, &table)?;
     match first {
         Some(first) => {
             let offset = method.insns[first.place].at;
@@ -163,6 +165,21 @@ fn judged(
             Ok(TypeTable { marks, frames })
         }
     }
+}
+
+/// The types of a method, or the first rule that it breaks.
+fn types_of(alloc: Global, world: &World<'_>, method: &Method<'_>) -> Result<TypeTable, InferError>
+    ensures { Answers (all_classes world.now) method.now result }
+{
+    let marks = marks_of(alloc, method)?;
+    let bounds = bounds(alloc, method.insns, method.catches)?;
+    let marked = MarkedMethod {
+        method,
+        marks: &marks,
+        bounds: bounds.items(),
+    };
+    let table = least_table(alloc, &marked)?;
+    judged(alloc, world, &marked, table)
 }
 
 /// The types of a method: the least table that is closed under its instructions.
@@ -194,8 +211,7 @@ pub fn infer_method(
         → (b : Wrong) → IsBrokenBy (all_classes world.now) (body_of c m t code.now.insns) b → IsAnswer (Err (errors.Broken b)) result }
 {
     let method = Method::new(world, code);
-    let table = least_table(alloc, &method)?;
-    judged(alloc, world, &method, table)
+    types_of(alloc, world, &method)
 }
 
 /// An answer with a broken rule as the refusal of a method.

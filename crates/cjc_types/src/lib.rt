@@ -12,6 +12,7 @@ mod marks;
 mod method;
 mod names;
 mod operands;
+mod repeats;
 mod rules;
 mod state;
 mod steps;

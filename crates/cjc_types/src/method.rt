@@ -1,11 +1,10 @@
 //! A method as a dataflow problem, whose places are its instructions.
 
 ghost use Rattle.std.specs.Prelude.{◌≡◌, ◌<◌, ◌≤◌, ◌+◌, ◌^◌, [], ◌∷◌, ◌++◌, map, filter_map, length, slice_get, option_to_list, IfOk, OnOk};
-ghost use Rattle.std.specs.List.{list_any};
 ghost use Rattle.cjc_types.specs.Flow.{Body, body_of, arguments as arguments_of, entry as entry_of, place_at as place_by, next_place as next_by, successors as successors_of, edge, covers as covers_offset, caught_type as type_caught, caught as caught_by, handler_edge as handler_edge_of, insn_edges as insn_edges_of, place_edges as edges_of_place};
 ghost use Rattle.cjc_types.specs.Index.{AreInOrder};
 ghost use Rattle.cjc_types.specs.Tables.{IsMethodOf, IsOfPackage};
-ghost use Rattle.cjc_types.specs.Working.Onward.{begins_at, gone_on, may_lead as may_lead_by};
+ghost use Rattle.cjc_types.specs.Working.Onward.{gone_on};
 ghost use Rattle.cjc_types.specs.Types.{parts, value_of};
 ghost use Rattle.cjc_classfile.specs.Code.{CodeTree};
 ghost use Rattle.cjc_classfile.specs.declared.tree.ClassTree.{ClassTree as Class};
@@ -18,7 +17,7 @@ use crate::{index, names, steps, types};
 use cjc_bytes::{Bytes, NoMemory, Row, is_static};
 use cjc_classfile::{Catch, ClassTree, Code, MethodTree};
 use cjc_code::{JInsn, JOp, MethodCode};
-use cjc_fixpoint::{Edge, Flow, Repeating, moved_on};
+use cjc_fixpoint::{Edge, Flow};
 use cjc_world::World;
 use std::alloc::Global;
 use std::marker::Model;
@@ -63,18 +62,6 @@ fn covers(catch: &Catch, offset: u32) -> bool
     ensures { result ≡ covers_offset catch.now offset }
 {
     u32::from(catch.start) <= offset && offset < u32::from(catch.end)
-}
-
-/// Whether a handler begins at an offset.
-fn begins(catches: &[Catch], offset: u32) -> bool
-    ensures { result ≡ list_any (begins_at offset) catches.now }
-{
-    for catch in catches {
-        if u32::from(catch.target) == offset {
-            return true;
-        }
-    }
-    false
 }
 
 /// The state in which a handler is entered.
@@ -310,17 +297,6 @@ impl<'a> Method<'a> {
         }
     }
 
-    /// Whether a jump of an instruction or some handler may lead to the place behind.
-    fn may_lead(&self, at: u32) -> bool
-        ensures { result ≡ may_lead_by self.now.catches (slice_get self.now.insns at) (slice_get self.now.insns (at + 1)) }
-    {
-        let here = at as usize;
-        match (self.insns.get(here), self.insns.get(here + 1)) {
-            (Some(insn), Some(next)) => steps::jumps(&insn.op) || begins(self.catches, next.at),
-            _ => false,
-        }
-    }
-
     /// What an instruction hands to the next, where no jump and no handler leads there.
     pub(crate) fn go_on(
         &self,
@@ -400,26 +376,5 @@ impl Flow for Method<'_> {
     #[tactic(auto, unfolding(crate::specs::States::most_cells, crate::specs::Cells::most_names))]
     fn height(&self) -> u64 {
         393_216 * (1 << 32) + 1 + u64::from(self.max_locals) * (1 << 32)
-    }
-}
-
-impl Repeating for Method<'_> {
-    ghost use Rattle.std.specs.Prelude.{false};
-    ghost use Rattle.cjc_types.specs.Flow.{type_flow};
-    ghost use Rattle.cjc_fixpoint.specs.Working.ShortenedLaws.{never};
-
-    ghost again = { λ _ _. false };
-
-    ghost repeated = { λ method. never (type_flow method) };
-
-    fn repeats(&self, _at: u32) -> bool {
-        false
-    }
-
-    fn pass(&self, alloc: Global, at: u32, before: State) -> Result<Option<State>, NoMemory> {
-        if self.may_lead(at) {
-            return moved_on(alloc, self, at, Some(before));
-        }
-        self.go_on(alloc, at, before)
     }
 }

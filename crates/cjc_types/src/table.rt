@@ -61,23 +61,13 @@ pub(crate) fn frame_in(alloc: Global, row: Option<State>) -> Option<Frame>
 }
 
 /// The state of a frame.
-fn state_of(frame: Frame) -> State
+pub(crate) fn state_of(frame: Frame) -> State
     ensures { result ≡ state_of_frame frame }
 {
     let Frame { stack, locals } = frame;
     State {
         stack: Stack::Cells(stack),
         locals,
-    }
-}
-
-/// The row of a frame.
-pub(crate) fn state_in(frame: Option<Frame>) -> Option<State>
-    ensures { result ≡ option_map state_of_frame frame }
-{
-    match frame {
-        Some(frame) => Some(state_of(frame)),
-        None => None,
     }
 }
 

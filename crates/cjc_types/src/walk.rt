@@ -1,17 +1,18 @@
 //! Going through the frames of a method. A type table has those at marked instructions; a walk gives those of all.
 
 ghost use Rattle.std.specs.Prelude.{◌≡◌, List, ◌+◌, ◌<◌, None, Some, MatchOption, length, slice_get, option_map, OnErr, OnOk, IfOk};
-ghost use Rattle.cjc_fixpoint.specs.Working.HandedLaws.{OwnMaybe};
-ghost use Rattle.cjc_fixpoint.specs.Kept.{IsAscending, handed_on, mark_of};
+ghost use Rattle.cjc_fixpoint.specs.Kept.{handed_on, mark_of};
 ghost use Rattle.cjc_world.specs.Classes.{Class};
 ghost use Rattle.cjc_types.specs.Flow.{type_flow};
 ghost use Rattle.cjc_types.specs.Search.{frame_of as frame_of_state};
-ghost use Rattle.cjc_types.specs.Tables.{IsTypeTable, state_of, rows_of};
+ghost use Rattle.cjc_types.specs.Marks.{marks_of};
+ghost use Rattle.cjc_types.specs.Tables.{IsTypeTable, state_of as state_of_frame, rows_of};
+ghost use Rattle.cjc_types.specs.Walks.{IsNextFrame};
 
 use crate::method::Method;
-use crate::table::{Frame, TypeTable, copied_frame, frame_in, state_in};
+use crate::table::{Frame, TypeTable, copied_frame, frame_in, state_of};
 use cjc_bytes::NoMemory;
-use cjc_fixpoint::{is_at, passed_on};
+use cjc_fixpoint::is_at;
 use std::alloc::Global;
 use std::marker::Model;
 use std::mem;
@@ -25,15 +26,26 @@ fn handed_frame(
     at: u32,
     frame: Option<Frame>,
 ) -> Result<Option<Frame>, NoMemory>
-    requires ascending { IsAscending marks.now }
+    requires marks { marks.now ≡ marks_of method.now }
     requires at { at < length method.now.insns }
-    requires own { OwnMaybe (type_flow method.now) (option_map state_of frame) }
     ensures { IfOk result (λ next. at + 1 < length method.now.insns → mark_of marks.now (at + 1) ≡ None
-        → next ≡ option_map frame_of_state (handed_on (type_flow method.now) at (option_map state_of frame))) }
+        → next ≡ option_map frame_of_state (handed_on (type_flow method.now) at (option_map state_of_frame frame))) }
 {
     let places = method.places();
-    let next = passed_on(alloc, method, marks, mark, at, places, state_in(frame))?;
-    Ok(frame_in(alloc, next))
+    let next = at + 1;
+    if next == places {
+        return Ok(None);
+    }
+    if is_at(marks, mark, next) {
+        return Ok(None);
+    }
+    match frame {
+        None => Ok(None),
+        Some(frame) => {
+            let handed = method.go_on(alloc, at, state_of(frame))?;
+            Ok(frame_in(alloc, handed))
+        }
+    }
 }
 
 /// The same of a frame that is kept.
@@ -45,11 +57,10 @@ fn handed_copy(
     at: u32,
     frame: &Option<Frame>,
 ) -> Result<Option<Frame>, NoMemory>
-    requires ascending { IsAscending marks.now }
+    requires marks { marks.now ≡ marks_of method.now }
     requires at { at < length method.now.insns }
-    requires own { OwnMaybe (type_flow method.now) (option_map state_of frame.now) }
     ensures { IfOk result (λ next. at + 1 < length method.now.insns → mark_of marks.now (at + 1) ≡ None
-        → next ≡ option_map frame_of_state (handed_on (type_flow method.now) at (option_map state_of frame.now))) }
+        → next ≡ option_map frame_of_state (handed_on (type_flow method.now) at (option_map state_of_frame frame.now))) }
 {
     let places = method.places();
     let next = at + 1;
@@ -105,6 +116,32 @@ impl<'a> TypeWalk<'a> {
         }
     }
 
+    /// The next place with the frame before its instruction; none where no way leads there. After `NoMemory` the walk is as
+    /// before.
+    pub fn next(&mut self, alloc: Global) -> Result<Option<(u32, Option<Frame>)>, NoMemory>
+        ensures given { IfOk result (IsNextFrame self.old self.new) }
+        ensures kept { OnErr result (self.new ≡ self.old) }
+    {
+        let at = self.at;
+        if at == self.method.places() {
+            return Ok(None);
+        }
+        let marks = self.types.marks.items();
+        if is_at(marks, self.mark, at) {
+            let frame = copied_frame(alloc, &self.types.frames.items()[self.mark])?;
+            let handed = handed_copy(alloc, self.method, marks, self.mark + 1, at, &frame)?;
+            self.at = at + 1;
+            self.mark += 1;
+            self.handed = handed;
+            Ok(Some((at, frame)))
+        } else {
+            let handed = handed_copy(alloc, self.method, marks, self.mark, at, &self.handed)?;
+            let frame = mem::replace(&mut self.handed, handed);
+            self.at = at + 1;
+            Ok(Some((at, frame)))
+        }
+    }
+
     /// The place that is next; none behind the last one.
     pub fn place(&self) -> Option<u32>
         ensures { MatchOption result (self.now.at ≡ length self.now.rows) (λ place. (place ≡ self.now.at) × (place < length self.now.rows)) }
@@ -118,7 +155,7 @@ impl<'a> TypeWalk<'a> {
     /// The frame before the instruction that is next; none where no way leads there.
     pub fn frame(&self) -> &Option<Frame>
         requires { self.now.at < length self.now.rows }
-        ensures { slice_get self.now.rows self.now.at ≡ Some (option_map state_of result.now) }
+        ensures { slice_get self.now.rows self.now.at ≡ Some (option_map state_of_frame result.now) }
     {
         if is_at(self.types.marks.items(), self.mark, self.at) {
             return &self.types.frames.items()[self.mark];

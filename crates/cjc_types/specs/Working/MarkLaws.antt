@@ -8,7 +8,6 @@ use Rattle.std.proofs.lemmas.List.Quantifiers.{position-Some}
 use Rattle.std.proofs.lemmas.Option.{slice_get_within, slice_get-get_or, get_or_from_slice_get}
 use Rattle.cjc_classfile.specs.declared.tree.Catch.{Catch}
 use Rattle.cjc_code.specs.declared.insn.JInsn.{JInsn}
-use Rattle.cjc_code.specs.declared.insn.JOp.{JOp}
 use Rattle.cjc_code.specs.declared.insn.JOp.TheVariants as jop
 use Rattle.cjc_fixpoint.specs.declared.flow.Edge.{Edge}
 use Rattle.cjc_fixpoint.specs.Dataflow.{Dataflow}
@@ -24,8 +23,7 @@ use Rattle.cjc_types.specs.Steps.{after, goes_on, targets}
 use Rattle.cjc_types.specs.Flow.{Body, place_at, next_place, successors, edge, covers, caught, handler_edge, insn_edges, place_edges, type_flow}
 use Rattle.cjc_types.specs.Marks.{is_place, leads_to, is_jumped_to, is_handler, is_marked, marks_of}
 use Rattle.cjc_types.specs.Working.Marking.{with_mark, with_offsets, with_jumps, with_handlers, with_all}
-use Rattle.cjc_types.specs.Repeats.{jumps}
-use Rattle.cjc_types.specs.Working.Onward.{gone_on_by, gone_on, begins_at, may_lead}
+use Rattle.cjc_types.specs.Working.Onward.{gone_on_by, gone_on}
 
 or_assoc : (a b c : Bool) → ((a || b) || c) ≡ (a || (b || c))
 or_assoc true b c = refl
@@ -267,20 +265,6 @@ not_marked b to none h =
     let has = mark_in b to h in
     no_mark (marks_of b) (marks_are b).ascending has.0 to none (slice_get-get_or (marks_of b) has.0 to has.1 ∙ ap Some has.2)
 
-straight : (catches : List Catch) (op : JOp) (next : JInsn) → (jumps op || list_any (begins_at next.at) catches) ≡ false → targets op ≡ []
-straight catches (jop.If opcode target) next h = absurd cc
-straight catches (jop.Goto target) next h = absurd cc
-straight catches (jop.TableSwitch other low more) next h = absurd cc
-straight catches (jop.LookupSwitch other cases) next h = absurd cc
-straight catches _ next h = refl
-
-no_begin : (catches : List Catch) (op : JOp) (next : JInsn) → (jumps op || list_any (begins_at next.at) catches) ≡ false → list_any (begins_at next.at) catches ≡ false
-no_begin catches op next h = go (jumps op) h
-  where
-    go : (b : Bool) → (b || list_any (begins_at next.at) catches) ≡ false → list_any (begins_at next.at) catches ≡ false
-    go true e = absurd cc
-    go false e = e
-
 abbrev nothing : Option State
 nothing = None
 
@@ -332,49 +316,3 @@ passed b at x none = leads_on b at x (record {
   jumps = λ insn is to has same. not_marked b (suc at) none (subst (IsMark b) same (jump_marked b at insn to is has));
   handlers = λ offset y e has same. not_marked b (suc at) none (subst (IsMark b) same (handler_marked b offset y e has));
 })
-
-begun_not : (catches : List Catch) (offset : ℕ) (c : Catch) → list_any (begins_at offset) catches ≡ false → Contains catches c → c.target ≢ offset
-begun_not catches offset c none has same =
-    let on : (c.target == offset) ≡ true = ap (λ (n : ℕ). n == offset) same ∙ same_self offset in
-    let any : list_any (begins_at offset) catches ≡ true = any_has (begins_at offset) catches c has on in
-    cc
-
-pub leads_straight : (b : Body) (at : ℕ) → may_lead b.catches (slice_get b.insns at) (slice_get b.insns (at + 1)) ≡ false → LeadsOn b at
-leads_straight b at h = record {
-  jumps = λ insn is to has same. jump (slice_get b.insns (at + 1)) refl insn is to has same;
-  handlers = λ offset x e has same.
-      let from = kept_from (handler_edge b.insns offset x) b.catches e has in
-      let found : place_at b.insns from.0.target ≡ Some (suc at) = handler_to b.insns offset x from.0 e from.2 ∙ ap Some same in
-      handler from.0 from.1 found (slice_get b.insns at) (slice_get b.insns (at + 1)) refl refl;
-}
-  where
-    next_is : at + 1 ≡ suc at
-    next_is = omega arith
-
-    jump : (next : Option JInsn) → slice_get b.insns (at + 1) ≡ next → (insn : JInsn) → slice_get b.insns at ≡ Some insn → (to : ℕ) → Contains (filter_map (place_at b.insns) (targets insn.op)) to → to ≢ suc at
-    jump None none insn is to has same =
-        let from = kept_from (place_at b.insns) (targets insn.op) to has in
-        let lt = place_within b.insns from.0 to from.2 in
-        let e : slice_get b.insns (at + 1) ≡ Some (get_or b.insns (at + 1) insn) = slice_get-get_or b.insns (at + 1) insn (omega (arith, lt, same)) in
-        absurd cc
-    jump (Some next) is_next insn is to has same =
-        let both : may_lead b.catches (Some insn) (Some next) ≡ false = sym (ap (λ (o : Option JInsn). may_lead b.catches o (Some next)) is) ∙ sym (ap (may_lead b.catches (slice_get b.insns at)) is_next) ∙ h in
-        let none : targets insn.op ≡ [] = straight b.catches insn.op next both in
-        contains_none to (subst (λ (os : List ℕ). Contains (filter_map (place_at b.insns) os) to) none has)
-
-    handler : (c : Catch) → Contains b.catches c → place_at b.insns c.target ≡ Some (suc at) → (o next : Option JInsn) → slice_get b.insns at ≡ o → slice_get b.insns (at + 1) ≡ next → ⊥
-    handler c has found o None is none =
-        let lt = place_within b.insns c.target (suc at) found in
-        let d : JInsn = record { at = 0; op = jop.Nop } in
-        let e : slice_get b.insns (at + 1) ≡ Some (get_or b.insns (at + 1) d) = slice_get-get_or b.insns (at + 1) d (omega (arith, lt)) in
-        absurd cc
-    handler c has found None (Some next) none is_next =
-        let lt = place_within b.insns c.target (suc at) found in
-        let d : JInsn = record { at = 0; op = jop.Nop } in
-        let e : slice_get b.insns at ≡ Some (get_or b.insns at d) = slice_get-get_or b.insns at d (omega (arith, lt)) in
-        absurd cc
-    handler c has found (Some insn) (Some next) is is_next =
-        let both : may_lead b.catches (Some insn) (Some next) ≡ false = sym (ap (λ (o : Option JInsn). may_lead b.catches o (Some next)) is) ∙ sym (ap (may_lead b.catches (slice_get b.insns at)) is_next) ∙ h in
-        let at_target : (next.at == c.target) ≡ true =
-        subst (λ (i : JInsn). (i.at == c.target) ≡ true) (get_or_from_slice_get b.insns (suc at) next next (sym (ap (slice_get b.insns) next_is) ∙ is_next)) (position-Some (λ (i : JInsn). i.at == c.target) b.insns (suc at) next found).1 in
-        begun_not b.catches next.at c (no_begin b.catches insn.op next both) has (sym (eqb-true next.at c.target at_target))

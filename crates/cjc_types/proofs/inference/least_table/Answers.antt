@@ -8,12 +8,14 @@ use Rattle.cjc_types.proofs.inference.least_table.Goals as goal
 
 pub solve-requires-clause-marks : goal.solve-requires-clause-marks
 solve-requires-clause-marks c =
-    subst (λ (n : ℕ). AreMarks n c.in_ok-marks.marks) (sym c.places.ensures) (subst (λ (ms : List ℕ). AreMarks (length c.args.method.now.insns) ms) (sym c.in_ok-marks.ensures) (marks_are c.args.method.now))
+    let b = c.args.marked.now.method.now in
+    subst (λ (n : ℕ). AreMarks n c.args.marked.now.marks.now) (sym c.places.ensures) (subst (λ (ms : List ℕ). AreMarks (length b.insns) ms) (sym c.args.marked.now.marked) (marks_are b))
 
 pub solve-requires-clause-stays : goal.solve-requires-clause-stays
-solve-requires-clause-stays c = subst (λ (n : ℕ). StaysWithin (type_flow c.args.method.now) n) (sym c.places.ensures) (type_flow_stays c.args.method.now)
+solve-requires-clause-stays c = subst (λ (n : ℕ). StaysWithin (type_flow c.args.marked.now.method.now) n) (sym c.places.ensures) (type_flow_stays c.args.marked.now.method.now)
 
 pub solve-requires-clause-meets : goal.solve-requires-clause-meets
 solve-requires-clause-meets c =
-    subst (λ (n : ℕ). MeetsAt (type_flow c.args.method.now) n c.in_ok-marks.marks) (sym c.places.ensures)
-    (subst (λ (ms : List ℕ). MeetsAt (type_flow c.args.method.now) (length c.args.method.now.insns) ms) (sym c.in_ok-marks.ensures) (marks_meet c.args.method.now))
+    let b = c.args.marked.now.method.now in
+    subst (λ (n : ℕ). MeetsAt (type_flow b) n c.args.marked.now.marks.now) (sym c.places.ensures)
+    (subst (λ (ms : List ℕ). MeetsAt (type_flow b) (length b.insns) ms) (sym c.args.marked.now.marked) (marks_meet b))
