@@ -4,6 +4,7 @@ ghost use Rattle.std.specs.Prelude.{◌≡◌, ◌<◌, ◌^◌, ℕ, List, leng
 ghost use Rattle.cjc_script.specs.declared.report.Thing.{Thing};
 ghost use Rattle.cjc_script.specs.declared.report.Thing.TheVariants as things;
 ghost use Rattle.cjc_script.specs.declared.value.Value.{Value};
+ghost use Rattle.cjc_script.specs.declared.value.Value.TheVariants.{Num};
 ghost use Rattle.cjc_script.specs.Sorts.{shape_named};
 ghost use Rattle.cjc_by_name.specs.Effects.{Effect, type_of, is_same_field, object_in, with_some, value_in};
 ghost use Rattle.cjc_by_name.specs.Effects;
@@ -19,6 +20,9 @@ use cjc_frame::is_same_kind;
 use cjc_script::{FieldValue, Value};
 use std::alloc::Global;
 use std::marker::Model;
+
+// More elements than an array has.
+const TOO_MANY: usize = 1 << 31;
 
 #[derive(Drop)]
 enum Body<'a> {
@@ -216,6 +220,17 @@ fn copies(alloc: Global, count: usize, value: Value) -> Result<Vec<Value>, NoMem
     Ok(items)
 }
 
+// Numbers as values.
+fn numbers_of(alloc: Global, numbers: &[i32]) -> Result<Vec<Value>, NoMemory>
+    ensures { IfOk result (λ items. items.items ≡ map (λ z. Num z) numbers.now) }
+{
+    let mut items = Vec::new(alloc);
+    for number in numbers {
+        items.push(Value::Num(*number))?;
+    }
+    Ok(items)
+}
+
 // What the fields of an object hold at first.
 fn first_values(alloc: Global, fresh: &[FieldValue]) -> Result<Vec<Value>, NoMemory>
     ensures { IfOk result (λ values. values.items ≡ map (λ f. f.value) fresh.now) }
@@ -251,6 +266,25 @@ impl<'a> HeapObject<'a> {
         ensures { IfOk result (λ o. o ≡ things.Array desc.entry (replicate count value)) }
     {
         let items = copies(alloc, count, value)?;
+        Ok(HeapObject {
+            body: Body::Array { desc, kind, items },
+        })
+    }
+
+    /// An array of these numbers. No memory is there for 2^31 of them or more.
+    pub fn of_numbers(
+        alloc: Global,
+        desc: TypeName<'a>,
+        kind: ArrayKind,
+        numbers: &[i32],
+    ) -> Result<HeapObject<'a>, NoMemory>
+        requires { shape_named desc ≡ shape_of kind desc }
+        ensures { IfOk result (λ o. o ≡ things.Array desc.entry (map (λ z. Num z) numbers.now)) }
+    {
+        if numbers.len() >= TOO_MANY {
+            return Err(NoMemory);
+        }
+        let items = numbers_of(alloc, numbers)?;
         Ok(HeapObject {
             body: Body::Array { desc, kind, items },
         })

@@ -6,6 +6,7 @@
 mod arrays;
 mod deeds;
 mod fields;
+mod instruction;
 mod lookups;
 mod objects;
 mod shapes;
@@ -15,10 +16,11 @@ mod types;
 
 pub use arrays::{array_length, array_load, load_element};
 pub use deeds::deed_of;
-pub use fields::{get_field, put_field};
+pub use fields::{act_on_field, get_field, put_field};
+pub use instruction::act;
 pub use lookups::{Call, Callee, LookUps, ResolvedField};
-pub use objects::{new_array, new_numbers, new_object};
+pub use objects::{new_array, new_numbers, new_object, new_of};
 pub use shapes::{Shape, array_kind, array_of, class_within, shape_named};
-pub use statics::{get_static, put_static};
+pub use statics::{act_on_static, get_static, put_static};
 pub use stores::array_store;
 pub use types::{check_cast, instance_of, is_of, new_references};

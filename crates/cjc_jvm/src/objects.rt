@@ -4,10 +4,13 @@ ghost use Rattle.std.specs.Prelude.{◌≡◌, ◌<◌, ◌≤◌, ◌+◌, ◌^
 ghost use Rattle.cjc_script.specs.declared.value.Value.{Value};
 ghost use Rattle.cjc_script.specs.declared.report.Thing.TheVariants as things;
 ghost use Rattle.cjc_script.specs.Sorts.{shape_named};
-ghost use Rattle.cjc_by_name.specs.Effects.{one_number, with_size, with_new, with_new_numbers, element_of};
+ghost use Rattle.cjc_code.specs.declared.insn.JOp.TheVariants as jop;
+ghost use Rattle.cjc_by_name.specs.Effects.{one_number, with_size, with_new, with_new_numbers, element_of, effect};
 ghost use Rattle.cjc_frame.specs.Deeds.{FollowsOn};
 ghost use Rattle.cjc_heap.specs.Kinds.{shape_of, elements_of};
+ghost use Rattle.cjc_jvm.specs.Rows.{FollowsBy};
 
+use crate::lookups::LookUps;
 use cjc_bytes::NoMemory;
 use cjc_frame::{Activation, Deed, Exception};
 use cjc_heap::{ArrayKind, Element, Heap, HeapObject, TypeName};
@@ -120,5 +123,24 @@ pub fn new_numbers<'a>(
         9 => new_array_of(alloc, frame, heap, Element::Short),
         10 => new_array_of(alloc, frame, heap, Element::Int),
         _ => Ok(Deed::Stick),
+    }
+}
+
+/// new, of a class whose fields look-ups tell.
+pub fn new_of<'a, L: LookUps>(
+    alloc: Global,
+    links: &'a L,
+    frame: &mut Activation<'a>,
+    heap: &mut Heap<'a>,
+    class: &'a [u8],
+) -> Result<Deed<'a>, NoMemory>
+    requires inside { frame.old.at < length frame.old.method.insns }
+    requires few { length heap.old < 2 ^ 32 }
+    ensures row { IfOk result (λ deed. FollowsBy (L.linked links.now) (λ l m at locals store. effect l m at locals store (jop.New class.now)) deed frame.old frame.new heap.old heap.new) }
+    ensures len { OnOk result (length heap.new ≤ length heap.old + 1) }
+{
+    match links.made(frame.holder(), class) {
+        Some(fresh) => new_object(alloc, frame, heap, class, fresh),
+        None => Ok(Deed::Stick),
     }
 }

@@ -1,31 +1,10 @@
-use Rattle.std.proofs.Common.{◌+◌, ◌∷◌, ◌∙◌, ap, sym, drop}
-use Rattle.cjc_by_name.specs.Effects.{Store, Go, one_value}
-use Rattle.cjc_by_name.specs.OnePackage.{of_class}
-use Rattle.cjc_heap.specs.Looks.{field_at}
+use Rattle.std.proofs.Common.{◌≡◌, ◌∙◌, ap}
+use Rattle.std.specs.Prelude.{Some}
+use Rattle.cjc_jvm.specs.declared.lookups.ResolvedField.TheVariants as fields
 use Rattle.cjc_jvm.proofs.fields.get_field.Goals as goal
 
-pub returns-in_ok-put-in-Ok : goal.returns-in_ok-put-in-Ok
-returns-in_ok-put-in-Ok c = λ l statics.
-    let f = c.args.frame.now in
-    let heap = c.args.heap.now in
-    let store : Store = record { heap = heap; statics = statics } in
-    record {
-      effect =
-          ap (λ s. one_value s (λ r rest. field_at heap r (of_class c.args.class.now c.args.id.now) (λ v. Go (f.at + 1) (v ∷ rest) f.locals store))) c.in-Some.ensures
-          ∙ c.in-Ok.ensures (λ v. Go (f.at + 1) (v ∷ drop 1 f.stack) f.locals store)
-          ∙ ap (λ g. Go g.at g.stack g.locals store) (sym c.in_ok-put-in-Ok.ensures);
-      keeps = ap (λ g. g.method) c.in_ok-put-in-Ok.ensures;
-    }
-
-pub returns-in-Err : goal.returns-in-Err
-returns-in-Err c = λ l statics.
-    let f = c.args.frame.now in
-    let heap = c.args.heap.now in
-    let store : Store = record { heap = heap; statics = statics } in
-    record {
-      effect =
-          ap (λ s. one_value s (λ r rest. field_at heap r (of_class c.args.class.now c.args.id.now) (λ v. Go (f.at + 1) (v ∷ rest) f.locals store))) c.in-Some.ensures
-          ∙ c.in-Err.ensures (λ v. Go (f.at + 1) (v ∷ drop 1 f.stack) f.locals store)
-          ∙ sym (c.deed_of.ensures f store).0;
-      keeps = (c.deed_of.ensures f store).1;
-    }
+pub returns-in-Some-Instance : goal.returns-in-Some-Instance
+returns-in-Some-Instance c =
+    let inner : c.in-Some-Instance.field-0 ≡ fields.Instance c.in-Some-Instance.class = rw c.in-Some-Instance.is at c.in-Some-Instance.field-0-is in
+    let found : c.args.field ≡ Some (fields.Instance c.in-Some-Instance.class) = c.in-Some-Instance.is ∙ ap (λ r. Some r) inner in
+    rw found c.get_field_of.ensures
