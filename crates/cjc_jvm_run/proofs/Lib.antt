@@ -1,0 +1,2 @@
+pub mod Spends
+pub mod Turns

@@ -1,0 +1,85 @@
+//! Whole runs.
+
+ghost use Rattle.std.specs.Prelude.{◌≡◌, ◌<◌, ◌≤◌, ◌+◌, ◌^◌, length, IfOk, OnOk};
+ghost use Rattle.cjc_by_name.specs.Machine.{move, idle, start, run};
+ghost use Rattle.cjc_turns.specs.States.{Leads, frames_of, with_frame, objects_at_most};
+
+use crate::entries::{Begun, begin};
+use crate::reports::report;
+use crate::steps::step;
+use cjc_bytes::{NoMemory, Row};
+use cjc_frame::{Activation, Pile};
+use cjc_heap::Statics;
+use cjc_jvm::LookUps;
+use cjc_script::{Outcome, Report, Script};
+use cjc_turns::{After, Machine, pop};
+use std::alloc::Global;
+
+// A whole turn: an entry where none is under way, and an instruction.
+fn turn<'a, L: LookUps>(
+    alloc: Global,
+    links: &'a L,
+    machine: &mut Machine<'a>,
+    top: Option<Activation<'a>>,
+) -> Result<After<'a>, NoMemory>
+    requires few { objects_at_most machine.old < 2 ^ 32 }
+    requires count { machine.old.spent + 1 < 2 ^ 32 }
+    ensures next { IfOk result (λ after. Leads (move (L.linked links.now) (with_frame top.entry machine.old)) after machine.new) }
+    ensures most { OnOk result (objects_at_most machine.new ≤ objects_at_most machine.old + 1) }
+    ensures spent { OnOk result (machine.new.spent ≤ machine.old.spent + 1) }
+{
+    if let Some(frame) = top {
+        return Ok(step(alloc, links, machine, frame)?);
+    }
+    if let Some(frame) = pop(&mut machine.callers) {
+        return Ok(step(alloc, links, machine, frame)?);
+    }
+    match begin(alloc, links, machine)? {
+        Begun::Frame(frame) => Ok(step(alloc, links, machine, frame)?),
+        Begun::Ended(outcome) => Ok(After::Ended(outcome)),
+    }
+}
+
+// The outcome where no instruction is left to spend.
+fn idle(machine: &Machine<'_>, top: &Option<Activation<'_>>) -> Outcome
+    ensures { result ≡ idle (frames_of top.now machine.now.frames) machine.now.entries }
+{
+    if top.is_none() && machine.callers.len() == 0 && machine.entries.is_empty() {
+        return Outcome::Done;
+    }
+    Outcome::Running
+}
+
+/// The run of n instructions of a script.
+pub fn run<L: LookUps>(
+    alloc: Global,
+    links: &L,
+    script: &Script,
+    n: u32,
+) -> Result<Report, NoMemory>
+    requires { n + objects_at_most (start (L.linked links.now) script.now) < 2 ^ 32 }
+    ensures { IfOk result (λ report. report ≡ run (L.linked links.now) script.now n) }
+{
+    let statics = Statics::new(alloc, links.statics())?;
+    let heap = links.heap(alloc)?;
+    let mut machine = Machine {
+        callers: Pile::new(alloc),
+        heap,
+        statics,
+        entries: script.entries.items(),
+        answers: script.answers.items(),
+        notes: Row::new(alloc),
+        spent: 0,
+    };
+    let mut top = None;
+    for i in 0..n {
+        match turn(alloc, links, &mut machine, top)? {
+            After::On(next) => {
+                top = next;
+            }
+            After::Ended(outcome) => return report(alloc, machine, outcome),
+        }
+    }
+    let outcome = idle(&machine, &top);
+    report(alloc, machine, outcome)
+}
