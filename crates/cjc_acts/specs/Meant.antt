@@ -1,9 +1,7 @@
 -- The types of values and of methods, as they are kept, in the definition's terms.
-use Rattle.std.specs.Prelude.{ℕ, List, Option, Some, None, option_map, map}
+use Rattle.std.specs.Prelude.{List, Option, option_map, map}
 use Rattle.cjc_script.specs.Sorts
 use Rattle.cjc_script.specs.Sorts.{Signature}
-use Rattle.cjc_script.specs.declared.script.Entry.{Entry}
-use Rattle.cjc_script.specs.declared.value.Value.{Value}
 use Rattle.cjc_jvm.specs.Names.{shape_meant}
 use Rattle.cjc_acts.specs.declared.sort.Sort.{Sort}
 use Rattle.cjc_acts.specs.declared.sort.Sort.TheVariants.{Boolean, Byte, Short, Int, Reference, NoValue}

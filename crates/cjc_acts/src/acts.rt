@@ -58,7 +58,13 @@ fn make_array<'a, L: LookUps>(
     let Some(sort) = item_sort(links, kind, desc) else {
         return Ok(false);
     };
-    let array = HeapObject::array(alloc, TypeName::told(desc), kind, size as usize, zero_of(sort))?;
+    let array = HeapObject::array(
+        alloc,
+        TypeName::told(desc),
+        kind,
+        size as usize,
+        zero_of(sort),
+    )?;
     heap.push(array)?;
     Ok(true)
 }

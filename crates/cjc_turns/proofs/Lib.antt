@@ -1,2 +1,3 @@
-pub mod Calls
-pub mod Throws
+pub mod Receivers
+pub mod Tosses
+pub mod Leading

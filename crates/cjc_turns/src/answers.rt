@@ -51,7 +51,8 @@ pub(crate) fn with_result<'a>(
 fn is_at_once(class: &[u8], id: &MemberId) -> bool
     ensures { result ≡ is_at_once (of_class class.now id.now) }
 {
-    class == b"java/lang/Object" && (id.name.items() == b"<init>" && id.desc.items() == b"()V")
+    class == b"java/lang/Object".as_slice()
+        && (id.name.items() == b"<init>".as_slice() && id.desc.items() == b"()V".as_slice())
 }
 
 // Whether an answer may throw a class.

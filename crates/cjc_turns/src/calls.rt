@@ -1,7 +1,7 @@
 //! Calls (Java Virtual Machine Specification, 6.5: invokestatic, invokespecial, invokevirtual, invokeinterface).
 
-ghost use Rattle.std.specs.Prelude.{◌≡◌, ◌<◌, ◌≤◌, ◌+◌, ◌^◌, ◌∷◌, List, Some, true, length, take, reverse, option_map, IfOk, OnOk};
-ghost use Rattle.cjc_by_name.specs.Machine.{Frame, are_of_sorts, holder_of, at_callee, on_receiver, at_call, after_lookup, with_types};
+ghost use Rattle.std.specs.Prelude.{◌≡◌, ◌<◌, ◌≤◌, ◌+◌, ◌^◌, ◌∷◌, List, Some, true, length, take, reverse, slice_get, option_map, IfOk, OnOk};
+ghost use Rattle.cjc_by_name.specs.Machine.{Frame, are_of_sorts, heap_of, holder_of, at_callee, at_selected, on_receiver, at_call, after_lookup, with_types};
 ghost use Rattle.cjc_script.specs.declared.value.Value.{Value};
 ghost use Rattle.cjc_by_name.specs.Linked;
 ghost use Rattle.cjc_acts.specs.Meant.{sort_meant};
@@ -77,7 +77,36 @@ impl<'a> Machine<'a> {
         }
     }
 
-    // By the array or object of the receiver, which is below the arguments.
+    // By the type of the receiver, which was below the arguments.
+    fn send<L: LookUps>(
+        &mut self,
+        alloc: Global,
+        links: &'a L,
+        op: u8,
+        id: &MemberId,
+        returned: Option<Sort<'_>>,
+        number: u32,
+        args: &[Value],
+        frame: Activation<'a>,
+    ) -> Result<After<'a>, NoMemory>
+        requires inside { frame.at < length frame.method.insns }
+        requires few { objects_at_most self.old < 2 ^ 32 }
+        ensures next { IfOk result (λ after. (before : List Frame) →
+            Leads (at_selected (L.linked links.now) (λ type. selection_of ((L.linked links.now).call (holder_of frame.entry) op id.now) type) (slice_get (heap_of self.old) number) (option_map sort_meant returned.entry) (Value.Obj number ∷ args.now) frame.entry self.old.frames (record self.old { frames = before })) after self.new) }
+        ensures most { OnOk result (objects_at_most self.new ≤ objects_at_most self.old + 1) }
+        ensures spent { OnOk result (self.new.spent ≡ self.old.spent) }
+    {
+        let Some(receiver) = self.heap.type_at(number) else {
+            return Ok(After::Ended(Outcome::Stuck(frame.offset())));
+        };
+        let Some(callee) = links.selected(frame.holder(), op, id, receiver) else {
+            return Ok(After::Ended(Outcome::Stuck(frame.offset())));
+        };
+        let all = with_receiver(alloc, number, args)?;
+        self.reach(alloc, links, callee, id, returned, all.items(), frame)
+    }
+
+    // By the receiver, which is below the arguments; null raises.
     fn receive<L: LookUps>(
         &mut self,
         alloc: Global,
@@ -97,16 +126,9 @@ impl<'a> Machine<'a> {
     {
         match frame.value() {
             Some(Value::Obj(number)) => {
-                let Some(receiver) = self.heap.type_at(number) else {
-                    return Ok(After::Ended(Outcome::Stuck(frame.offset())));
-                };
-                let Some(callee) = links.selected(frame.holder(), op, id, receiver) else {
-                    return Ok(After::Ended(Outcome::Stuck(frame.offset())));
-                };
-                let all = with_receiver(alloc, number, args)?;
                 let mut caller = frame;
                 caller.forget(1);
-                self.reach(alloc, links, callee, id, returned, all.items(), caller)
+                self.send(alloc, links, op, id, returned, number, args, caller)
             }
             Some(Value::Null) => {
                 self.raise(alloc, links, frame, class_of(Exception::NullPointer))

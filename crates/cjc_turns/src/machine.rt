@@ -25,8 +25,10 @@ impl Drop for Machine<'_> {
             callers: _callers,
             heap: _heap,
             statics: _statics,
+            entries: _,
+            answers: _,
             notes: _notes,
-            ..
+            spent: _,
         } = self;
     }
 }
@@ -49,8 +51,10 @@ impl<'a> Machine<'a> {
             callers: _callers,
             heap: _heap,
             statics: _statics,
+            entries: _,
+            answers: _,
             notes,
-            ..
+            spent: _,
         } = self;
         notes
     }
