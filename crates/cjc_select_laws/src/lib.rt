@@ -1,0 +1,39 @@
+//! What is selected for the methods of a package is what laying out and emitting ask: facts that rest on rules which the
+//! package does not break. For whoever converts a package. It has definitions and laws alone; nothing here runs.
+#![tactic(auto)]
+
+ghost use Rattle.std.specs.Prelude.{ℕ, List, Option};
+ghost use Rattle.cjc_bytes.specs.declared.fault.MemberId.{MemberId as Member};
+ghost use Rattle.cjc_classfile.specs.Code.{CodeTree};
+ghost use Rattle.cjc_classfile.specs.declared.tree.ClassTree.{ClassTree};
+ghost use Rattle.cjc_classfile.specs.declared.tree.MethodTree.{MethodTree};
+ghost use Rattle.cjc_code.specs.declared.method_code.MethodCode.{MethodCode};
+ghost use Rattle.cjc_world.specs.Files.{Files};
+ghost use Rattle.cjc_types.specs.declared.state.State.{State as Before};
+ghost use Rattle.cjc_types.specs.Flow.{body_of};
+ghost use Rattle.cjc_types.specs.Tables.{IsLeastTable, IsMethodOf};
+ghost use Rattle.cjc_narrow.specs.Selected.{selected_code};
+ghost use Rattle.cjc_written.specs.Rows.{has_rows, rows_by};
+ghost use Rattle.cjc_layout.specs.Layouts.{IsWhole};
+ghost use Rattle.cjc_bytes.specs.declared.settings.Settings.{Settings as Limits};
+ghost use Rattle.cjc_select.specs.Select.{IsSelectable};
+ghost use Rattle.cjc_select_laws.specs.Keeps.{IsSpelt, KeepsRules};
+
+/// The narrow code of a method that was decoded, of the instructions that its least type table reaches, can be laid out,
+/// whichever field instructions have an index of one byte: its jumps, switches and handlers lead to instructions that are
+/// written, and with every jump wide it has no more bytes than the sum of the widest sizes.
+pub fn selected_code_is_whole()
+    ensures { (files : Files) (code : MethodCode) (class : ClassTree) (method : MethodTree) (tree : CodeTree) → IsMethodOf files code class method tree
+        → (rows : List (Option Before)) → IsLeastTable (body_of class method tree code.insns) rows → (near : List Member)
+        → IsWhole (selected_code files near class method tree code.insns (rows_by (has_rows rows))) }
+{}
+
+/// A method of a package that keeps the rules can be selected: one byte can say its numbers. Its locals and its stack are at
+/// most 255, its arguments have room in its locals and the operands of its reached calls in its stack; where int is not
+/// named, each is a word.
+pub fn methods_are_selectable()
+    ensures { (files : Files) (code : MethodCode) (class : ClassTree) (method : MethodTree) (tree : CodeTree) → IsMethodOf files code class method tree
+        → (bytes : List ℕ) → IsSpelt class bytes → (list : List ℕ) (codes : List MethodCode) (settings : Limits)
+        → (rows : List (Option Before)) → IsLeastTable (body_of class method tree code.insns) rows → KeepsRules list files codes settings code (body_of class method tree code.insns) rows
+        → IsSelectable method tree code.insns (has_rows rows) }
+{}
