@@ -1,6 +1,6 @@
 -- What is written for an instruction leads to the places of its targets alone, and what is not written goes on.
-use Rattle.std.proofs.Common.{◌≡◌, ℕ, zero, suc, ◌+◌, ◌<◌, ◌≤◌, refl, arith, Bool, true, false, List, [], ◌∷◌, ◌++◌, length}
-use Rattle.std.specs.Prelude.{Option, Some, None, map, filter, flat_map, nat_le, nat_lt, slice_get, ◌==◌, if◌then◌else◌, ℤ, pos, negsuc, ◌+ℤ◌}
+use Rattle.std.proofs.Common.{◌≡◌, ℕ, suc, ◌+◌, ◌<◌, refl, Bool, true, false, List, [], ◌∷◌, ◌++◌, length}
+use Rattle.std.specs.Prelude.{Option, Some, None, map, filter, flat_map, nat_le, slice_get, ◌==◌, if◌then◌else◌, ℤ, pos, negsuc, ◌+ℤ◌}
 use Rattle.std.specs.List.{Contains}
 use Rattle.cjc_fixpoint.specs.Working.Edges.{contains_head, contains_tail}
 use Rattle.cjc_bytes.specs.declared.fault.MemberId.{MemberId}
@@ -13,8 +13,8 @@ use Rattle.cjc_code.specs.declared.insn.JOp.{JOp}
 use Rattle.cjc_code.specs.declared.insn.JOp.TheVariants as jop
 use Rattle.cjc_ncode.specs.declared.narrow.NCase.{NCase}
 use Rattle.cjc_ncode.specs.declared.narrow.NInsn.{NInsn}
-use Rattle.cjc_ncode.specs.declared.narrow.NInsn.TheVariants.{Op, Push, Local, Inc, Words, Jump, Switch, Named, Interface, NewArray, TypeTest}
-use Rattle.cjc_ncode.specs.Written.{Resolution, call_by, called, local, low_of, nargs_of, on_stack, pair_case, pair_cases, pushed, pushed_word, static_by, switched, table_cases, type_test, written}
+use Rattle.cjc_ncode.specs.declared.narrow.NInsn.TheVariants.{Op, Push, Local, Words, Named, Interface}
+use Rattle.cjc_ncode.specs.Written.{Resolution, call_by, local, low_of, nargs_of, on_stack, pair_case, pair_cases, pushed, pushed_word, static_by, switched, table_cases, type_test, written}
 use Rattle.cjc_types.specs.Steps.{case_target, goes_on, targets}
 use Rattle.cjc_layout.specs.Sizes.{AllLead, CasesLead, Leads}
 

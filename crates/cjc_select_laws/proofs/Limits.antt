@@ -1,5 +1,5 @@
 -- What the rules of a package say of one of its methods where none is broken.
-use Rattle.std.proofs.Common.{◌≡◌, ℕ, zero, suc, ◌+◌, ◌<◌, ◌≤◌, ◌^◌, refl, sym, ap, subst, ◌∙◌, arith, Bool, true, false, not, ◌&&◌, ◌||◌, nat_lt, List, [], ◌∷◌, ◌++◌, length, slice_get, Option, Some, None}
+use Rattle.std.proofs.Common.{◌≡◌, ℕ, zero, suc, ◌+◌, ◌≤◌, refl, sym, ap, ◌∙◌, arith, Bool, true, false, not, ◌&&◌, List, [], ◌∷◌, ◌++◌, slice_get, Some}
 use Rattle.std.specs.List.{Contains}
 use Rattle.std.proofs.lemmas.Bool.{ltb-false}
 use Rattle.std.proofs.lemmas.Option.{slice_get-get_or}
@@ -13,7 +13,7 @@ use Rattle.cjc_code.specs.declared.insn.JInsn.{JInsn}
 use Rattle.cjc_code.specs.declared.method_code.MethodCode.{MethodCode}
 use Rattle.cjc_subset.specs.Checks.{check_breaks, class_breaks, code_breaks, insn_breaks, list_breaks, method_breaks, field_breaks, own_breaks}
 use Rattle.cjc_subset.specs.Limits.{has_deep_stack, has_many_locals}
-use Rattle.cjc_subset.specs.Places.{of_class, of_code, of_method}
+use Rattle.cjc_subset.specs.Places.{of_class, of_method}
 use Rattle.cjc_subset.specs.Types.{is_int_desc, names_int}
 use Rattle.cjc_types.specs.Tables.{IsMethodOf}
 use Rattle.cjc_world.specs.Files.{Files}

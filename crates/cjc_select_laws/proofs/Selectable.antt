@@ -1,11 +1,9 @@
 -- A method of a package that keeps the rules can be selected.
-use Rattle.std.proofs.Common.{◌≡◌, ◌⊎◌, ℕ, zero, suc, ◌+◌, ◌<◌, ◌≤◌, refl, sym, ap, subst, ◌∙◌, arith, Bool, true, false, ◌||◌, nat_lt, List, [], ◌∷◌, ◌++◌, map, length, slice_get, Option, Some, None}
-use Rattle.std.specs.Prelude.{is_some, option_map, if◌then◌else◌}
+use Rattle.std.proofs.Common.{◌≡◌, ℕ, ◌+◌, ◌≤◌, refl, sym, ap, ◌∙◌, arith, Bool, true, false, ◌||◌, nat_lt, List, length, slice_get, Option, Some, None}
+use Rattle.std.specs.Prelude.{is_some, option_map}
 use Rattle.std.proofs.lemmas.Bool.{ltb-false, ltb-true}
 use Rattle.std.proofs.lemmas.List.{length-map}
-use Rattle.std.proofs.lemmas.Option.{same_Some, slice_get-map}
-use Rattle.cjc_bytes.specs.AccessFlags.{is_static}
-use Rattle.cjc_bytes.specs.Spots.{desc_of}
+use Rattle.std.proofs.lemmas.Option.{slice_get-map}
 use Rattle.cjc_bytes.specs.declared.fault.MemberId.{MemberId}
 use Rattle.cjc_bytes.specs.declared.settings.Settings.{Settings}
 use Rattle.cjc_classfile.specs.Code.{CodeTree}
@@ -15,14 +13,13 @@ use Rattle.cjc_code.specs.declared.insn.JInsn.{JInsn}
 use Rattle.cjc_code.specs.declared.insn.JOp.{JOp}
 use Rattle.cjc_code.specs.declared.insn.JOp.TheVariants as jop
 use Rattle.cjc_code.specs.declared.method_code.MethodCode.{MethodCode}
-use Rattle.cjc_code.specs.Rules.{IsUnfit, too_many}
-use Rattle.cjc_code.specs.Unfit.{arguments, params_of}
+use Rattle.cjc_code.specs.Rules.{too_many}
+use Rattle.cjc_code.specs.Unfit.{arguments}
 use Rattle.cjc_fixpoint.specs.Tables.{HasRow}
-use Rattle.cjc_script.specs.Sorts.{signature_of}
 use Rattle.cjc_world.specs.Classes.{Class, all_classes}
 use Rattle.cjc_world.specs.Files.{Files}
 use Rattle.cjc_ncode.specs.Written.{nargs_of}
-use Rattle.cjc_narrow.specs.Resolved.{argument_words, parameter_words, receiver_words}
+use Rattle.cjc_narrow.specs.Resolved.{argument_words}
 use Rattle.cjc_written.specs.Operands.{CanBeSaid, IsByte}
 use Rattle.cjc_written.specs.Rows.{has_rows}
 use Rattle.cjc_select.specs.Select.{IsSelectable}
@@ -33,8 +30,8 @@ use Rattle.cjc_types.specs.declared.state.Stack.TheVariants.{Cells, Clash}
 use Rattle.cjc_types.specs.declared.state.State.{State}
 use Rattle.cjc_types.specs.Flow.{Body, body_of}
 use Rattle.cjc_types.specs.Rules.{Breaks, clash, off, is_off}
-use Rattle.cjc_types.specs.Steps.{receivers, stack_behind, takes}
-use Rattle.cjc_types.specs.Tables.{Breach, IsLeastTable, IsMethodOf}
+use Rattle.cjc_types.specs.Steps.{stack_behind, takes}
+use Rattle.cjc_types.specs.Tables.{IsLeastTable, IsMethodOf}
 use Rattle.cjc_types.specs.Types.{parts}
 use Rattle.cjc_types.proofs.Ascending.{insns_ascend}
 use Rattle.cjc_type_laws.specs.Places.{local_of}

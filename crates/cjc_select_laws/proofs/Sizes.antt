@@ -1,7 +1,7 @@
 -- What is written for an instruction has no more bytes than its widest size, with every jump wide.
-use Rattle.std.proofs.Common.{◌≡◌, ℕ, zero, suc, ◌+◌, ◌*◌, ◌<◌, ◌≤◌, refl, sym, ap, subst, ◌∙◌, arith, Bool, true, false, List, [], ◌∷◌, ◌++◌, length}
-use Rattle.std.specs.Prelude.{Option, Some, None, map, filter, flat_map, replicate, nat_le, nat_lt, slice_get, ◌==◌, if◌then◌else◌, ℤ, pos, negsuc, ◌+ℤ◌}
-use Rattle.std.proofs.lemmas.Bool.{eqb-true, leb-true, leb-false}
+use Rattle.std.proofs.Common.{◌≡◌, ℕ, zero, suc, ◌+◌, ◌*◌, ◌≤◌, refl, sym, ap, subst, ◌∙◌, arith, Bool, true, false, List, [], ◌∷◌, ◌++◌, length}
+use Rattle.std.specs.Prelude.{Option, Some, None, map, filter, flat_map, nat_le, slice_get, ◌==◌, if◌then◌else◌, ℤ, pos, negsuc, ◌+ℤ◌}
+use Rattle.std.proofs.lemmas.Bool.{eqb-true, leb-true}
 use Rattle.cjc_bytes.specs.declared.fault.MemberId.{MemberId}
 use Rattle.cjc_script.specs.Sorts.{Sort, Boolean, Byte, Short, Int, Reference, NoValue, Shape, OfClass, OfNumbers, OfReferences, Booleans, Bytes, Shorts, Ints, field_sort, shape_named}
 use Rattle.cjc_bytecode.specs.Numbers.{is_word}
@@ -13,10 +13,9 @@ use Rattle.cjc_code.specs.declared.insn.JOp.{JOp}
 use Rattle.cjc_code.specs.declared.insn.JOp.TheVariants as jop
 use Rattle.cjc_ncode.specs.declared.narrow.NCase.{NCase}
 use Rattle.cjc_ncode.specs.declared.narrow.NInsn.{NInsn}
-use Rattle.cjc_ncode.specs.declared.narrow.NInsn.TheVariants.{Op, Push, Local, Inc, Words, Jump, Switch, Named, Interface, NewArray, TypeTest}
-use Rattle.cjc_ncode.specs.declared.narrow.PoolKey.{PoolKey}
-use Rattle.cjc_ncode.specs.Written.{Resolution, arithmetic, array_load, array_store, behind_reference, call_by, called, field_access, is_byte, leaving, local, low_of, nargs_of, on_stack, pair_case, pair_cases, pushed, pushed_word, static_access, static_by, switched, table_cases, type_test, widest, widest_sum, written}
-use Rattle.cjc_layout.specs.Sizes.{bytes_before, code_size, insn_size, size_by, widest_size}
+use Rattle.cjc_ncode.specs.declared.narrow.NInsn.TheVariants.{Op, Push, Local, Inc, Words, Named, Interface}
+use Rattle.cjc_ncode.specs.Written.{Resolution, arithmetic, array_load, array_store, call_by, field_access, is_byte, leaving, local, low_of, nargs_of, on_stack, pair_case, pair_cases, pushed, pushed_word, static_access, static_by, switched, table_cases, type_test, widest, widest_sum, written}
+use Rattle.cjc_layout.specs.Sizes.{insn_size, size_by, widest_size}
 
 -- the bytes of instructions, with every jump wide
 abbrev pub wide_sum : List NInsn → ℕ

@@ -1,11 +1,11 @@
 -- The narrow code of a method, of the instructions that its least type table reaches, is whole.
-use Rattle.std.proofs.Common.{◌≡◌, ℕ, zero, suc, ◌+◌, ◌<◌, ◌≤◌, refl, sym, ap, subst, ◌∙◌, arith, Bool, true, false, List, [], ◌∷◌, ◌++◌, length}
-use Rattle.std.specs.Prelude.{Option, Some, None, map, filter, filter_map, flat_map, nat_le, nat_lt, slice_get, ◌&&◌, if◌then◌else◌}
+use Rattle.std.proofs.Common.{◌≡◌, ℕ, zero, suc, ◌+◌, ◌<◌, ◌≤◌, refl, sym, subst, ◌∙◌, arith, Bool, true, false, List, [], ◌∷◌, length}
+use Rattle.std.specs.Prelude.{Option, Some, nat_le, nat_lt, slice_get, ◌&&◌, if◌then◌else◌}
 use Rattle.std.specs.List.{Contains}
 use Rattle.std.proofs.lemmas.Bool.{ltb-true, lt-ltb, le-leb}
 use Rattle.std.proofs.lemmas.List.Elements.{Contains-append_left, Contains-append_right}
-use Rattle.std.proofs.lemmas.Option.{same_Some, slice_get_within}
-use Rattle.cjc_fixpoint.specs.Tables.{Covers, HasRow}
+use Rattle.std.proofs.lemmas.Option.{slice_get_within}
+use Rattle.cjc_fixpoint.specs.Tables.{HasRow}
 use Rattle.cjc_fixpoint.specs.Working.Edges.{contains_head, contains_tail}
 use Rattle.cjc_bytes.specs.declared.fault.MemberId.{MemberId}
 use Rattle.cjc_classfile.specs.Code.{CodeTree}
@@ -13,16 +13,14 @@ use Rattle.cjc_classfile.specs.declared.tree.Catch.{Catch}
 use Rattle.cjc_classfile.specs.declared.tree.ClassTree.{ClassTree}
 use Rattle.cjc_classfile.specs.declared.tree.MethodTree.{MethodTree}
 use Rattle.cjc_code.specs.declared.insn.JInsn.{JInsn}
-use Rattle.cjc_code.specs.declared.insn.JOp.TheVariants as jop
 use Rattle.cjc_code.specs.declared.method_code.MethodCode.{MethodCode}
 use Rattle.cjc_world.specs.Files.{Files}
-use Rattle.cjc_ncode.specs.declared.narrow.NMethod.{NMethod}
-use Rattle.cjc_ncode.specs.Written.{Resolution, catch_at, catches_at, narrow_code, narrow_method, place_in, reached, widest_sum}
+use Rattle.cjc_ncode.specs.Written.{Resolution, catch_at, catches_at, narrow_code, narrow_method, place_in, reached}
 use Rattle.cjc_narrow.specs.Resolved.{argument_words, resolution}
 use Rattle.cjc_narrow.specs.Selected.{selected_code}
 use Rattle.cjc_written.specs.Rows.{by_rows_there, has_rows, rows_by}
 use Rattle.cjc_types.specs.declared.state.State.{State}
-use Rattle.cjc_types.specs.Flow.{Body, body_of, covers, next_place, place_at, successors, type_flow}
+use Rattle.cjc_types.specs.Flow.{body_of, covers, next_place, place_at, successors}
 use Rattle.cjc_types.specs.Steps.{goes_on, targets}
 use Rattle.cjc_types.specs.Tables.{IsLeastTable, IsMethodOf}
 use Rattle.cjc_types.proofs.Ascending.{insns_ascend}
@@ -31,9 +29,9 @@ use Rattle.cjc_type_laws.specs.Closed.{IsClosedTable, Reaches}
 use Rattle.cjc_type_laws.specs.Places.{HasPlace}
 use Rattle.cjc_type_laws.proofs.Lowered.{least_closed}
 use Rattle.cjc_type_laws.proofs.Standing.{handler_placed, next_there, target_placed}
-use Rattle.cjc_layout.specs.Handlers.{AllLie, Lies}
+use Rattle.cjc_layout.specs.Handlers.{AllLie}
 use Rattle.cjc_layout.specs.Layouts.{IsWhole}
-use Rattle.cjc_layout.specs.Sizes.{AllLead, widest_size}
+use Rattle.cjc_layout.specs.Sizes.{AllLead}
 use Rattle.cjc_layout.proofs.Places.{get_inside}
 use Rattle.cjc_select_laws.proofs.Cuts.{few, stack_opcode}
 use Rattle.cjc_select_laws.proofs.Places.{all_sizes, between, place_below, place_low, place_up, reached_at, reached_from, size, sizes}

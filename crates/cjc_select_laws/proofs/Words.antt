@@ -1,10 +1,9 @@
 -- How many words descriptors take that don't name int, and how long the descriptors of a class file are.
-use Rattle.std.proofs.Common.{◌≡◌, ℕ, zero, suc, ◌+◌, ◌<◌, ◌≤◌, ◌^◌, refl, sym, ap, subst, ◌∙◌, inl, inr, arith, Bool, true, false, ◌&&◌, ◌||◌, List, [], ◌∷◌, ◌++◌, map, length, slice_get, Option, Some, None, Ok}
+use Rattle.std.proofs.Common.{◌≡◌, ℕ, ◌+◌, ◌<◌, ◌≤◌, ◌^◌, refl, sym, ap, subst, ◌∙◌, inl, inr, arith, Bool, true, false, ◌&&◌, ◌||◌, List, [], ◌∷◌, ◌++◌, map, length, slice_get, Option, Some, None}
 use Rattle.std.specs.Prelude.{option_and_then, if◌then◌else◌}
-use Rattle.std.specs.List.{list_any, AllByRecursion}
+use Rattle.std.specs.List.{list_any}
 use Rattle.std.proofs.lemmas.Bool.{lt-ltb}
 use Rattle.std.proofs.lemmas.Option.{slice_get-map}
-use Rattle.cjc_bytes.specs.AccessFlags.{is_static}
 use Rattle.cjc_bytes.specs.Descriptor.{Part, Parts}
 use Rattle.cjc_bytes.specs.Spots.{desc_of}
 use Rattle.cjc_bytes.specs.declared.fault.MemberId.{MemberId}
@@ -15,7 +14,6 @@ use Rattle.cjc_classfile.specs.Code.{CodeTree}
 use Rattle.cjc_classfile.specs.declared.tree.ClassTree.{ClassTree}
 use Rattle.cjc_classfile.specs.declared.tree.MethodTree.{MethodTree}
 use Rattle.cjc_code.specs.declared.insn.JInsn.{JInsn}
-use Rattle.cjc_code.specs.declared.insn.JOp.{JOp}
 use Rattle.cjc_code.specs.declared.insn.JOp.TheVariants as jop
 use Rattle.cjc_code.specs.declared.method_code.MethodCode.{MethodCode}
 use Rattle.cjc_code.specs.Cut.{cut}
@@ -23,7 +21,7 @@ use Rattle.cjc_code.specs.Named.{op_of}
 use Rattle.cjc_code.specs.Rules.{with_names}
 use Rattle.cjc_code.specs.Unfit.{params_of}
 use Rattle.cjc_code.proofs.OneCut.{is_cut}
-use Rattle.cjc_script.specs.Sorts.{Shape, Signature, Sort, reference_to, result_by, shape_named, signature_by, signature_of, sort_by, sort_of}
+use Rattle.cjc_script.specs.Sorts.{Shape, Signature, reference_to, result_by, shape_named, signature_by, signature_of, sort_by, sort_of}
 use Rattle.cjc_bytecode.specs.Arguments.{width, widths}
 use Rattle.cjc_world.specs.Files.{Files}
 use Rattle.cjc_narrow.specs.Resolved.{parameter_words}

@@ -1,5 +1,5 @@
 -- The rules that a method of a package keeps, as far as what is selected for it rests on them.
-use Rattle.std.specs.Prelude.{◌≡◌, ℕ, ◌≤◌, ◌<◌, ◌^◌, List, [], length, Bool, false, Option}
+use Rattle.std.specs.Prelude.{◌≡◌, ℕ, ◌≤◌, ◌<◌, ◌^◌, List, [], length, false, Option}
 use Rattle.std.specs.List.{AllByRecursion, Contains}
 use Rattle.cjc_bytes.specs.Format.{FileSpells}
 use Rattle.cjc_bytes.specs.declared.settings.Settings.{Settings}
