@@ -1,5 +1,5 @@
 -- The index of an instruction, by its shape.
-use Rattle.std.proofs.Common.{◌≡◌, ℕ, suc, ◌+◌, ◌<◌, ◌≤◌, Bool, true, false, List, [], ◌∷◌, length, refl, sym, ap, ◌∙◌, subst, arith, Option, Some, None, ℤ, pos, negsuc}
+use Rattle.std.proofs.Common.{◌≡◌, ℕ, ◌+◌, ◌≤◌, true, false, List, [], ◌∷◌, refl, sym, ap, ◌∙◌, subst, arith, Option, Some, None, ℤ, pos, negsuc}
 use Rattle.std.specs.Prelude.{option_map, if◌then◌else◌}
 use Rattle.cjc_capread.specs.Opcodes.{Form, Fields, Table, Lookup, form, info}
 use Rattle.cjc_capread.specs.Decode.{Instruction, size, size_by}
@@ -10,8 +10,7 @@ use Rattle.cjc_decode.specs.Decoded.{instruction_of, values}
 use Rattle.cjc_decode.specs.declared.shape.Shape.{Shape}
 use Rattle.cjc_decode.specs.declared.shape.Shape.TheVariants as shapes
 use Rattle.cjc_sentences.specs.Instructions.{IndexOperand, index_among, index_by, index_in as found_in, indices, names_no_class}
-use Rattle.cjc_jumps.specs.declared.indices.IndexAt.{IndexAt}
-use Rattle.cjc_jumps.specs.Offsets.{index_in, index_operand, index_place_in, index_size_in, natural, operand_at, optional}
+use Rattle.cjc_jumps.specs.Offsets.{index_in, index_operand, index_place_in, index_size_in, natural, optional}
 
 pub index_is : (s : Shape) (vs : List ℤ) → natural (index_operand s vs) ≡ index_in (form_of s) vs
 index_is shapes.NoOp vs = refl

@@ -1,13 +1,13 @@
 -- Jumps that land, and the instructions of a method one by one.
-use Rattle.std.proofs.Common.{◌≡◌, ℕ, suc, ◌+◌, ◌-◌, ◌*◌, ◌<◌, ◌≤◌, ◌==◌, Bool, true, false, List, [], ◌∷◌, ◌++◌, length, length-drop, get_or, drop, map, refl, sym, ap, ◌∙◌, arith, Option, Some, None, ℤ, pos, negsuc}
-use Rattle.std.specs.Prelude.{◌&&◌, ◌||◌, nat_lt, ◌+ℤ◌, if◌then◌else◌}
+use Rattle.std.proofs.Common.{◌≡◌, ℕ, ◌+◌, ◌-◌, ◌<◌, ◌≤◌, ◌==◌, Bool, true, false, List, [], ◌∷◌, ◌++◌, length, length-drop, get_or, drop, map, refl, sym, ap, ◌∙◌, arith, Option, Some, None, ℤ, pos, negsuc}
+use Rattle.std.specs.Prelude.{◌&&◌, ◌||◌, nat_lt, if◌then◌else◌}
 use Rattle.std.specs.List.{list_all, list_any}
 use Rattle.std.specs.Ordering.{int_eq}
 use Rattle.std.proofs.lemmas.Bool.Decides.{nat_tests, same_from_decides, Decides-int_eq, Decides-like, Decides-eqb}
 use Rattle.std.proofs.lemmas.List.{drop_all}
 use Rattle.std.proofs.lemmas.Option.{same_Some}
 use Rattle.cjc_capread.specs.Opcodes.{Signed2, form}
-use Rattle.cjc_capread.specs.Decode.{First, Instruction, operand, signed}
+use Rattle.cjc_capread.specs.Decode.{First, Instruction, operand}
 use Rattle.cjc_codes.specs.declared.code.At.{At}
 use Rattle.cjc_codes.specs.Bodies.{placed_of}
 use Rattle.cjc_decode.specs.Decoded.{numbers}
@@ -17,7 +17,7 @@ use Rattle.cjc_decode.specs.declared.shape.Shape.TheVariants as shapes
 use Rattle.cjc_decode.specs.declared.table.Matches.{Matches}
 use Rattle.cjc_decode.specs.declared.table.Matches.TheVariants.{Counted, Short, Int}
 use Rattle.cjc_sentences.specs.declared.spot.Spot.{Spot}
-use Rattle.cjc_sentences.specs.Spots.{Placed, earlier, first, in_info, unless}
+use Rattle.cjc_sentences.specs.Spots.{earlier, first, in_info, unless}
 use Rattle.cjc_sentences.specs.Codes.{Code}
 use Rattle.cjc_sentences.specs.Instructions.{ends_code, default_of, in_code, is_empty, is_jump, jumps, jumps_land, pair_offsets, switch_offsets}
 use Rattle.cjc_sentences.proofs.Firsts.{earlier_none, earlier_assoc, first_append, first_nothing}

@@ -1,3 +1,4 @@
+pub mod Apart
 pub mod Flat
 pub mod Lands
 pub mod Indexed

@@ -1,18 +1,16 @@
 -- What handlers stand on.
-use Rattle.std.proofs.Common.{◌≡◌, ℕ, suc, ◌+◌, ◌<◌, ◌≤◌, ◌^◌, ◌==◌, Bool, true, false, List, [], ◌∷◌, ◌++◌, length, get_or, drop, map, refl, sym, ap, ◌∙◌, arith, Option, Some, None}
+use Rattle.std.proofs.Common.{◌≡◌, ℕ, suc, ◌+◌, ◌<◌, ◌≤◌, ◌^◌, ◌==◌, false, List, [], ◌∷◌, length, get_or, drop, map, refl, sym, ap, ◌∙◌, arith, Option, Some, None}
 use Rattle.std.specs.Prelude.{◌||◌, nat_le}
-use Rattle.std.specs.List.{list_any, find}
+use Rattle.std.specs.List.{list_any}
 use Rattle.std.proofs.lemmas.Bool.Decides.{nat_tests}
 use Rattle.std.proofs.lemmas.List.{drop_all}
 use Rattle.cjc_capread.specs.declared.tree.Handler.{Handler}
 use Rattle.cjc_codes.specs.declared.code.At.{At}
-use Rattle.cjc_codes.specs.declared.code.Body.{Body}
-use Rattle.cjc_codes.specs.Bodies.{AllAt, code_of, placed_of}
+use Rattle.cjc_codes.specs.Bodies.{AllAt, placed_of}
 use Rattle.cjc_sentences.specs.declared.spot.Spot.{Spot}
 use Rattle.cjc_sentences.specs.Spots.{earlier, first, in_info, unless}
 use Rattle.cjc_sentences.specs.Codes.{Code}
 use Rattle.cjc_sentences.specs.Handlers.{in_code, targets_from}
-use Rattle.cjc_sentences.specs.Instructions.{has_start}
 use Rattle.cjc_sentences.proofs.Firsts.{earlier_none, earlier_assoc, first_append, first_nothing}
 use Rattle.cjc_jumps.proofs.Flat.{at_item}
 
@@ -31,25 +29,6 @@ pub far_end : (insns : List At) (n end : ℕ) → AllAt insns → 2 ^ 32 ≤ n �
 far_end insns n end all le small =
     let differs : (n == end) ≡ false = grind (arith, nat_tests) in
     sym (ap (λ b. b || (n == end)) (far_away insns n all le) ∙ differs)
-
-pub found_here : (offset i : ℕ) (b : Body) (bodies : List Body) (total : Option Code) → i < length bodies → b ≡ get_or bodies i b → has_start (code_of b) offset ≡ true
-    → find (λ code. has_start code offset) (map code_of (drop i bodies)) ≡ total → Some (code_of b) ≡ total
-found_here offset i b bodies total lt is t so_far =
-    let d = at_item i b bodies lt is in
-    let here : find (λ code. has_start code offset) (map code_of (b ∷ drop (i + 1) bodies)) ≡ Some (code_of b) = rw t refl in
-    sym here ∙ ap (λ (ys : List Body). find (λ code. has_start code offset) (map code_of ys)) (sym d) ∙ so_far
-
-pub found_later : (offset i : ℕ) (b : Body) (bodies : List Body) (total : Option Code) → i < length bodies → b ≡ get_or bodies i b → has_start (code_of b) offset ≡ false
-    → find (λ code. has_start code offset) (map code_of (drop i bodies)) ≡ total → find (λ code. has_start code offset) (map code_of (drop (i + 1) bodies)) ≡ total
-found_later offset i b bodies total lt is t so_far =
-    let d = at_item i b bodies lt is in
-    let past : find (λ code. has_start code offset) (map code_of (b ∷ drop (i + 1) bodies)) ≡ find (λ code. has_start code offset) (map code_of (drop (i + 1) bodies)) = rw t refl in
-    sym past ∙ ap (λ (ys : List Body). find (λ code. has_start code offset) (map code_of ys)) (sym d) ∙ so_far
-
-pub found_never : (offset i : ℕ) (bodies : List Body) (total : Option Code) → length bodies ≤ i
-    → find (λ code. has_start code offset) (map code_of (drop i bodies)) ≡ total → None ≡ total
-found_never offset i bodies total le so_far =
-    ap (λ (ys : List Body). find (λ code. has_start code offset) (map code_of ys)) (sym (drop_all i bodies le)) ∙ so_far
 
 pub targets_more : (before at i : ℕ) (h : Handler) (hs : List Handler) (best found total : Option Spot) → i < length hs → h ≡ get_or hs i h
     → found ≡ first (unless (nat_le before h.handler) (in_info 7 (at + 4)))

@@ -1,7 +1,7 @@
 -- Offsets and indices of instructions as they are kept.
-use Rattle.std.specs.Prelude.{ℕ, ◌+◌, ◌<◌, ◌^◌, List, [], ◌∷◌, length, get_or, Bool, true, false, Option, Some, None, ℤ, pos, negsuc, slice_get}
+use Rattle.std.specs.Prelude.{ℕ, ◌+◌, ◌<◌, ◌^◌, List, [], ◌∷◌, length, get_or, Bool, true, false, Option, Some, None, ℤ, pos, slice_get}
 use Rattle.cjc_capread.specs.declared.tree.PoolEntry.{PoolEntry}
-use Rattle.cjc_capread.specs.Opcodes.{Form, Fields, Table, Lookup, info}
+use Rattle.cjc_capread.specs.Opcodes.{Form, Fields, info}
 use Rattle.cjc_decode.specs.declared.shape.Shape.{Shape}
 use Rattle.cjc_decode.specs.declared.shape.Shape.TheVariants.{Index1, Index2, Typed, Call, ShortTable, IntTable, ShortPairs, IntPairs}
 use Rattle.cjc_decode.specs.declared.table.Matches.{Matches}

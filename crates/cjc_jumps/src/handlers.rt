@@ -1,11 +1,11 @@
 //! Exception handlers stand on instructions of one method, in the order of their targets (Java Card Virtual Machine
 //! Specification 2.2.2, section 6.9.1). It knows the code of methods and the constant pool.
 
-ghost use Rattle.std.specs.Prelude.{◌≡◌, ◌+◌, ◌*◌, ◌<◌, ◌^◌, ◌++◌, ◌==◌, ◌||◌, IfSome, length, map, option_map, slice_get, Some};
-ghost use Rattle.std.specs.List.{find};
+ghost use Rattle.std.specs.Prelude.{◌≡◌, ◌+◌, ◌*◌, ◌<◌, ◌^◌, ◌++◌, ◌==◌, ◌||◌, IfSome, length, map, nat_le, option_map, slice_get, Some};
+ghost use Rattle.std.specs.List.{find, prefix_len};
 ghost use Rattle.std.specs.Option.{option_copied};
 ghost use Rattle.cjc_codes.specs.Bodies.{AreBodies, IsBody, code_of};
-ghost use Rattle.cjc_jumps.specs.Standing.{handler_stands, range_ends};
+ghost use Rattle.cjc_jumps.specs.Standing.{AreApart, handler_stands, range_ends};
 ghost use Rattle.cjc_sentences.specs.Handlers.{in_code, is_classref, targets_from};
 ghost use Rattle.cjc_sentences.specs.Instructions.{has_start};
 ghost use Rattle.cjc_sentences.specs.Spots.{along, first};
@@ -33,18 +33,31 @@ fn has_start(body: &Body<'_>, offset: u64) -> bool
     is_among(body.starts.items(), offset)
 }
 
-/// The first method of which an instruction begins at an offset.
+/// How many methods end at an offset or before it. They stand one behind the other.
+fn place_behind(bodies: &[Body<'_>], offset: u64) -> usize
+    requires { AreApart 0 (map code_of bodies.now) }
+    ensures { result ≡ prefix_len (λ b. nat_le b.end offset) bodies.now }
+{
+    bodies.partition_point(|body| u64::from(body.end) <= offset)
+}
+
+/// The method of which an instruction begins at an offset.
 fn body_with<'a, 'b>(bodies: &'a [Body<'b>], offset: u64) -> Option<&'a Body<'b>>
-    requires { AreBodies bodies.now }
+    requires ready { AreBodies bodies.now }
+    requires apart { AreApart 0 (map code_of bodies.now) }
     ensures is { option_map code_of (option_copied result) ≡ find (λ code. has_start code offset) (map code_of bodies.now) }
     ensures kept { IfSome result (λ b. IsBody b.now) }
 {
-    for body in bodies {
-        if has_start(body, offset) {
-            return Some(body);
-        }
+    let place = place_behind(bodies, offset);
+    if place >= bodies.len() {
+        return None;
     }
-    None
+    let body = &bodies[place];
+    if has_start(body, offset) {
+        Some(body)
+    } else {
+        None
+    }
 }
 
 /// Whether the range of a handler ends at an instruction of a method or at its end.
@@ -75,6 +88,7 @@ fn in_body(at: u32, handler: Handler, body: &Body<'_>) -> Option<Spot>
 /// The start, the length or the target of a handler that is wrong, the handler beginning at an offset.
 fn in_code(at: u32, handler: Handler, bodies: &[Body<'_>]) -> Option<Spot>
     requires ready { AreBodies bodies.now }
+    requires apart { AreApart 0 (map code_of bodies.now) }
     requires small { 11 + at < 2 ^ 32 }
     ensures { result ≡ first (in_code at handler (find (λ code. has_start code handler.start) (map code_of bodies.now))) }
 {
@@ -100,7 +114,7 @@ fn is_caught(entries: &[PoolEntry], index: u64) -> bool
 impl Test<Handler> for Standing<'_, '_> {
     ghost broken = { λ s. handler_stands (map code_of s.bodies.now) s.entries.now };
 
-    ghost fits = { λ s. AreBodies s.bodies.now };
+    ghost fits = { λ s. AreBodies s.bodies.now × AreApart 0 (map code_of s.bodies.now) };
 
     #[tactic(auto, using(cjc_sentences::proofs::Firsts::first_append))]
     fn first_in(&self, at: u32, item: &Handler) -> Option<Spot> {
@@ -128,7 +142,7 @@ fn targets_from(before: u64, from: u32, handlers: &[Handler]) -> Option<Spot>
 }
 
 /// Where 712 is broken first: a start that is no instruction's, a length where the end is none, a target, or a catch
-/// index.
+/// index. The method of a handler is sought in the order in which methods stand.
 #[tactic(auto, using(cjc_sentences::proofs::Firsts::first_append, cjc_sentences::proofs::Arrays::eight_each))]
 pub fn handler_spot(
     handlers: &[Handler],
@@ -136,6 +150,7 @@ pub fn handler_spot(
     entries: &[PoolEntry],
 ) -> Option<Spot>
     requires ready { AreBodies bodies.now }
+    requires apart { AreApart 0 (map code_of bodies.now) }
     requires small { 4 + 8 * length handlers.now < 2 ^ 32 }
     ensures { result ≡ first (targets_from 0 1 handlers.now ++ along (λ h. 8) (handler_stands (map code_of bodies.now) entries.now) 1 handlers.now) }
 {

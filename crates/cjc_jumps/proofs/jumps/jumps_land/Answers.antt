@@ -1,4 +1,4 @@
-use Rattle.std.proofs.Common.{◌≡◌, true, false, sym, ◌∙◌, rules}
+use Rattle.std.proofs.Common.{◌≡◌, true, false, rules}
 use Rattle.std.specs.List.{list_all}
 use Rattle.cjc_codes.specs.Bodies.{code_of}
 use Rattle.cjc_decode.specs.Decoded.{instruction_of, values}

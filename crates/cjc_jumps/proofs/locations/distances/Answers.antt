@@ -1,4 +1,4 @@
-use Rattle.std.proofs.Common.{◌∙◌, ap, ◌++◌, List, ℕ}
+use Rattle.std.proofs.Common.{◌∙◌, ap, ◌++◌, ℕ}
 use Rattle.cjc_sentences.specs.Locations.{distance}
 use Rattle.cjc_jumps.proofs.Flat.{same_item}
 use Rattle.cjc_jumps.proofs.Listed.{distances_all, distances_more}

@@ -1,4 +1,4 @@
-use Rattle.std.proofs.Common.{◌≡◌, ◌+◌, ◌*◌, ◌++◌, drop, length}
+use Rattle.std.proofs.Common.{◌≡◌, ◌+◌, ◌*◌, ◌++◌, drop}
 use Rattle.cjc_sentences.specs.Locations.{catch_places}
 use Rattle.cjc_jumps.proofs.locations.put_catches.Given as goal
 

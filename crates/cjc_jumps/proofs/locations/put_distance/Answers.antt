@@ -1,6 +1,6 @@
 use Rattle.std.proofs.Common.{◌∙◌, ap, ◌++◌, List, ℕ, ◌-◌}
 use Rattle.cjc_sentences.specs.Locations.{distance}
-use Rattle.cjc_jumps.proofs.Listed.{full_all, full_more}
+use Rattle.cjc_jumps.proofs.Listed.{full_more}
 use Rattle.cjc_jumps.proofs.locations.put_distance.Goals as goal
 
 pub loop-left-preserved : goal.loop-left-preserved
