@@ -1,11 +1,12 @@
 -- The first broken rule of some groups, by the first of each.
-use Rattle.std.proofs.Common.{◌≡◌, ℕ, ◌+◌, ◌<◌, ◌≤◌, ◌⊎◌, inl, inr, Bool, true, false, List, [], ◌∷◌, ◌++◌, Option, Some, None, refl, sym, ap, subst, ◌∙◌, arith}
+use Rattle.std.proofs.Common.{◌≡◌, ℕ, ◌+◌, ◌<◌, ◌≤◌, ◌⊎◌, inl, inr, Bool, true, false, List, [], ◌∷◌, ◌++◌, length, Option, Some, None, refl, sym, ap, subst, ◌∙◌, arith}
 use Rattle.std.specs.Prelude.{map, slice_get, ◌/◌, if◌then◌else◌}
 use Rattle.cjc_bytes.specs.declared.order.FileKey.{FileKey}
 use Rattle.cjc_bytes.specs.declared.order.FileKey.TheVariants as keys
 use Rattle.cjc_bytes.specs.Order.{FilePlace, NotAfter}
 use Rattle.cjc_bytes.specs.declared.fault.Refusal.{Refusal}
 use Rattle.cjc_bytes.specs.declared.settings.FileLine.{FileLine}
+use Rattle.std.proofs.lemmas.Option.{slice_get_within}
 use Rattle.cjc_bytes.proofs.Laws.{one_value}
 use Rattle.cjc_classfile.specs.ClassFile.{class_file}
 use Rattle.cjc_classfile.specs.declared.tree.ClassTree.{ClassTree}
@@ -372,3 +373,23 @@ second_level_stops {First} {Second} none f = record { broken = f.broken; first =
 
 pub high_at : (bs : List Break) (f g : FilePlace) (c : ClassTree) (s : Spot) → g ≡ f → s ≡ at_spot g c → IsFirst (tokens.at_class f c.name) bs → IsFirst (broken_at s 413) bs
 high_at bs f g c s e is h = subst (λ (b : Break). IsFirst b bs) (sym (ap (λ (q : Spot). broken_at q 413) is ∙ ap (λ (q : FilePlace). broken_at (at_spot q c) 413) e)) h
+
+-- a rule of single files, or one of a later hundred
+pub file_or_later : (list : ListTree) (files : List (List ℕ)) (tested : List Group) (b : Break) → Breach list files tested b → BreaksFile list.lines files b ⊎ (2 ≤ b.rank.family)
+file_or_later list files tested b (of_file h) = inl h
+file_or_later list files tested b (of_world h) = inr (let two = world_family list files b h in omega (arith, two))
+file_or_later list files tested b (of_names h) = inr (let two = names_family list files b h in omega (arith, two))
+file_or_later list files tested b (of_group h) = inr (let three = behind_family list files tested b h in omega (arith, three))
+
+-- the file is one of those of the lines
+pub file_low : (lines : List FileLine) (files : List (List ℕ)) (b : Break) → BreaksFile lines files b → b.rank.file ≤ length lines
+file_low lines files b (i, at, breach, is) =
+    let one = ap (λ (x : Break). x.rank.file) is in
+    let two = by at.line at.bytes breach in
+    let low = slice_get_within lines i at.line at.is_line in
+    omega (arith, one, two, low)
+  where
+    by : (line : FileLine) (bytes : List ℕ) (x : FileBreach line bytes) → (file_rank i line bytes x).file ≡ i + 1
+    by line bytes (no_class_file p c h) = refl
+    by line bytes (no_instructions t m o c s h) = refl
+    by line bytes (no_export_file p c h) = refl

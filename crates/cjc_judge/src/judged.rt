@@ -3,9 +3,9 @@
 ghost use Rattle.std.specs.Prelude.{◌≡◌, [], length, All, IfOk, IfErr, OnOk};
 ghost use Rattle.cjc_types.specs.Tables.{IsOfPackage};
 ghost use Rattle.cjc_world.specs.Rules.{breaks};
-ghost use Rattle.cjc_bytes.specs.Breaks.{IsFirstRefusal};
+ghost use Rattle.cjc_bytes.specs.Breaks.{Break as Broken, IsFirstRefusal};
 ghost use Rattle.cjc_judge.specs.Judged.{IsJudged, IsStopped};
-ghost use Rattle.cjc_judge.specs.Rules.{world_files};
+ghost use Rattle.cjc_judge.specs.Rules.{world_files, BreaksFile, IsFirstFault};
 ghost use Rattle.cjc_judge.specs.Spelt.{IsRead, AreFiles};
 
 use crate::groups::Group;
@@ -66,6 +66,22 @@ fn world_of<'a>(
         classes,
         exports,
     )
+}
+
+/// Tests the files of a list, which these are in list order, each by itself: for rules 101 to 104.
+///
+/// # Errors
+///
+/// The first of these that is broken, in the order of refusals.
+pub fn test_files(alloc: Global, list: &List, files: &Row<Bytes>) -> Result<(), Fault>
+    requires read { IsRead list.now }
+    requires count { length files.now ≡ length list.now.lines }
+    requires files { AreFiles files.now }
+    ensures unbroken { OnOk result ((b : Broken) → BreaksFile list.now.lines files.now b → ⊥) }
+    ensures refused { IfErr result (IsFirstFault (BreaksFile list.now.lines files.now)) }
+{
+    let _trees = read_files(alloc, list.lines.items(), files.items())?;
+    Ok(())
 }
 
 /// The package of a list, whose files these are in list order, where it breaks no rule of single files (101 to 104), of

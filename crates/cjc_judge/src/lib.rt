@@ -9,5 +9,5 @@ mod laws;
 mod reading;
 
 pub use groups::Group;
-pub use judged::{Judged, judge};
-pub use laws::one_refusal;
+pub use judged::{Judged, judge, test_files};
+pub use laws::{files_first, one_refusal};
