@@ -1,0 +1,13 @@
+//! What was read of a list, its files and a script. It knows no shelf.
+
+use cjc_bytes::{Bytes, Row};
+use cjc_list::List;
+
+/// A list, its files and a script.
+#[derive(Drop)]
+pub struct Input {
+    pub list: List,
+    /// The files, in the order of the list's lines.
+    pub files: Row<Bytes>,
+    pub script: Bytes,
+}
