@@ -1,0 +1,1 @@
+-- The classes of all files one behind the other.

@@ -1,0 +1,157 @@
+//! What an imported class has by token, found at once. Whoever tests what components name of other packages calls it. It knows no
+//! component.
+
+ghost use Rattle.std.specs.Prelude.{◌≡◌, ◌<◌, ◌==◌, IfSome, get_or, length, option_and_then, slice_get, []};
+ghost use Rattle.std.specs.List.{find};
+ghost use Rattle.cjc_export.specs.Supers.{classes_of};
+ghost use Rattle.cjc_imported.specs.Tokens.{AreTokens, file_starts};
+ghost use Rattle.cjc_imported.specs.Working.Told.{told, told_of_class};
+ghost use Rattle.cjc_lookup.specs.Indexed.{IsIndexed, places_of};
+ghost use Rattle.cjc_sentences.specs.Classes.{imported};
+ghost use Rattle.cjc_sentences.specs.Members.{class_has, class_has_field, has_static_field, has_static_method, supers_have};
+
+use crate::rows::answer;
+use crate::tokens::Tokens;
+use cjc_bytes::Row;
+use cjc_capread::ClassRef;
+use cjc_export::ExportClass;
+use cjc_lookup::{Names, Want};
+
+/// The place of the first class of a token among those of its file.
+fn place_in_file(
+    classes: &[ExportClass],
+    places: &[Option<usize>],
+    token: u8,
+) -> Option<usize>
+    requires { places.now ≡ places_of classes.now }
+    ensures found { option_and_then (slice_get classes.now) result ≡ find (λ c. c.token == token) classes.now }
+    ensures inside { IfSome result (λ at. at < length classes.now) }
+{
+    let place = places[usize::from(token)];
+    match place {
+        Some(at) => {
+            if at < classes.len() {
+                Some(at)
+            } else {
+                None
+            }
+        }
+        None => None,
+    }
+}
+
+/// The place of an imported class among those of all files.
+fn place_of(
+    names: &Names<'_>,
+    starts: &[usize],
+    count: usize,
+    package: u8,
+    class: u8,
+) -> Option<usize>
+    requires ready { IsIndexed names.now }
+    requires starts { starts.now ≡ file_starts 0 names.now.exports.now }
+    requires count { length (classes_of names.now.exports.now) ≡ count }
+    ensures { option_and_then (slice_get (classes_of names.now.exports.now)) result ≡ imported names.now.exports.now package class }
+{
+    let import = usize::from(package);
+    if import >= names.exports.len() || import >= names.tokens.len() || import >= starts.len() {
+        return None;
+    }
+    let classes = names.exports[import].classes.items();
+    match place_in_file(classes, names.tokens[import].items(), class) {
+        Some(at) => Some(starts[import] + at),
+        None => None,
+    }
+}
+
+/// A row, the empty one where there is none.
+fn row_at(rows: &[Row<bool>], at: usize) -> &[bool]
+    ensures { result.now ≡ get_or rows.now at [] }
+{
+    if at < rows.len() {
+        rows[at].items()
+    } else {
+        &[]
+    }
+}
+
+/// The answer in rows by token.
+fn told(rows: &[Row<bool>], token: u8, place: Option<usize>) -> bool
+    ensures { result ≡ told rows.now token place }
+{
+    match place {
+        Some(at) => answer(row_at(rows, usize::from(token)), at),
+        None => false,
+    }
+}
+
+/// The answer in tables of classes.
+fn told_of_class(tables: &[Row<bool>], token: u8, place: Option<usize>) -> bool
+    ensures { result ≡ told_of_class tables.now token place }
+{
+    match place {
+        Some(at) => answer(row_at(tables, at), usize::from(token)),
+        None => false,
+    }
+}
+
+impl Tokens {
+    /// The place of an imported class among those of all files.
+    fn place(&self, names: &Names<'_>, package: u8, class: u8) -> Option<usize>
+        requires ready { IsIndexed names.now }
+        requires kept { AreTokens names.now.exports.now self.now }
+        ensures { option_and_then (slice_get (classes_of names.now.exports.now)) result ≡ imported names.now.exports.now package class }
+    {
+        let count = self.static_methods.items().len();
+        place_of(names, self.starts.items(), count, package, class)
+    }
+
+    /// Whether an imported class, which is no interface, lists a virtual method of this token or inherits one.
+    pub fn has_virtual(&self, names: &Names<'_>, package: u8, class: u8, token: u8) -> bool
+        requires ready { IsIndexed names.now }
+        requires kept { AreTokens names.now.exports.now self.now }
+        ensures { result ≡ class_has names.now.exports.now (imported names.now.exports.now package class) token }
+    {
+        let is_class = names.names(Want::Class, ClassRef::Outside { package, class });
+        let place = self.place(names, package, class);
+        is_class && told(self.virtuals.items(), token, place)
+    }
+
+    /// Whether an imported class, which is no interface, inherits a virtual method of this token.
+    pub fn inherits_virtual(&self, names: &Names<'_>, package: u8, class: u8, token: u8) -> bool
+        requires ready { IsIndexed names.now }
+        requires kept { AreTokens names.now.exports.now self.now }
+        ensures { result ≡ supers_have names.now.exports.now (imported names.now.exports.now package class) token }
+    {
+        let is_class = names.names(Want::Class, ClassRef::Outside { package, class });
+        let place = self.place(names, package, class);
+        is_class && told(self.inherited.items(), token, place)
+    }
+
+    /// Whether an imported class lists an instance field of this token or inherits one.
+    pub fn has_field(&self, names: &Names<'_>, package: u8, class: u8, token: u8) -> bool
+        requires ready { IsIndexed names.now }
+        requires kept { AreTokens names.now.exports.now self.now }
+        ensures { result ≡ class_has_field names.now.exports.now (imported names.now.exports.now package class) token }
+    {
+        told(self.fields.items(), token, self.place(names, package, class))
+    }
+
+    /// Whether an imported class lists a static method or a constructor of this token.
+    pub fn has_static_method(&self, names: &Names<'_>, package: u8, class: u8, token: u8) -> bool
+        requires ready { IsIndexed names.now }
+        requires kept { AreTokens names.now.exports.now self.now }
+        ensures { result ≡ has_static_method (imported names.now.exports.now package class) token }
+    {
+        told_of_class(self.static_methods.items(), token, self.place(names, package, class))
+    }
+
+    /// Whether an imported class lists a static field of this token.
+    pub fn has_static_field(&self, names: &Names<'_>, package: u8, class: u8, token: u8) -> bool
+        requires ready { IsIndexed names.now }
+        requires kept { AreTokens names.now.exports.now self.now }
+        ensures { result ≡ has_static_field (imported names.now.exports.now package class) token }
+    {
+        told_of_class(self.static_fields.items(), token, self.place(names, package, class))
+    }
+}
