@@ -8,13 +8,17 @@ use Rattle.cjc_export.specs.Supers.{classes_of, upwards, has_virtual, inherits_v
 use Rattle.cjc_imported.specs.declared.tokens.Tokens.{Tokens}
 use Rattle.cjc_sentences.specs.Members.{has_static_field, has_static_method, lists_field}
 
+-- what a byte holds
+unfoldable pub all_tokens : List ℕ
+all_tokens = range_with_len 0 256
+
 -- of each class its answers by token
 abbrev pub each_class : (test : (token : ℕ) → ExportClass → Bool) → List ExportClass → List (List Bool)
-each_class test classes = map (λ c. map (λ token. test token c) (range_with_len 0 256)) classes
+each_class test classes = map (λ c. map (λ token. test token c) all_tokens) classes
 
 -- by token the answers of all classes
 abbrev pub by_token : (test : (token : ℕ) → ExportClass → Bool) → List ExportClass → List (List Bool)
-by_token test classes = map (λ token. map (test token) classes) (range_with_len 0 256)
+by_token test classes = map (λ token. map (test token) classes) all_tokens
 
 -- the class or one of its supers lists an instance field with this token
 abbrev pub has_field : List ExportClass → (token : ℕ) → ExportClass → Bool

@@ -115,10 +115,7 @@ fn put_place<'a>(places: &mut Places<'a>, name: &'a [u8], at: usize) -> Result<(
 }
 
 /// The places of the first classes of their names.
-pub(crate) fn places_of<'a>(
-    alloc: Global,
-    classes: &[Listed<'a>],
-) -> Result<Places<'a>, NoMemory>
+pub(crate) fn places_of<'a>(alloc: Global, classes: &[Listed<'a>]) -> Result<Places<'a>, NoMemory>
     ensures { IfOk result (λ places. IsIndex places classes.now) }
 {
     let mut places = IndexMap::new(alloc);

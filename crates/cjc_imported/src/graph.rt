@@ -2,7 +2,7 @@
 //! `rows` and `tokens`.
 
 ghost use Rattle.std.specs.Prelude.{◌≡◌, List, [], ◌++◌, length, map, IfOk, OnOk};
-ghost use Rattle.std.specs.List.{fold, range_with_len};
+ghost use Rattle.std.specs.List.{fold};
 ghost use Rattle.std.specs.Str.{bytes_eq};
 ghost use Rattle.indexmap.specs.IndexMap.{get};
 ghost use Rattle.cjc_imported.specs.Working.Graph.{AreBelow, above_of, one_place, places, with_edge};
@@ -14,11 +14,7 @@ use cjc_bytes::{Bytes, NoMemory, Row};
 use std::alloc::Global;
 
 /// Puts the place of a name's first class at the end, if it has one.
-fn put_above<'a>(
-    row: &mut Row<usize>,
-    index: &Places<'a>,
-    name: &'a [u8],
-) -> Result<(), NoMemory>
+fn put_above<'a>(row: &mut Row<usize>, index: &Places<'a>, name: &'a [u8]) -> Result<(), NoMemory>
     ensures { OnOk result (row.new ≡ row.old ++ one_place (get bytes_eq index.now name.now)) }
 {
     match index.get(&Name { bytes: name }) {
@@ -28,11 +24,7 @@ fn put_above<'a>(
 }
 
 /// The places of the first classes of names.
-fn places<'a>(
-    alloc: Global,
-    index: &Places<'a>,
-    names: &'a [Bytes],
-) -> Result<Row<usize>, NoMemory>
+fn places<'a>(alloc: Global, index: &Places<'a>, names: &'a [Bytes]) -> Result<Row<usize>, NoMemory>
     ensures { (classes : List Class) → IsIndex index.now classes → IfOk result (λ row. row ≡ places classes names.now) }
 {
     let mut row = Row::new(alloc);
@@ -57,15 +49,15 @@ pub(crate) fn above_of<'a>(
     Ok(above)
 }
 
-/// So many empty rows.
-fn empty_rows(alloc: Global, count: usize) -> Result<Vec<Row<usize>>, NoMemory>
-    ensures { IfOk result (λ rows. rows.items ≡ map (λ i. []) (range_with_len 0 count)) }
+/// As many empty rows as there are rows.
+fn empty_rows(alloc: Global, rows: &[Row<usize>]) -> Result<Vec<Row<usize>>, NoMemory>
+    ensures { IfOk result (λ empty. empty.items ≡ map (λ row. []) rows.now) }
 {
-    let mut rows = Vec::new(alloc);
-    for _ in 0..count {
-        rows.push(Row::new(alloc))?;
+    let mut empty = Vec::new(alloc);
+    for _row in rows {
+        empty.push(Row::new(alloc))?;
     }
-    Ok(rows)
+    Ok(empty)
 }
 
 /// Puts a class below another one.
@@ -89,13 +81,10 @@ fn put_edges(below: &mut Vec<Row<usize>>, at: usize, above: &[usize]) -> Result<
 }
 
 /// What lists each class as a super, from what each class lists.
-pub(crate) fn below_of(
-    alloc: Global,
-    above: &[Row<usize>],
-) -> Result<Row<Row<usize>>, NoMemory>
+pub(crate) fn below_of(alloc: Global, above: &[Row<usize>]) -> Result<Row<Row<usize>>, NoMemory>
     ensures { IfOk result (λ below. AreBelow above.now below) }
 {
-    let mut below = empty_rows(alloc, above.len())?;
+    let mut below = empty_rows(alloc, above)?;
     for (i, row) in above.iter().enumerate() {
         put_edges(&mut below, i, row.items())?;
     }

@@ -1,16 +1,16 @@
 //! What each class lists itself, by token (Java Card Virtual Machine Specification 2.2.2, sections 5.8 and 5.9). Called by `tokens`. It
 //! knows no other class.
 
-ghost use Rattle.std.specs.Prelude.{◌≡◌, IfOk, length, map};
-ghost use Rattle.std.specs.List.{range_with_len};
+ghost use Rattle.std.specs.Prelude.{◌≡◌, ◌==◌, ◌&&◌, IfOk, length, map};
+ghost use Rattle.std.specs.List.{list_any};
 ghost use Rattle.cjc_export.specs.Supers.{is_virtual};
 ghost use Rattle.cjc_sentences.specs.Members.{is_unbound};
-ghost use Rattle.cjc_imported.specs.Tokens.{each_class};
+ghost use Rattle.cjc_imported.specs.Tokens.{all_tokens, each_class};
 ghost use Rattle.cjc_imported.specs.Working.Rows.{is_asked, is_wanted, lists_field, lists_method, with_answer};
 
 use crate::classes::Listed;
 use cjc_bytes::{NoMemory, Row, is_private, is_static};
-use cjc_export::{ExportClass, ExportField, ExportMethod};
+use cjc_export::{ExportField, ExportMethod};
 use std::alloc::Global;
 
 /// Whether a method is static or a constructor.
@@ -24,7 +24,9 @@ fn is_unbound(method: &ExportMethod) -> bool
 fn is_virtual(method: &ExportMethod) -> bool
     ensures { result ≡ is_virtual method.now }
 {
-    !(is_static(method.flags) || is_private(method.flags) || method.name.items() == b"<init>".as_slice())
+    !(is_static(method.flags)
+        || is_private(method.flags)
+        || method.name.items() == b"<init>".as_slice())
 }
 
 /// Whether a method is asked for.
@@ -57,23 +59,23 @@ fn with_answer(asked: bool, answers: Vec<bool>, token: u8) -> Vec<bool>
     answers
 }
 
-/// The tokens of a class's methods that are asked for.
-fn methods_of(alloc: Global, unbound: bool, class: &ExportClass) -> Result<Row<bool>, NoMemory>
-    ensures { IfOk result (λ row. row ≡ map (λ token. lists_method unbound token class.now) (range_with_len 0 256)) }
+/// The tokens of the methods that are asked for.
+fn methods_of(alloc: Global, unbound: bool, methods: &[ExportMethod]) -> Result<Row<bool>, NoMemory>
+    ensures { IfOk result (λ row. row ≡ map (λ token. list_any (λ m. is_asked unbound m && m.token == token) methods.now) all_tokens) }
 {
     let mut answers = vec![in alloc; false; 256]?;
-    for method in class.methods.items() {
+    for method in methods {
         answers = with_answer(is_asked(unbound, method), answers, method.token);
     }
     Ok(Row::of(answers))
 }
 
-/// The tokens of a class's fields that are asked for.
-fn fields_of(alloc: Global, statics: bool, class: &ExportClass) -> Result<Row<bool>, NoMemory>
-    ensures { IfOk result (λ row. row ≡ map (λ token. lists_field statics token class.now) (range_with_len 0 256)) }
+/// The tokens of the fields that are asked for.
+fn fields_of(alloc: Global, statics: bool, fields: &[ExportField]) -> Result<Row<bool>, NoMemory>
+    ensures { IfOk result (λ row. row ≡ map (λ token. list_any (λ f. is_wanted statics f && f.token == token) fields.now) all_tokens) }
 {
     let mut answers = vec![in alloc; false; 256]?;
-    for field in class.fields.items() {
+    for field in fields {
         answers = with_answer(is_wanted(statics, field), answers, field.token);
     }
     Ok(Row::of(answers))
@@ -89,7 +91,7 @@ pub(crate) fn method_tables(
 {
     let mut tables = Row::new(alloc);
     for listed in classes {
-        tables.push(methods_of(alloc, unbound, listed.class)?)?;
+        tables.push(methods_of(alloc, unbound, listed.class.methods.items())?)?;
     }
     Ok(tables)
 }
@@ -104,7 +106,7 @@ pub(crate) fn field_tables(
 {
     let mut tables = Row::new(alloc);
     for listed in classes {
-        tables.push(fields_of(alloc, statics, listed.class)?)?;
+        tables.push(fields_of(alloc, statics, listed.class.fields.items())?)?;
     }
     Ok(tables)
 }

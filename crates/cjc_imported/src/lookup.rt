@@ -18,24 +18,14 @@ use cjc_export::ExportClass;
 use cjc_lookup::{Names, Want};
 
 /// The place of the first class of a token among those of its file.
-fn place_in_file(
-    classes: &[ExportClass],
-    places: &[Option<usize>],
-    token: u8,
-) -> Option<usize>
+fn place_in_file(classes: &[ExportClass], places: &[Option<usize>], token: u8) -> Option<usize>
     requires { places.now ≡ places_of classes.now }
     ensures found { option_and_then (slice_get classes.now) result ≡ find (λ c. c.token == token) classes.now }
     ensures inside { IfSome result (λ at. at < length classes.now) }
 {
     let place = places[usize::from(token)];
     match place {
-        Some(at) => {
-            if at < classes.len() {
-                Some(at)
-            } else {
-                None
-            }
-        }
+        Some(at) => { if at < classes.len() { Some(at) } else { None } }
         None => None,
     }
 }
@@ -45,21 +35,21 @@ fn place_of(
     names: &Names<'_>,
     starts: &[usize],
     count: usize,
-    package: u8,
+    import: u8,
     class: u8,
 ) -> Option<usize>
     requires ready { IsIndexed names.now }
     requires starts { starts.now ≡ file_starts 0 names.now.exports.now }
     requires count { length (classes_of names.now.exports.now) ≡ count }
-    ensures { option_and_then (slice_get (classes_of names.now.exports.now)) result ≡ imported names.now.exports.now package class }
+    ensures { option_and_then (slice_get (classes_of names.now.exports.now)) result ≡ imported names.now.exports.now import class }
 {
-    let import = usize::from(package);
-    if import >= names.exports.len() || import >= names.tokens.len() || import >= starts.len() {
+    let file = usize::from(import);
+    if file >= names.exports.len() || file >= names.tokens.len() || file >= starts.len() {
         return None;
     }
-    let classes = names.exports[import].classes.items();
-    match place_in_file(classes, names.tokens[import].items(), class) {
-        Some(at) => Some(starts[import] + at),
+    let classes = names.exports[file].classes.items();
+    match place_in_file(classes, names.tokens[file].items(), class) {
+        Some(at) => Some(starts[file] + at),
         None => None,
     }
 }
@@ -97,61 +87,81 @@ fn told_of_class(tables: &[Row<bool>], token: u8, place: Option<usize>) -> bool
 
 impl Tokens {
     /// The place of an imported class among those of all files.
-    fn place(&self, names: &Names<'_>, package: u8, class: u8) -> Option<usize>
+    fn place(&self, names: &Names<'_>, import: u8, class: u8) -> Option<usize>
         requires ready { IsIndexed names.now }
         requires kept { AreTokens names.now.exports.now self.now }
-        ensures { option_and_then (slice_get (classes_of names.now.exports.now)) result ≡ imported names.now.exports.now package class }
+        ensures { option_and_then (slice_get (classes_of names.now.exports.now)) result ≡ imported names.now.exports.now import class }
     {
         let count = self.static_methods.items().len();
-        place_of(names, self.starts.items(), count, package, class)
+        place_of(names, self.starts.items(), count, import, class)
     }
 
     /// Whether an imported class, which is no interface, lists a virtual method of this token or inherits one.
-    pub fn has_virtual(&self, names: &Names<'_>, package: u8, class: u8, token: u8) -> bool
+    pub fn has_virtual(&self, names: &Names<'_>, import: u8, class: u8, token: u8) -> bool
         requires ready { IsIndexed names.now }
         requires kept { AreTokens names.now.exports.now self.now }
-        ensures { result ≡ class_has names.now.exports.now (imported names.now.exports.now package class) token }
+        ensures { result ≡ class_has names.now.exports.now (imported names.now.exports.now import class) token }
     {
-        let is_class = names.names(Want::Class, ClassRef::Outside { package, class });
-        let place = self.place(names, package, class);
+        let is_class = names.names(
+            Want::Class,
+            ClassRef::Outside {
+                package: import,
+                class,
+            },
+        );
+        let place = self.place(names, import, class);
         is_class && told(self.virtuals.items(), token, place)
     }
 
     /// Whether an imported class, which is no interface, inherits a virtual method of this token.
-    pub fn inherits_virtual(&self, names: &Names<'_>, package: u8, class: u8, token: u8) -> bool
+    pub fn inherits_virtual(&self, names: &Names<'_>, import: u8, class: u8, token: u8) -> bool
         requires ready { IsIndexed names.now }
         requires kept { AreTokens names.now.exports.now self.now }
-        ensures { result ≡ supers_have names.now.exports.now (imported names.now.exports.now package class) token }
+        ensures { result ≡ supers_have names.now.exports.now (imported names.now.exports.now import class) token }
     {
-        let is_class = names.names(Want::Class, ClassRef::Outside { package, class });
-        let place = self.place(names, package, class);
+        let is_class = names.names(
+            Want::Class,
+            ClassRef::Outside {
+                package: import,
+                class,
+            },
+        );
+        let place = self.place(names, import, class);
         is_class && told(self.inherited.items(), token, place)
     }
 
     /// Whether an imported class lists an instance field of this token or inherits one.
-    pub fn has_field(&self, names: &Names<'_>, package: u8, class: u8, token: u8) -> bool
+    pub fn has_field(&self, names: &Names<'_>, import: u8, class: u8, token: u8) -> bool
         requires ready { IsIndexed names.now }
         requires kept { AreTokens names.now.exports.now self.now }
-        ensures { result ≡ class_has_field names.now.exports.now (imported names.now.exports.now package class) token }
+        ensures { result ≡ class_has_field names.now.exports.now (imported names.now.exports.now import class) token }
     {
-        told(self.fields.items(), token, self.place(names, package, class))
+        told(self.fields.items(), token, self.place(names, import, class))
     }
 
     /// Whether an imported class lists a static method or a constructor of this token.
-    pub fn has_static_method(&self, names: &Names<'_>, package: u8, class: u8, token: u8) -> bool
+    pub fn has_static_method(&self, names: &Names<'_>, import: u8, class: u8, token: u8) -> bool
         requires ready { IsIndexed names.now }
         requires kept { AreTokens names.now.exports.now self.now }
-        ensures { result ≡ has_static_method (imported names.now.exports.now package class) token }
+        ensures { result ≡ has_static_method (imported names.now.exports.now import class) token }
     {
-        told_of_class(self.static_methods.items(), token, self.place(names, package, class))
+        told_of_class(
+            self.static_methods.items(),
+            token,
+            self.place(names, import, class),
+        )
     }
 
     /// Whether an imported class lists a static field of this token.
-    pub fn has_static_field(&self, names: &Names<'_>, package: u8, class: u8, token: u8) -> bool
+    pub fn has_static_field(&self, names: &Names<'_>, import: u8, class: u8, token: u8) -> bool
         requires ready { IsIndexed names.now }
         requires kept { AreTokens names.now.exports.now self.now }
-        ensures { result ≡ has_static_field (imported names.now.exports.now package class) token }
+        ensures { result ≡ has_static_field (imported names.now.exports.now import class) token }
     {
-        told_of_class(self.static_fields.items(), token, self.place(names, package, class))
+        told_of_class(
+            self.static_fields.items(),
+            token,
+            self.place(names, import, class),
+        )
     }
 }

@@ -1,6 +1,6 @@
 //! By token, which classes have a member or inherit one, from what each lists itself. Called by `tokens`.
 
-ghost use Rattle.std.specs.Prelude.{◌≡◌, ◌<◌, ℕ, List, IfOk, length, map, Bool};
+ghost use Rattle.std.specs.Prelude.{◌≡◌, ◌<◌, ℕ, List, IfOk, false, get_or, map, Bool};
 ghost use Rattle.cjc_export.specs.declared.tree.ExportClass.{ExportClass as Class};
 ghost use Rattle.cjc_imported.specs.Tokens.{by_token, each_class};
 ghost use Rattle.cjc_imported.specs.Working.Graph.{AreBelow, above_of};
@@ -39,7 +39,9 @@ fn closed_row(
     ensures { (classes : List Class) → (test : ℕ → Class → Bool) → AreBelow (above_of classes) below.now → tables.now ≡ each_class test classes
         → IfOk result (λ row. row ≡ map (has_or_inherits (test token) classes) classes) }
 {
-    reach(alloc, below, column(alloc, tables, token)?)
+    let begin = column(alloc, tables, token)?;
+    let marks = reach(alloc, below, begin)?;
+    Ok(marks)
 }
 
 /// By token, which classes have a member or inherit one.
@@ -71,11 +73,7 @@ fn is_any_marked(marks: &[bool], places: &[usize]) -> bool
 }
 
 /// Which classes inherit a member, from those that have or inherit one.
-fn inherited_row(
-    alloc: Global,
-    above: &[Row<usize>],
-    marks: &[bool],
-) -> Result<Row<bool>, NoMemory>
+fn inherited_row(alloc: Global, above: &[Row<usize>], marks: &[bool]) -> Result<Row<bool>, NoMemory>
     ensures { IfOk result (λ row. row ≡ map (is_any_marked marks.now) above.now) }
 {
     let mut row = Row::new(alloc);

@@ -63,7 +63,8 @@ fn virtuals_of(
     ensures { IfOk result (λ rows. rows ≡ by_token (has_virtual classes.now) classes.now) }
 {
     let tables = method_tables(alloc, false, classes)?;
-    closed_rows(alloc, below, tables.items())
+    let rows = closed_rows(alloc, below, tables.items())?;
+    Ok(rows)
 }
 
 /// By token, which classes have an instance field.
@@ -76,7 +77,8 @@ fn fields_of(
     ensures { IfOk result (λ rows. rows ≡ by_token (has_field classes.now) classes.now) }
 {
     let tables = field_tables(alloc, false, classes)?;
-    closed_rows(alloc, below, tables.items())
+    let rows = closed_rows(alloc, below, tables.items())?;
+    Ok(rows)
 }
 
 /// By token, which classes inherit a virtual method.
@@ -88,7 +90,8 @@ fn inherited_of(
     ensures { (classes : List Class) → above.now ≡ above_of classes → virtuals.now ≡ by_token (has_virtual classes) classes
         → IfOk result (λ rows. rows ≡ by_token (inherits_virtual classes) classes) }
 {
-    inherited_rows(alloc, above, virtuals)
+    let rows = inherited_rows(alloc, above, virtuals)?;
+    Ok(rows)
 }
 
 /// What classes have or inherit, by token, where it is known which stand above and below each.

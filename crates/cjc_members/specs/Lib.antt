@@ -1,1 +1,2 @@
 pub mod MemberSpots
+pub mod Working

@@ -2,6 +2,12 @@
 //! constant pool names fields, methods, tokens and cells that are there. Whoever tests components calls it. It knows no code.
 #![tactic(auto)]
 
+mod entries;
+mod fields;
+mod maps;
+mod members;
+mod needs;
 mod spots;
+mod virtuals;
 
 pub use spots::{MemberSpots, member_spots};

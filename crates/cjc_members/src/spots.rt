@@ -1,12 +1,21 @@
 //! Where 707 and 708 are broken first: what imported classes have, and what the classes of the package have, is made here, once.
 
-ghost use Rattle.std.specs.Prelude.{IfOk};
+ghost use Rattle.std.specs.Prelude.{◌≡◌, IfOk, length};
+ghost use Rattle.cjc_imported.specs.Tokens.{AreTokens};
 ghost use Rattle.cjc_lookup.specs.MethodStarts.{HasMethods};
 ghost use Rattle.cjc_lookup.specs.Parts.{complete_of};
 ghost use Rattle.cjc_members.specs.MemberSpots.{AreMemberSpots};
+ghost use Rattle.cjc_members.specs.Working.Above.{AreAbove};
 ghost use Rattle.cjc_sentences.specs.Complete.{AreSmall};
 
-use cjc_bytes::NoMemory;
+use crate::entries::entry_spot;
+use crate::fields::fields_of;
+use crate::maps::map_spot;
+use crate::members::Members;
+use crate::needs::needs_of;
+use crate::virtuals::above_of;
+use cjc_bytes::{NoMemory, Row};
+use cjc_imported::{Tokens, imported_tokens};
 use cjc_lookup::Methods;
 use cjc_sentences::Spot;
 use std::alloc::Global;
@@ -18,13 +27,44 @@ pub struct MemberSpots {
     pub entries: Option<Spot>,
 }
 
+/// The first places, where it is kept what imported classes and superclasses have.
+fn by_tables(
+    alloc: Global,
+    methods: &Methods<'_>,
+    tokens: &Tokens,
+    above: &[Row<bool>],
+) -> Result<MemberSpots, NoMemory>
+    requires ready { HasMethods methods.now }
+    requires small { AreSmall (complete_of methods.now.names.now.parts.now) }
+    requires kept { AreTokens methods.now.names.now.exports.now tokens.now }
+    requires known { AreAbove methods.now.names.now.parts.now.class.now methods.now.names.now.exports.now above.now }
+    requires all { length above.now ≡ length methods.now.names.now.parts.now.class.now.classes }
+    ensures { IfOk result (λ r. AreMemberSpots r (complete_of methods.now.names.now.parts.now) methods.now.names.now.exports.now) }
+{
+    let parts = methods.names.parts;
+    let fields = fields_of(alloc, parts)?;
+    let needs = needs_of(alloc, parts.descriptor.classes.items())?;
+    let members = Members {
+        methods,
+        tokens,
+        above,
+        fields: &fields,
+        needs: &needs,
+    };
+    Ok(MemberSpots {
+        maps: map_spot(&members),
+        entries: entry_spot(&members),
+    })
+}
+
 /// Where 707 and 708 are broken first, each by itself.
 pub fn member_spots(alloc: Global, methods: &Methods<'_>) -> Result<MemberSpots, NoMemory>
     requires ready { HasMethods methods.now }
     requires small { AreSmall (complete_of methods.now.names.now.parts.now) }
     ensures { IfOk result (λ r. AreMemberSpots r (complete_of methods.now.names.now.parts.now) methods.now.names.now.exports.now) }
 {
-    let _methods = methods;
-    let _alloc = alloc;
-    Err(NoMemory)
+    let names = methods.names;
+    let tokens = imported_tokens(alloc, names.exports)?;
+    let above = above_of(alloc, names, &tokens)?;
+    by_tables(alloc, methods, &tokens, above.items())
 }
