@@ -1,2 +1,4 @@
 pub mod Coded
+pub mod Firsts
 pub mod Linked
+pub mod Order

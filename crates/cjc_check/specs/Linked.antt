@@ -5,7 +5,8 @@ use Rattle.cjc_check.specs.declared.linked.Linked.{Linked}
 use Rattle.cjc_sentences.specs.Spots.{first}
 use Rattle.cjc_sentences.specs.Complete.{Complete}
 use Rattle.cjc_sentences.specs.ClassRefs.{class_ref_spots, super_spots}
-use Rattle.cjc_sentences.specs.Tables.{table_spots}
+use Rattle.cjc_sentences.specs.PoolEntries.{pool_spots}
+use Rattle.cjc_sentences.specs.Tables.{map_spots, table_spots}
 use Rattle.cjc_sentences.specs.Statics.{install_spots}
 use Rattle.cjc_sentences.specs.Exports.{export_spots}
 use Rattle.cjc_sentences.specs.Described.{descriptor_spots}
@@ -14,6 +15,8 @@ pub record AreFirst (r : Linked) (c : Complete) (exports : List ExportTree) : Ty
   pub class_refs : r.class_refs ≡ first (class_ref_spots c exports)
   pub supers : r.supers ≡ first (super_spots c exports)
   pub tables : r.tables ≡ first (table_spots c)
+  pub maps : r.maps ≡ first (map_spots c exports)
+  pub entries : r.entries ≡ first (pool_spots c exports)
   pub installs : r.installs ≡ first (install_spots c)
   pub exported : r.exported ≡ first (export_spots c)
   pub descriptor : r.descriptor ≡ first (descriptor_spots c)

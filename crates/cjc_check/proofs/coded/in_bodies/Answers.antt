@@ -1,11 +1,13 @@
-use Rattle.std.proofs.Common.{ℕ, List, ◌+◌, ◌++◌, ap, ◌∙◌, length, map}
+use Rattle.std.proofs.Common.{ℕ, List, ◌+◌, ◌++◌, ap, sym, subst, ◌∙◌, length, map}
 use Rattle.std.specs.Prelude.{flat_map}
 use Rattle.cjc_capread.specs.declared.tree.Handler.{Handler}
 use Rattle.cjc_capread.specs.declared.tree.PoolEntry.{PoolEntry}
 use Rattle.cjc_codes.specs.Bodies.{code_of}
 use Rattle.cjc_jumps.specs.Listing.{wanted_ones, wanted_twos}
 use Rattle.cjc_jumps.specs.Offsets.{index_spot, operand_at}
-use Rattle.cjc_jumps.specs.Standing.{handler_stands}
+use Rattle.cjc_jumps.proofs.Apart.{codes_apart}
+use Rattle.cjc_jumps.specs.Standing.{AreApart, handler_stands}
+use Rattle.cjc_lookup.specs.Parts.{complete_of}
 use Rattle.cjc_jumps.specs.declared.indices.IndexAt.{IndexAt}
 use Rattle.cjc_sentences.specs.Codes.{Code}
 use Rattle.cjc_sentences.specs.Handlers.{targets_from}
@@ -13,6 +15,9 @@ use Rattle.cjc_sentences.specs.Instructions.{IndexOperand, code_spots, indices}
 use Rattle.cjc_sentences.specs.Locations.{are_listed}
 use Rattle.cjc_sentences.specs.Spots.{along, first}
 use Rattle.cjc_check.proofs.coded.in_bodies.Goals as goal
+
+pub handler_spot-requires-clause-apart : goal.handler_spot-requires-clause-apart
+handler_spot-requires-clause-apart c = let P : List Code → Type 0 = AreApart 0 in subst P (sym c.requires.is) (codes_apart (complete_of c.args.names.now.parts.now))
 
 pub returns : goal.returns
 returns c =

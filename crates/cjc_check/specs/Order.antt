@@ -1,0 +1,10 @@
+-- The first place of a sentence as a break.
+use Rattle.std.specs.Prelude.{ℕ, Bool, true, false, Option, Some, None, if◌then◌else◌}
+use Rattle.cjc_bytes.specs.Breaks.{Break}
+use Rattle.cjc_sentences.specs.declared.spot.Spot.{Spot}
+use Rattle.cjc_sentences.specs.Consistent.{break_at}
+
+-- where those that it needs are true
+abbrev pub as_break : (number : ℕ) → (needed : Bool) → Option Spot → Option Break
+as_break number needed None = None
+as_break number needed (Some s) = if needed then Some (break_at number s) else None
