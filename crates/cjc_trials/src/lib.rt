@@ -5,7 +5,11 @@
 #[cfg(test)]
 mod drafts;
 #[cfg(test)]
+mod found;
+#[cfg(test)]
 mod inheritance;
+#[cfg(test)]
+mod instructions;
 #[cfg(test)]
 mod subsets;
 #[cfg(test)]
