@@ -9,9 +9,11 @@
 //! - `insn OFFSET NAME OPERAND` is an instruction of the first method of the first class.
 //!
 //! A member is `FLAGS NAME DESCRIPTOR`, with a token before where it is a method of an export file, and behind it
-//! `MAX_STACK MAX_LOCALS HANDLERS CAUGHT` where it is a method with code; `fields COUNT` and `methods COUNT FLAGS` are so
-//! many members more. Flags are hexadecimal, lists have commas, and `-` is an empty one. A case is such lines with ` ; `
-//! between them, then ` = ` and what is answered, then maybe ` # ` and why.
+//! `MAX_STACK MAX_LOCALS HANDLERS CAUGHT` where it is a method with code; `fields COUNT` and `methods COUNT FLAGS` are
+//! so many members more. Flags are hexadecimal, lists have commas, and `-` is an empty one. A case is such lines with
+//! ` ; ` between them, then ` = ` and what is answered, then maybe ` # ` and why.
+
+ghost use Rattle.std.specs.Prelude.{◌≤◌};
 
 use crate::instructions::instruction;
 use cjc_bytes::{AppletLine, Bytes, Fault, FileLine, MemberId, NoMemory, Place, Row};
@@ -22,8 +24,8 @@ use cjc_world::World;
 use std::alloc::Global;
 use std::mem::replace;
 
-/// Object with a constructor and equals, Throwable, and the exceptions that java/lang needs, each below Throwable. Eight
-/// classes in all.
+/// Object with a constructor and equals, Throwable, and the exceptions that java/lang needs, each below Throwable.
+/// Eight classes in all.
 pub(crate) const LANGUAGE: &str = "\
 export java/lang
 import java/lang/Object 1 - - | 0 1 <init> ()V | 0 1 equals (Ljava/lang/Object;)Z
@@ -83,39 +85,50 @@ pub(crate) fn list_of(text: &str) -> &str {
     if text == "-" { "" } else { text }
 }
 
-/// A number of a case; what is none ends the case as want of memory does.
-pub(crate) fn number(word: &str) -> Result<u32, NoMemory> {
-    match word.parse::<u32>() {
+/// The number that a word has in this base; what is none ends the case as want of memory does.
+fn number_in(word: &str, base: u32) -> Result<u32, NoMemory>
+    requires least { 2 ≤ base }
+    requires most { base ≤ 36 }
+{
+    match u32::from_str_radix(word, base) {
         Ok(number) => Ok(number),
         Err(_) => Err(NoMemory),
+    }
+}
+
+pub(crate) fn number(word: &str) -> Result<u32, NoMemory> {
+    number_in(word, 10)
+}
+
+fn small(number: u32) -> Result<u16, NoMemory> {
+    if number < 65536 {
+        Ok(number as u16)
+    } else {
+        Err(NoMemory)
     }
 }
 
 fn small_number(word: &str) -> Result<u16, NoMemory> {
-    match word.parse::<u16>() {
-        Ok(number) => Ok(number),
-        Err(_) => Err(NoMemory),
-    }
+    small(number(word)?)
+}
+
+fn access_flags(word: &str) -> Result<u16, NoMemory> {
+    small(number_in(word, 16)?)
 }
 
 /// A token of a case, or the type number of an array.
 pub(crate) fn token(word: &str) -> Result<u8, NoMemory> {
-    match word.parse::<u8>() {
-        Ok(token) => Ok(token),
-        Err(_) => Err(NoMemory),
+    let number = number(word)?;
+    if number < 256 {
+        Ok(number as u8)
+    } else {
+        Err(NoMemory)
     }
 }
 
-fn access_flags(word: &str) -> Result<u16, NoMemory> {
-    match u16::from_str_radix(word, 16) {
-        Ok(flags) => Ok(flags),
-        Err(_) => Err(NoMemory),
-    }
-}
-
-pub(crate) fn is_number(word: &str, number: u32) -> bool {
-    match word.parse::<u32>() {
-        Ok(given) => given == number,
+pub(crate) fn is_number(word: &str, wanted: u32) -> bool {
+    match number(word) {
+        Ok(number) => number == wanted,
         Err(_) => false,
     }
 }
