@@ -1,13 +1,12 @@
 -- What some items of a list break, one item after the other, and what is answered of it.
-use Rattle.std.proofs.Common.{◌≡◌, ◌⊎◌, inl, inr, ℕ, ◌+◌, ◌<◌, ◌≤◌, List, [], ◌∷◌, ◌++◌, Option, Some, None, Result, Ok, Err, IfOk, IfErr, OnOk, length, get_or, refl, sym, ap, subst, ◌∙◌, ⊎_elim, arith}
+use Rattle.std.proofs.Common.{◌≡◌, ◌⊎◌, inl, inr, ℕ, ◌+◌, ◌<◌, ◌≤◌, List, [], ◌++◌, Option, Some, None, Result, Ok, Err, IfOk, IfErr, OnOk, length, get_or, refl, sym, ap, subst, ◌∙◌, ⊎_elim, arith}
 use Rattle.std.specs.Prelude.{slice_get, option_map}
 use Rattle.std.proofs.lemmas.Bool.{cases_lt}
 use Rattle.std.proofs.lemmas.Option.{slice_get_within}
 use Rattle.cjc_bytes.specs.declared.fault.Fault.{Fault}
 use Rattle.cjc_bytes.specs.declared.fault.Fault.TheVariants as faults
-use Rattle.cjc_bytes.specs.declared.fault.Refusal.{Refusal}
 use Rattle.cjc_bytes.specs.Breaks.{IsFirstOf}
-use Rattle.cjc_bytes.specs.Breaks.{Break, Among, foremost, after, IsFirst}
+use Rattle.cjc_bytes.specs.Breaks.{Break, Among, IsFirst}
 use Rattle.cjc_judge.specs.Rules.{AnyBreaks, IsListOf, IsFirstIn, IsFirstFault}
 use Rattle.cjc_bytes.proofs.Firsts.{among_either, among_left, among_right}
 use Rattle.cjc_judge.proofs.Firsts.{none_among}

@@ -10,6 +10,7 @@ pub mod Typed
 pub mod Tables
 pub mod Whole
 pub mod Each
+pub mod Early
 pub mod Places
 pub mod ToldWorld
 pub mod ToldRules

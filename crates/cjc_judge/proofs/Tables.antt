@@ -1,22 +1,18 @@
 -- Type tables, one method after the other.
-use Rattle.std.proofs.Common.{◌≡◌, ℕ, ◌+◌, ◌<◌, ◌≤◌, List, [], ◌∷◌, ◌++◌, Option, Some, None, IfNone, length, get_or, take, refl, sym, ap, subst, ◌∙◌, ⊎_elim, arith}
-use Rattle.std.specs.Prelude.{slice_get, option_map}
-use Rattle.std.proofs.lemmas.Bool.{cases_lt}
+use Rattle.std.proofs.Common.{◌≡◌, ℕ, ◌+◌, ◌<◌, ◌≤◌, List, [], ◌∷◌, ◌++◌, Option, Some, None, IfNone, length, get_or, take, refl, sym, ap, subst}
+use Rattle.std.specs.Prelude.{option_map}
 use Rattle.std.proofs.lemmas.List.{take_all}
-use Rattle.std.proofs.lemmas.Option.{slice_get_within}
 use Rattle.cjc_code.specs.declared.method_code.MethodCode.{MethodCode}
 use Rattle.cjc_bytes.specs.Breaks.{IsFirstOf}
 use Rattle.cjc_types.specs.declared.table.TypeTable.{TypeTable}
 use Rattle.cjc_world.specs.Files.{Files}
 use Rattle.cjc_bytes.specs.Breaks.{Break, Among}
-use Rattle.cjc_judge.specs.declared.groups.Group.{Group}
-use Rattle.cjc_judge.specs.declared.groups.Group.TheVariants as groups
 use Rattle.cjc_judge.specs.Rules.{IsFirstIn}
-use Rattle.cjc_judge.specs.Types.{IsTableOf, AreTables, AreTablesWhereNamed}
-use Rattle.cjc_judge.specs.Working.Groups.{PutsTable, LeavesTables, AreTablesBelow}
+use Rattle.cjc_judge.specs.Types.{IsTableOf, AreTables}
+use Rattle.cjc_judge.specs.Working.Groups.{PutsTable}
 use Rattle.cjc_bytes.proofs.Firsts.{among_left, among_right}
 use Rattle.cjc_judge.proofs.Firsts.{none_among}
-use Rattle.cjc_judge.proofs.Items.{item_at, front_more}
+use Rattle.cjc_judge.proofs.Items.{front_more}
 
 -- ---- where nothing is broken
 
@@ -68,34 +64,6 @@ more_tables world codes i code old new lt is h (table, e, here) =
 -- all of them
 pub all_tables : (world : Files) (codes : List MethodCode) (i : ℕ) (tables : List TypeTable) → length codes ≤ i → AreTables world (take i codes) tables → AreTables world codes tables
 all_tables world codes i tables low h = subst (λ (cs : List MethodCode). AreTables world cs tables) (take_all i codes low) h
-
--- ---- one group after the other
-
-left : (world : Files) (codes : List MethodCode) (g : Group) (old new : List TypeTable) → LeavesTables g world codes old new → AreTables world codes old → AreTables world codes new
-left world codes groups.Unsupported old new e h = subst (AreTables world codes) (sym e) h
-left world codes groups.Language old new e h = subst (AreTables world codes) (sym e) h
-left world codes groups.Initialisers old new e h = subst (AreTables world codes) (sym e) h
-left world codes groups.Limits old new e h = subst (AreTables world codes) (sym e) h
-left world codes groups.Tokens old new e h = subst (AreTables world codes) (sym e) h
-left world codes groups.Types old new e h = e
-
-made : (world : Files) (codes : List MethodCode) (g : Group) (old new : List TypeTable) → LeavesTables g world codes old new → g ≡ groups.Types → AreTables world codes new
-made world codes g old new e is = subst (λ (g : Group). LeavesTables g world codes old new) is e
-
-same : {A : Type 0} {o : Option A} (x y : A) → o ≡ Some x → o ≡ Some y → x ≡ y
-same x y e f = let g = sym e ∙ f in cc
-
-pub no_tables : (tested : List Group) (world : Files) (codes : List MethodCode) (tables : List TypeTable) → AreTablesBelow 0 tested world codes tables
-no_tables tested world codes tables i lt at = absurd (omega (arith, lt))
-
-pub more_groups : (tested : List Group) (world : Files) (codes : List MethodCode) (k : ℕ) (g : Group) (old new : List TypeTable) → k < length tested → g ≡ get_or tested k g → AreTablesBelow k tested world codes old → LeavesTables g world codes old new → AreTablesBelow (k + 1) tested world codes new
-more_groups tested world codes k g old new lt is h e i below at = ⊎_elim
-    (λ before. left world codes g old new e (h i before at))
-    (λ not. made world codes g old new e (let here : i ≡ k = omega (arith, below, not) in same g groups.Types (item_at tested k g lt is) (ap (slice_get tested) (sym here) ∙ at)))
-    (cases_lt i k)
-
-pub all_groups : (tested : List Group) (world : Files) (codes : List MethodCode) (k : ℕ) (tables : List TypeTable) → length tested ≤ k → AreTablesBelow k tested world codes tables → AreTablesWhereNamed tested world codes tables
-all_groups tested world codes k tables low h i at = h i (let lt = slice_get_within tested i groups.Types at in omega (arith, lt, low)) at
 
 -- ---- what is answered
 

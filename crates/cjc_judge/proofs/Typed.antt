@@ -1,14 +1,13 @@
 -- What methods break of 501 to 503, as a list.
-use Rattle.std.proofs.Common.{◌≡◌, ◌⊎◌, inl, inr, ℕ, zero, suc, ◌+◌, ◌<◌, ◌≤◌, List, [], ◌∷◌, ◌++◌, Option, Some, None, Result, Ok, Err, IfErr, OnOk, length, get_or, refl, sym, ap, subst, ◌∙◌, ⊎_elim, arith}
+use Rattle.std.proofs.Common.{◌≡◌, ◌⊎◌, inl, inr, ℕ, zero, suc, ◌<◌, List, [], ◌∷◌, Option, Some, None, Ok, Err, length, get_or, refl, sym, ap, subst, ◌∙◌, arith}
 use Rattle.std.specs.Prelude.{slice_get}
-use Rattle.std.proofs.lemmas.Bool.{cases_lt}
 use Rattle.std.proofs.lemmas.Option.{slice_get_within}
 use Rattle.cjc_bytes.specs.declared.breaks.BrokenAt.{BrokenAt}
 use Rattle.cjc_classfile.specs.Code.{CodeTree}
 use Rattle.cjc_classfile.specs.declared.tree.ClassTree.{ClassTree}
 use Rattle.cjc_classfile.specs.declared.tree.MethodTree.{MethodTree}
 use Rattle.cjc_code.specs.declared.method_code.MethodCode.{MethodCode}
-use Rattle.cjc_bytes.specs.Breaks.{IsFirstOf, Break, Among, foremost, after, IsFirst}
+use Rattle.cjc_bytes.specs.Breaks.{IsFirstOf, Break, Among, foremost, after}
 use Rattle.cjc_types.specs.declared.inference.InferError.{InferError}
 use Rattle.cjc_types.specs.declared.inference.InferError.TheVariants as errors
 use Rattle.cjc_types.specs.declared.table.TypeTable.{TypeTable}
@@ -16,7 +15,6 @@ use Rattle.cjc_types.specs.Flow.{body_of}
 use Rattle.cjc_types.specs.Tables.{IsMethodOf, IsBrokenBy, IsAnswer}
 use Rattle.cjc_world.specs.Classes.{all_classes}
 use Rattle.cjc_world.specs.Files.{Files}
-use Rattle.cjc_bytes.specs.Order.{file_of}
 use Rattle.cjc_judge.specs.Rules.{type_break, BreaksType, IsFirstIn}
 use Rattle.cjc_bytes.proofs.Firsts.{first_of_one}
 use Rattle.cjc_judge.proofs.Firsts.{none_among}

@@ -1,9 +1,8 @@
 -- From the parts of judging to the whole.
-use Rattle.std.proofs.Common.{◌≡◌, ℕ, suc, ◌+◌, ◌<◌, ◌⊎◌, inl, inr, Bool, true, false, List, [], ◌∷◌, count_by, not, if◌then◌else◌, Result, Ok, Err, All, length, refl, sym, ap, subst, ◌∙◌, arith}
+use Rattle.std.proofs.Common.{◌≡◌, ℕ, suc, ◌+◌, ◌<◌, inl, inr, Bool, true, false, List, [], ◌∷◌, count_by, not, if◌then◌else◌, Err, All, length, refl, sym, ap, subst, ◌∙◌, arith}
 use Rattle.std.proofs.lemmas.List.Sums.{sum_by-cons}
 use Rattle.cjc_bytes.specs.declared.fault.Fault.{Fault}
 use Rattle.cjc_bytes.specs.declared.fault.Fault.TheVariants as faults
-use Rattle.cjc_bytes.specs.declared.fault.Refusal.{Refusal}
 use Rattle.cjc_bytes.specs.declared.settings.FileLine.{FileLine}
 use Rattle.cjc_classfile.specs.declared.tree.ClassTree.{ClassTree}
 use Rattle.cjc_code.specs.declared.method_code.MethodCode.{MethodCode}
@@ -21,8 +20,8 @@ use Rattle.cjc_judge.specs.declared.reading.Trees.{Trees}
 use Rattle.cjc_code.specs.PackageCodes.{all_codes}
 use Rattle.cjc_judge.specs.Codes.{all_foreigns}
 use Rattle.cjc_judge.specs.Judged.{IsJudged, IsStopped}
-use Rattle.cjc_judge.specs.Rules.{Breach, world_files, files_spelt, IsFirstFault}
-use Rattle.cjc_judge.specs.Spelt.{classes_of, exports_of, IsRead}
+use Rattle.cjc_judge.specs.Rules.{world_files, files_spelt, IsFirstFault}
+use Rattle.cjc_judge.specs.Spelt.{classes_of, IsRead}
 use Rattle.cjc_judge.specs.Types.{AreTablesWhereNamed}
 use Rattle.cjc_judge.specs.Working.Reading.{IsReadAs, ReadsFiles}
 use Rattle.cjc_judge.specs.Working.Groups.{WorldBreaksAny}

@@ -8,7 +8,8 @@ ghost use Rattle.cjc_types.specs.Tables.{IsOfPackage};
 ghost use Rattle.cjc_tokens.specs.Rules.{tested_breaks};
 ghost use Rattle.cjc_judge.specs.Rules.{foreign_break, foreign_breaks, settings_of, BreaksType, BreaksAnyType, IsFirstIn, IsFirstFault, IsOfThirdHundred};
 ghost use Rattle.cjc_judge.specs.Types.{AreTables, AreTablesWhereNamed};
-ghost use Rattle.cjc_judge.specs.Working.Groups.{WorldBreaks, WorldBreaksAny, PutsTable, LeavesTables};
+ghost use Rattle.std.specs.List.{list_any};
+ghost use Rattle.cjc_judge.specs.Working.Groups.{EarlyBreaks, EarlyBreaksAny, NamedTypeBreaks, WorldBreaksAny, PutsTable, is_types as is_types_group};
 
 use crate::groups::Group;
 use crate::reading::Foreign;
@@ -162,7 +163,7 @@ fn of_third_hundred<'w>(broken: Option<Break<'w>>) -> Option<Break<'w>>
     }
 }
 
-// What of a group is broken first.
+// What of a group is broken first. Types are left to `named_types`: every rule of another group stands before theirs.
 fn group_break<'w>(
     alloc: Global,
     list: &'w List,
@@ -171,12 +172,10 @@ fn group_break<'w>(
     foreigns: &[Foreign],
     settings: &Settings,
     group: Group,
-    types: &mut Row<TypeTable>,
 ) -> Result<Option<Break<'w>>, NoMemory>
     requires codes { All (IsOfPackage world.now) codes.now }
     requires settings { settings.now ≡ settings_of list.now }
-    ensures first { IfOk result (λ b. IsFirstIn (WorldBreaks list.now world.now codes.now foreigns.now group) (option_map break_of b)) }
-    ensures types { IfOk result (λ b. IfNone b (LeavesTables group world.now codes.now types.old types.new)) }
+    ensures { IfOk result (λ b. IsFirstIn (EarlyBreaks list.now world.now codes.now foreigns.now group) (option_map break_of b)) }
 {
     match group {
         Group::Unsupported => Ok(foreigns_break(world, foreigns)),
@@ -187,14 +186,11 @@ fn group_break<'w>(
         Group::Initialisers => cjc_clinit::first_broken(alloc, world, codes),
         Group::Limits => first_broken(alloc, list.name.items(), world, codes, settings),
         Group::Tokens => tokens_break(alloc, world, settings),
-        Group::Types => {
-            *types = Row::new(alloc);
-            types_break(alloc, world, codes.items(), types)
-        }
+        Group::Types => Ok(None),
     }
 }
 
-// What of some groups is broken first. Where nothing is, and types are among the groups, these are the types of all methods.
+// What of some groups is broken first, but for types.
 fn groups_break<'w>(
     alloc: Global,
     list: &'w List,
@@ -202,25 +198,64 @@ fn groups_break<'w>(
     codes: &Codes,
     foreigns: &[Foreign],
     groups: &[Group],
-    types: &mut Row<TypeTable>,
 ) -> Result<Option<Break<'w>>, NoMemory>
     requires { All (IsOfPackage world.now) codes.now }
-    ensures types { IfOk result (λ b. IfNone b (AreTablesWhereNamed groups.now world.now codes.now types.new)) }
-    ensures first { IfOk result (λ b. IsFirstIn (WorldBreaksAny list.now world.now codes.now foreigns.now groups.now) (option_map break_of b)) }
+    ensures { IfOk result (λ b. IsFirstIn (EarlyBreaksAny list.now world.now codes.now foreigns.now groups.now) (option_map break_of b)) }
 {
     let settings = settings(alloc, list)?;
     let mut least = None;
     for group in groups {
-        let broken = group_break(
-            alloc, list, world, codes, foreigns, &settings, *group, types,
-        )?;
+        let broken = group_break(alloc, list, world, codes, foreigns, &settings, *group)?;
         least = first(least, broken);
     }
     Ok(least)
 }
 
+fn is_types(group: Group) -> bool
+    ensures { result ≡ is_types_group group }
+{
+    match group {
+        Group::Types => true,
+        _ => false,
+    }
+}
+
+// Whether types are among the groups.
+fn has_types(groups: &[Group]) -> bool
+    ensures { result ≡ list_any is_types_group groups.now }
+{
+    for group in groups {
+        if is_types(*group) {
+            return true;
+        }
+    }
+    false
+}
+
+// The types of all methods, where types are among the groups.
+fn named_types(
+    alloc: Global,
+    world: &World<'_>,
+    codes: &Codes,
+    groups: &[Group],
+) -> Result<Row<TypeTable>, Fault>
+    requires { All (IsOfPackage world.now) codes.now }
+    ensures types { IfOk result (AreTablesWhereNamed groups.now world.now codes.now) }
+    ensures unbroken { OnOk result ((b : Broken) → NamedTypeBreaks world.now codes.now groups.now b → ⊥) }
+    ensures refused { IfErr result (IsFirstFault (NamedTypeBreaks world.now codes.now groups.now)) }
+{
+    let mut types = Row::new(alloc);
+    if !has_types(groups) {
+        return Ok(types);
+    }
+    let broken = types_break(alloc, world, codes.items(), &mut types)?;
+    answer(alloc, broken)?;
+    Ok(types)
+}
+
 /// Tests a world, whose methods have these codes and break 303 at these places, for groups of rules. A refusal is the first of
-/// what is broken; else these are the types of all methods, where types are among the groups.
+/// what is broken; else these are the types of all methods, where types are among the groups. They are inferred only where no
+/// other rule is broken, so that what inference costs is bounded by the limits of methods.
 pub(crate) fn test(
     alloc: Global,
     list: &List,
@@ -234,8 +269,7 @@ pub(crate) fn test(
     ensures unbroken { OnOk result ((b : Broken) → WorldBreaksAny list.now world.now codes.now foreigns.now groups.now b → ⊥) }
     ensures refused { IfErr result (IsFirstFault (WorldBreaksAny list.now world.now codes.now foreigns.now groups.now)) }
 {
-    let mut types = Row::new(alloc);
-    let broken = groups_break(alloc, list, world, codes, foreigns, groups, &mut types)?;
+    let broken = groups_break(alloc, list, world, codes, foreigns, groups)?;
     answer(alloc, broken)?;
-    Ok(types)
+    named_types(alloc, world, codes, groups)
 }

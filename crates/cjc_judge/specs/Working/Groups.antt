@@ -1,5 +1,5 @@
 -- What a world breaks of each group, and which types are kept.
-use Rattle.std.specs.Prelude.{◌≡◌, ℕ, ◌<◌, List, [], ◌∷◌, ◌++◌, Some, slice_get}
+use Rattle.std.specs.Prelude.{◌≡◌, ℕ, Bool, true, false, List, [], ◌∷◌, ◌++◌, Some, slice_get}
 use Rattle.cjc_code.specs.declared.method_code.MethodCode.{MethodCode}
 use Rattle.cjc_list.specs.Listed.{ListTree}
 use Rattle.cjc_subset.specs.Checks.{check_breaks}
@@ -11,7 +11,7 @@ use Rattle.cjc_bytes.specs.Breaks.{Break, Among}
 use Rattle.cjc_judge.specs.declared.groups.Group.{Group}
 use Rattle.cjc_judge.specs.declared.groups.Group.TheVariants as groups
 use Rattle.cjc_judge.specs.declared.reading.Foreign.{Foreign}
-use Rattle.cjc_judge.specs.Types.{IsTableOf, AreTables}
+use Rattle.cjc_judge.specs.Types.{IsTableOf}
 use Rattle.cjc_judge.specs.Rules.{foreign_breaks, settings_of, has_applets, IsOfThirdHundred, BreaksAnyType, AnyBreaks}
 
 -- one line a group: the methods of the world have these codes, and these break 303
@@ -27,19 +27,29 @@ WorldBreaks list world codes foreigns groups.Types b = BreaksAnyType world codes
 abbrev pub WorldBreaksAny : ListTree → Files → List MethodCode → List Foreign → List Group → Break → Type 0
 WorldBreaksAny list world codes foreigns tested b = AnyBreaks (WorldBreaks list world codes foreigns) tested b
 
+-- ---- types are tested last
+
+abbrev pub is_types : Group → Bool
+is_types groups.Types = true
+is_types _ = false
+
+-- what is broken of a group before types are tested
+abbrev pub EarlyBreaks : ListTree → Files → List MethodCode → List Foreign → Group → Break → Type 0
+EarlyBreaks list world codes foreigns groups.Unsupported b = Among b (foreign_breaks world foreigns)
+EarlyBreaks list world codes foreigns groups.Language b = Among b (check_breaks list.name world codes (settings_of list)) × IsOfThirdHundred b
+EarlyBreaks list world codes foreigns groups.Initialisers b = BreaksImage world codes b
+EarlyBreaks list world codes foreigns groups.Limits b = Among b (check_breaks list.name world codes (settings_of list))
+EarlyBreaks list world codes foreigns groups.Tokens b = Among b (tested_breaks (has_applets list) world)
+EarlyBreaks list world codes foreigns groups.Types b = ⊥
+
+-- of some one of these groups
+abbrev pub EarlyBreaksAny : ListTree → Files → List MethodCode → List Foreign → List Group → Break → Type 0
+EarlyBreaksAny list world codes foreigns tested b = AnyBreaks (EarlyBreaks list world codes foreigns) tested b
+
+-- what is broken of types, where they are among these groups
+abbrev pub NamedTypeBreaks : Files → List MethodCode → List Group → Break → Type 0
+NamedTypeBreaks world codes tested b = (i : ℕ) × (slice_get tested i ≡ Some groups.Types) × BreaksAnyType world codes b
+
 -- the types of one method more
 abbrev pub PutsTable : Files → MethodCode → (old new : List TypeTable) → Type 0
 PutsTable world code old new = (table : TypeTable) × (new ≡ old ++ table ∷ []) × IsTableOf world code table
-
--- what testing a group leaves of the types
-abbrev pub LeavesTables : Group → Files → List MethodCode → (old new : List TypeTable) → Type 0
-LeavesTables groups.Unsupported world codes old new = new ≡ old
-LeavesTables groups.Language world codes old new = new ≡ old
-LeavesTables groups.Initialisers world codes old new = new ≡ old
-LeavesTables groups.Limits world codes old new = new ≡ old
-LeavesTables groups.Tokens world codes old new = new ≡ old
-LeavesTables groups.Types world codes old new = AreTables world codes new
-
--- of the first so many groups
-abbrev pub AreTablesBelow : (bound : ℕ) → List Group → Files → List MethodCode → List TypeTable → Type 0
-AreTablesBelow bound tested world codes tables = (i : ℕ) → i < bound → slice_get tested i ≡ Some groups.Types → AreTables world codes tables
