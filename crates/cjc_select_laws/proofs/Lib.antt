@@ -6,3 +6,7 @@ pub mod Whole
 pub mod Limits
 pub mod Words
 pub mod Selectable
+pub mod Run
+pub mod Formed
+pub mod Matches
+pub mod Said

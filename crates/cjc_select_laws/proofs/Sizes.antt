@@ -217,7 +217,7 @@ table_few place first (t ∷ ts) = go (is_word first) (table_few place (first +�
     go true h = omega (arith, h)
     go false h = omega (arith, h)
 
-pair_few : (place : ℕ → ℕ) (cases : List JCase) → length (pair_cases place cases) ≤ length cases
+pub pair_few : (place : ℕ → ℕ) (cases : List JCase) → length (pair_cases place cases) ≤ length cases
 pair_few place [] = omega arith
 pair_few place (c ∷ cases) = go (is_word c.value) (pair_few place cases)
   where

@@ -5,7 +5,10 @@ use Rattle.cjc_bytes.specs.Format.{FileSpells}
 use Rattle.cjc_bytes.specs.declared.settings.Settings.{Settings}
 use Rattle.cjc_classfile.specs.ClassFile.{class_file}
 use Rattle.cjc_classfile.specs.declared.tree.ClassTree.{ClassTree}
+use Rattle.cjc_classfile.specs.declared.tree.MethodTree.{MethodTree}
 use Rattle.cjc_code.specs.declared.method_code.MethodCode.{MethodCode}
+use Rattle.cjc_narrow.specs.Package.{flags_of}
+use Rattle.cjc_narrow.specs.Resolved.{method_found}
 use Rattle.cjc_subset.specs.Checks.{check_breaks}
 use Rattle.cjc_types.specs.declared.state.State.{State}
 use Rattle.cjc_types.specs.Flow.{Body}
@@ -25,3 +28,7 @@ pub record KeepsRules (list : List ℕ) (files : Files) (codes : List MethodCode
   pub no_int : settings.ints ≡ false
   pub listed : Contains codes code
   pub typed : (place rule : ℕ) → Breach (all_classes files) b rows place rule → ⊥
+
+-- A look-up of the method's own name finds a method with its flags.
+abbrev pub FindsItself : Files → ClassTree → MethodTree → Type 0
+FindsItself files class method = flags_of (method_found (all_classes files) (record { class = class.name; name = method.name; desc = method.desc })) ≡ method.flags

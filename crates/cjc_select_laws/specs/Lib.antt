@@ -1,1 +1,3 @@
 pub mod Keeps
+pub mod Names
+pub mod Operands

@@ -2,7 +2,7 @@
 //! package does not break. For whoever converts a package. It has definitions and laws alone; nothing here runs.
 #![tactic(auto)]
 
-ghost use Rattle.std.specs.Prelude.{ℕ, List, Option};
+ghost use Rattle.std.specs.Prelude.{◌≡◌, ℕ, Bool, List, Option, Some, slice_get};
 ghost use Rattle.cjc_bytes.specs.declared.fault.MemberId.{MemberId as Member};
 ghost use Rattle.cjc_classfile.specs.Code.{CodeTree};
 ghost use Rattle.cjc_classfile.specs.declared.tree.ClassTree.{ClassTree};
@@ -17,7 +17,19 @@ ghost use Rattle.cjc_written.specs.Rows.{has_rows, rows_by};
 ghost use Rattle.cjc_layout.specs.Layouts.{IsWhole};
 ghost use Rattle.cjc_bytes.specs.declared.settings.Settings.{Settings as Limits};
 ghost use Rattle.cjc_select.specs.Select.{IsSelectable};
-ghost use Rattle.cjc_select_laws.specs.Keeps.{IsSpelt, KeepsRules};
+ghost use Rattle.cjc_by_name.specs.Linked.{Method};
+ghost use Rattle.cjc_by_name.specs.OnePackage.{method_by};
+ghost use Rattle.cjc_code.specs.Decoded.{decoded};
+ghost use Rattle.cjc_narrow.specs.Package.{code_of};
+ghost use Rattle.cjc_code.specs.declared.insn.JInsn.{JInsn};
+ghost use Rattle.cjc_lower.specs.Laid.{IsFormed};
+ghost use Rattle.cjc_lower.specs.Naming.{Naming};
+ghost use Rattle.cjc_ncode.specs.declared.narrow.NInsn.{NInsn as Insn};
+ghost use Rattle.cjc_select_laws.specs.Keeps.{FindsItself, IsSpelt, KeepsRules};
+ghost use Rattle.cjc_emit_laws.specs.Said.{CanBeSaid};
+ghost use Rattle.cjc_ncode.specs.Written.{reached};
+ghost use Rattle.cjc_select_laws.specs.Names.{NamesFit};
+ghost use Rattle.cjc_select_laws.specs.Operands.{NumbersFit, OperandsFit};
 
 /// The narrow code of a method that was decoded, of the instructions that its least type table reaches, can be laid out,
 /// whichever field instructions have an index of one byte: its jumps, switches and handlers lead to instructions that are
@@ -36,4 +48,27 @@ pub fn methods_are_selectable()
         → (bytes : List ℕ) → IsSpelt class bytes → (list : List ℕ) (codes : List MethodCode) (settings : Limits)
         → (rows : List (Option Before)) → IsLeastTable (body_of class method tree code.insns) rows → KeepsRules list files codes settings code (body_of class method tree code.insns) rows
         → IsSelectable method tree code.insns (has_rows rows) }
+{}
+
+/// The look-ups of a package run a method by what is selected for it, by whatever table: where a look-up of its own name finds
+/// it.
+pub fn what_is_selected_runs()
+    ensures { (files : Files) (near : List Member) (rows : Method → List (Option Before)) (class : ClassTree) (method : MethodTree) (tree : CodeTree) → FindsItself files class method
+        → (let m = method_by class method (Some tree) in code_of files near rows m ≡ selected_code files near class method tree (decoded class method tree) (rows m)) }
+{}
+
+/// Each instruction that is selected has an opcode of its form, whichever instructions are reached: where what it names
+/// stands in the pool and means what its opcode uses, it can be laid out.
+pub fn selected_code_is_formed()
+    ensures { (n : Naming) (files : Files) (near : List Member) (class : ClassTree) (method : MethodTree) (tree : CodeTree) (insns : List JInsn) (flags : List Bool)
+        → (k : ℕ) (insn : Insn) → (let m = selected_code files near class method tree insns (rows_by flags) in slice_get m.insns k ≡ Some insn) → NamesFit n insn → IsFormed n insn }
+{}
+
+/// Bytes can say each instruction that is selected, distances to its labels aside: where one byte says each local and two
+/// what is added to one, matches ascend, and the indices, words and tokens of the package fit. The cases of a table are words
+/// one after the other.
+pub fn selected_code_can_be_said()
+    ensures { (n : Naming) (files : Files) (near : List Member) (class : ClassTree) (method : MethodTree) (tree : CodeTree) (insns : List JInsn) (flags : List Bool)
+        → ((k : ℕ) (i : JInsn) → slice_get (reached insns (rows_by flags)) k ≡ Some i → OperandsFit i.op)
+        → (k : ℕ) (insn : Insn) → (let m = selected_code files near class method tree insns (rows_by flags) in slice_get m.insns k ≡ Some insn) → NumbersFit n insn → CanBeSaid n insn }
 {}

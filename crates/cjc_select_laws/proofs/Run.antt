@@ -1,0 +1,23 @@
+-- The narrow code by which a package's look-ups run a method is what is selected for it.
+use Rattle.std.proofs.Common.{◌≡◌, ℕ, ap, List}
+use Rattle.std.specs.Prelude.{Option, Some}
+use Rattle.cjc_bytes.specs.declared.fault.MemberId.{MemberId}
+use Rattle.cjc_by_name.specs.Linked.{Method}
+use Rattle.cjc_by_name.specs.OnePackage.{method_by}
+use Rattle.cjc_classfile.specs.Code.{CodeTree}
+use Rattle.cjc_classfile.specs.declared.tree.ClassTree.{ClassTree}
+use Rattle.cjc_classfile.specs.declared.tree.MethodTree.{MethodTree}
+use Rattle.cjc_code.specs.Decoded.{decoded}
+use Rattle.cjc_narrow.specs.Package.{code_of, flags_of}
+use Rattle.cjc_narrow.specs.Resolved.{argument_words, method_found, resolution}
+use Rattle.cjc_narrow.specs.Selected.{selected_code}
+use Rattle.cjc_ncode.specs.Written.{narrow_method}
+use Rattle.cjc_types.specs.declared.state.State.{State}
+use Rattle.cjc_world.specs.Classes.{all_classes}
+use Rattle.cjc_world.specs.Files.{Files}
+use Rattle.cjc_select_laws.specs.Keeps.{FindsItself}
+
+pub same_code : (files : Files) (near : List MemberId) (rows : Method → List (Option State)) (class : ClassTree) (method : MethodTree) (tree : CodeTree) → FindsItself files class method
+    → (let m = method_by class method (Some tree) in code_of files near rows m ≡ selected_code files near class method tree (decoded class method tree) (rows m))
+same_code files near rows class method tree found =
+    ap (λ flags. narrow_method (resolution files near class.name) tree (argument_words flags method.desc) (decoded class method tree) (rows (method_by class method (Some tree)))) found
