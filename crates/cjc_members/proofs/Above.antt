@@ -1,7 +1,9 @@
 -- Whether a class has a virtual method, by the classes before it.
 use Rattle.std.proofs.Common.{◌≡◌, ℕ, zero, suc, ◌+◌, ◌<◌, ◌≤◌, ◌==◌, Bool, true, false, List, [], ◌∷◌, ◌++◌, length, get_or, take, map, refl, sym, ap, ◌∙◌, subst, inl, inr, arith, add-one, Ok, Err, length-append}
 use Rattle.std.specs.Prelude.{if◌then◌else◌, reverse}
+use Rattle.std.specs.List.{range_with_len}
 use Rattle.std.specs.List.Sorted.{IsBinarySearchResult}
+use Rattle.std.proofs.lemmas.List.FromFn.{map-range_with_len_more}
 use Rattle.std.specs.Ordering.{nat_cmp}
 use Rattle.std.proofs.lemmas.Bool.{cases_lt}
 use Rattle.std.proofs.lemmas.List.{get_or_append_left, get_or_default, take_all, take_more, reverse-append}
@@ -105,7 +107,7 @@ above_more info exports tables next i x row lt is len n e h = λ k t d less smal
     let l : length next ≡ length tables + 1 = ap (λ (rs : List (List Bool)). length rs) n ∙ length-append tables (row ∷ []) in
     elim (cases_lt k i) [
       | inl before ↦ ap (λ (rs : List (List Bool)). get_or (get_or rs k []) t false) n ∙ ap (λ (r : List Bool). get_or r t false) (get_or_append_left tables (row ∷ []) [] k (omega (arith, before, len)))
-        ∙ h k t d (omega (arith, before, len)) small
+          ∙ h k t d (omega (arith, before, len)) small
       | inr past ↦ (let same : k ≡ i = omega (arith, past, less, l, len) in
           let at : get_or next k [] ≡ row = ap (λ (rs : List (List Bool)). get_or rs k []) n ∙ ap (λ (m : ℕ). get_or (tables ++ row ∷ []) m []) (same ∙ sym len) ∙ get_or-append_seam tables row [] [] in
           let there : (get_or (classes_at info) k d).item ≡ x = ap (λ (m : ℕ). (get_or (classes_at info) m d).item) same ∙ item_is class_size (first_class info) info.classes i d x lt is in
@@ -126,3 +128,13 @@ answer_is info exports tables kept at o t n x row inherits result h e le lt foun
     let super : inherits ≡ has_among info exports at x.superclass t = above ∙ ap (λ (y : ClassEntry). has_among info exports at y.superclass t) item in
     res ∙ ap (class_answer x t) super ∙ sym (ap (λ (y : ClassEntry). class_answer y t (has_among info exports at y.superclass t)) item)
     ∙ sym (found_answer exports t info kept (length tables) at o e le lt found)
+
+-- ---- answers by token, one by one
+
+pub row_more : (f : ℕ → Bool) (n : ℕ) (done next : List Bool) (b : Bool) → next ≡ done ++ b ∷ [] → b ≡ f n → done ≡ map f (range_with_len 0 n) → next ≡ map f (range_with_len 0 (n + 1))
+row_more f n done next b e is so_far =
+    e ∙ ap (λ (bs : List Bool). bs ++ b ∷ []) so_far ∙ ap (λ (x : Bool). map f (range_with_len 0 n) ++ x ∷ []) is ∙ sym (map-range_with_len_more f 0 n n (omega arith))
+
+pub row_all : (f : ℕ → Bool) (n : ℕ) (done : List Bool) → n ≡ 256 → done ≡ map f (range_with_len 0 n) → done ≡ map f all_tokens
+unfolding all_tokens
+row_all f n done e so_far = so_far ∙ ap (λ (k : ℕ). map f (range_with_len 0 k)) e

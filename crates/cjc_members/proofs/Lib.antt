@@ -1,5 +1,5 @@
 pub mod Sizes
 pub mod Search
 pub mod Above
-pub mod Needs
-pub mod Fields
+pub mod NeedsOf
+pub mod FieldPlaces

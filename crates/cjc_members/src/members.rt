@@ -72,7 +72,10 @@ impl Members<'_> {
         match class {
             ClassRef::Inside(_) => is_described,
             ClassRef::Outside { package, class } => {
-                is_described || self.tokens.has_field(self.methods.names, package, class, token)
+                is_described
+                    || self
+                        .tokens
+                        .has_field(self.methods.names, package, class, token)
             }
         }
     }

@@ -1,7 +1,7 @@
 //! The virtual methods that the classes of the package have by token: of each class it is kept what its superclass has (Java Card
 //! Virtual Machine Specification 2.2.2, sections 4.3.7 and 6.8). Called by `members` and `spots`.
 
-ghost use Rattle.std.specs.Prelude.{◌≡◌, ◌<◌, ◌≤◌, IfOk, get_or, length, map};
+ghost use Rattle.std.specs.Prelude.{◌≡◌, ◌≤◌, IfOk, false, get_or, length, map};
 ghost use Rattle.std.specs.Option.{option_copied};
 ghost use Rattle.cjc_imported.specs.Tokens.{AreTokens, all_tokens};
 ghost use Rattle.cjc_lookup.specs.Indexed.{IsIndexed};
@@ -31,7 +31,12 @@ fn class_answer(class: &ClassEntry, token: u8, above: bool) -> bool
     ensures { result ≡ class_answer class.now token above }
 {
     if token < 0x80 {
-        table_answer(class.public_base, class.public_methods.items(), token, above)
+        table_answer(
+            class.public_base,
+            class.public_methods.items(),
+            token,
+            above,
+        )
     } else {
         table_answer(
             class.package_base,
@@ -95,7 +100,7 @@ fn answers_of(
     ensures { IfOk result (λ row. row ≡ map (has_among names.now.parts.now.class.now names.now.exports.now (length above.now) class) all_tokens) }
 {
     let mut row = Row::new(alloc);
-    for token in 0..256 {
+    for token in 0..256usize {
         row.push(has_among(names, tokens, above, class, token as u8))?;
     }
     Ok(row)

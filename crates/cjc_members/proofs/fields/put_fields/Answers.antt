@@ -1,4 +1,4 @@
-use Rattle.cjc_members.proofs.Fields.{fields_more, fields_all}
+use Rattle.cjc_members.proofs.FieldPlaces.{fields_more, fields_all}
 use Rattle.cjc_members.proofs.fields.put_fields.Goals as goal
 
 pub loop-field-preserved : goal.loop-field-preserved

@@ -1,10 +1,10 @@
 use Rattle.std.proofs.Common.{ap, ◌∙◌, ℕ}
 use Rattle.cjc_members.specs.Working.Needs.{greater, need_of_methods}
-use Rattle.cjc_members.proofs.Needs.{methods_more, methods_all, none_greater}
+use Rattle.cjc_members.proofs.NeedsOf.{methods_more, methods_all, none_greater}
 use Rattle.cjc_members.proofs.needs.need_of_methods.Goals as goal
 
-pub loop-method-starts : goal.loop-method-starts
-loop-method-starts c = none_greater (need_of_methods c.args.methods.now)
+pub loop-method-init : goal.loop-method-init
+loop-method-init c = none_greater (need_of_methods c.args.methods.now)
 
 pub loop-method-preserved : goal.loop-method-preserved
 loop-method-preserved c = methods_more c.loop-method.method-index _ c.args.methods.now c.loop-method.need _ _ c.loop-method-test.true

@@ -19,7 +19,7 @@ loop-class-preserved c =
     let is : x ≡ get_or info.classes i x = c.class-item.is ∙ ap (λ (xs : List ClassEntry). get_or xs i x) q in
     let len : length tables ≡ i = c.loop-class.invariant.1 in
     let n = c.in_ok-push.ensures.ok in
-    let row = c.in_ok-row.result in
+    let row = c.in_ok-row.row in
     let l : length c.push.new.self ≡ length tables + 1 = ap (λ (rs : List (List Bool)). length rs) n ∙ length-append tables (row ∷ []) in (
       above_more info exports tables c.push.new.self i x row lt is len n
           (c.in_ok-row.ensures ∙ ap (λ (rs : List (List Bool)). map (has_among info exports (length rs) x.superclass) all_tokens) c.items.ensures) c.loop-class.invariant.0,
