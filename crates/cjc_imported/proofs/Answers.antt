@@ -1,6 +1,6 @@
 -- Answers put down by token, one by one; and how they are looked up.
-use Rattle.std.proofs.Common.{◌≡◌, ℕ, zero, suc, ◌+◌, ◌<◌, ◌≤◌, ◌==◌, Bool, true, false, List, [], ◌∷◌, ◌++◌, length, get_or, set, drop, map, refl, sym, ap, ◌∙◌, arith, Option, Some, None, slice_get}
-use Rattle.std.specs.Prelude.{◌||◌, ◌&&◌, not, is_none, if◌then◌else◌, option_and_then}
+use Rattle.std.proofs.Common.{◌≡◌, ℕ, zero, suc, ◌+◌, ◌<◌, ◌≤◌, ◌==◌, Bool, true, false, List, [], ◌∷◌, ◌++◌, length, get_or, drop, map, refl, sym, ap, ◌∙◌, arith, Option, Some, None, slice_get}
+use Rattle.std.specs.Prelude.{◌||◌, ◌&&◌, not, is_none, option_and_then}
 use Rattle.std.specs.List.{find, list_any, range_with_len}
 use Rattle.std.proofs.lemmas.List.{drop_more, drop_all, get_or-set_other, get_or-map, length-set}
 use Rattle.std.proofs.lemmas.List.FromFn.{fill_by_all, get_or-map-range_with_len, map-range_with_len_more}
@@ -9,8 +9,6 @@ use Rattle.std.proofs.lemmas.Bool.Decides.{nat_tests}
 use Rattle.std.proofs.lemmas.Option.{slice_get_past, slice_get_within, slice_get-get_or}
 use Rattle.cjc_bytes.specs.AccessFlags.{is_static}
 use Rattle.cjc_export.specs.declared.tree.ExportClass.{ExportClass}
-use Rattle.cjc_export.specs.declared.tree.ExportField.{ExportField}
-use Rattle.cjc_export.specs.declared.tree.ExportMethod.{ExportMethod}
 use Rattle.cjc_export.specs.declared.tree.ExportTree.{ExportTree}
 use Rattle.cjc_export.specs.Supers.{classes_of, has_virtual, inherits_virtual}
 use Rattle.cjc_lookup.specs.Indexed.{place_from, places_of}
@@ -19,8 +17,8 @@ use Rattle.cjc_sentences.specs.Classes.{class_with, imported, is_exported_class}
 use Rattle.cjc_sentences.specs.Members as members
 use Rattle.cjc_sentences.specs.Members.{is_unbound}
 use Rattle.cjc_imported.specs.Tokens.{all_tokens, by_token, each_class, has_field, static_field, static_method}
-use Rattle.cjc_imported.specs.Working.Rows.{is_asked, is_wanted, lists_field, lists_method, with_answer}
-use Rattle.cjc_imported.specs.Working.Told.{holds_of, told, told_of_class}
+use Rattle.cjc_imported.specs.Working.Rows.{lists_field, lists_method, with_answer}
+use Rattle.cjc_imported.specs.Working.Lookup.{holds_of, answer_by_token, answer_of_class}
 use Rattle.cjc_imported.proofs.Loops.{either, or_true, or_false, map_same}
 
 apart : (a b : ℕ) → (a == b) ≡ false → b ≡ a → ⊥
@@ -111,10 +109,10 @@ place_class classes k o c e f d =
     let s : Some (get_or classes k d) ≡ Some c = sym (slice_get-get_or classes k d lt) ∙ e ∙ f in
     cc
 
-pub told_is : (test : ℕ → ExportClass → Bool) (classes : List ExportClass) (rows : List (List Bool)) (token : ℕ) (place : Option ℕ) (o : Option ExportClass) → token < 256 → rows ≡ by_token test classes
-    → option_and_then (slice_get classes) place ≡ o → told rows token place ≡ holds_of (test token) o
-told_is test classes rows token None o lt e p = ap (holds_of (test token)) p
-told_is test classes rows token (Some k) None lt e p =
+pub answer_by_token_is : (test : ℕ → ExportClass → Bool) (classes : List ExportClass) (rows : List (List Bool)) (token : ℕ) (place : Option ℕ) (o : Option ExportClass) → token < 256 → rows ≡ by_token test classes
+    → option_and_then (slice_get classes) place ≡ o → answer_by_token rows token place ≡ holds_of (test token) o
+answer_by_token_is test classes rows token None o lt e p = ap (holds_of (test token)) p
+answer_by_token_is test classes rows token (Some k) None lt e p =
     let row : get_or rows token [] ≡ map (test token) classes = ap (λ (rs : List (List Bool)). get_or rs token []) e ∙ token_at (λ t. map (test t) classes) token [] lt in
     ap (λ (bs : List Bool). get_or bs k false) row ∙ past classes k p
   where
@@ -122,22 +120,22 @@ told_is test classes rows token (Some k) None lt e p =
     past [] n f = refl
     past (c ∷ cs) zero f = absurd cc
     past (c ∷ cs) (suc n) f = past cs n f
-told_is test classes rows token (Some k) (Some c) lt e p =
+answer_by_token_is test classes rows token (Some k) (Some c) lt e p =
     let row : get_or rows token [] ≡ map (test token) classes = ap (λ (rs : List (List Bool)). get_or rs token []) e ∙ token_at (λ t. map (test t) classes) token [] lt in
     let less = slice_get_within classes k c p in
     ap (λ (bs : List Bool). get_or bs k false) row ∙ get_or-map (test token) classes k c false less ∙ ap (test token) (place_class classes k (Some c) c p refl c)
 
-pub told_of_class_is : (test : ℕ → ExportClass → Bool) (classes : List ExportClass) (tables : List (List Bool)) (token : ℕ) (place : Option ℕ) (o : Option ExportClass) → token < 256 → tables ≡ each_class test classes
-    → option_and_then (slice_get classes) place ≡ o → told_of_class tables token place ≡ holds_of (test token) o
-told_of_class_is test classes tables token None o lt e p = ap (holds_of (test token)) p
-told_of_class_is test classes tables token (Some k) None lt e p =
+pub answer_of_class_is : (test : ℕ → ExportClass → Bool) (classes : List ExportClass) (tables : List (List Bool)) (token : ℕ) (place : Option ℕ) (o : Option ExportClass) → token < 256 → tables ≡ each_class test classes
+    → option_and_then (slice_get classes) place ≡ o → answer_of_class tables token place ≡ holds_of (test token) o
+answer_of_class_is test classes tables token None o lt e p = ap (holds_of (test token)) p
+answer_of_class_is test classes tables token (Some k) None lt e p =
     ap (λ (ts : List (List Bool)). get_or (get_or ts k []) token false) e ∙ past classes k p
   where
     past : (cs : List ExportClass) (n : ℕ) → slice_get cs n ≡ None → get_or (get_or (each_class test cs) n []) token false ≡ false
     past [] n f = refl
     past (c ∷ cs) zero f = absurd cc
     past (c ∷ cs) (suc n) f = past cs n f
-told_of_class_is test classes tables token (Some k) (Some c) lt e p =
+answer_of_class_is test classes tables token (Some k) (Some c) lt e p =
     let less = slice_get_within classes k c p in
     let row : get_or (each_class test classes) k [] ≡ map (λ t. test t (get_or classes k c)) all_tokens = get_or-map (λ (x : ExportClass). map (λ t. test t x) all_tokens) classes k c [] less in
     ap (λ (ts : List (List Bool)). get_or (get_or ts k []) token false) e ∙ ap (λ (bs : List Bool). get_or bs token false) row

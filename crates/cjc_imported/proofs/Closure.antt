@@ -1,21 +1,21 @@
 -- Rows of marks that went down to their ends are what classes have or inherit.
-use Rattle.std.proofs.Common.{◌≡◌, ℕ, zero, suc, ◌+◌, ◌<◌, ◌≤◌, ◌==◌, Bool, true, false, List, [], ◌∷◌, length, get_or, map, refl, sym, ap, ◌∙◌, arith, inl, inr, Option, Some, None}
+use Rattle.std.proofs.Common.{◌≡◌, ℕ, ◌<◌, ◌==◌, Bool, true, false, List, [], ◌∷◌, length, get_or, map, refl, sym, ap, ◌∙◌, arith, inl, inr, Some}
 use Rattle.std.specs.Prelude.{◌||◌}
 use Rattle.std.specs.List.{list_any}
 use Rattle.std.proofs.lemmas.Bool.{cases_lt}
 use Rattle.std.proofs.lemmas.Bool.Decides.{nat_tests}
-use Rattle.std.proofs.lemmas.List.{get_or-map, get_or_past, get_or_default, length-map}
+use Rattle.std.proofs.lemmas.List.{get_or-map, get_or_past, length-map}
 use Rattle.cjc_export.specs.declared.tree.ExportClass.{ExportClass}
-use Rattle.cjc_export.specs.Supers.{class_named, is_one_of, IsAtOrAbove, at, above, upwards}
-use Rattle.cjc_imported.specs.Tokens.{all_tokens, by_token, each_class}
+use Rattle.cjc_export.specs.Supers.{is_one_of, IsAtOrAbove, at, above, upwards}
+use Rattle.cjc_imported.specs.Tokens.{all_tokens, each_class}
 use Rattle.cjc_imported.specs.Working.Graph.{AreBelow, above_of, is_in, places}
 use Rattle.cjc_imported.specs.Working.Names.{place_from}
 use Rattle.cjc_imported.specs.Working.Reach.{IsReached}
 use Rattle.cjc_imported.specs.Working.Rows.{column, has_or_inherits, inherits, is_any_marked}
 use Rattle.cjc_imported.proofs.Answers.{token_at}
-use Rattle.cjc_imported.proofs.Loops.{either, or_true, or_false, or_cases, same_when, map_is, map_same}
-use Rattle.cjc_imported.proofs.Names.{Found, found, found_place, Placed, in_places, place_in}
-use Rattle.cjc_imported.proofs.Inherited.{Passes, passes_above, stands_above, one_step, inherits_is}
+use Rattle.cjc_imported.proofs.Loops.{or_true, or_cases, same_when, map_is}
+use Rattle.cjc_imported.proofs.Names.{found, found_place, in_places, place_in}
+use Rattle.cjc_imported.proofs.Inherited.{passes_above, stands_above, one_step, inherits_is}
 
 module _ (classes : List ExportClass) (test : ExportClass → Bool) (below : List (List ℕ)) (begin marks : List Bool)
     (rows : AreBelow (above_of classes) below) (first : begin ≡ map test classes) (reached : IsReached below begin marks) where

@@ -1,5 +1,5 @@
 -- What stands above a class, one step upwards at a time.
-use Rattle.std.proofs.Common.{◌≡◌, ℕ, Bool, true, false, List, [], ◌∷◌, length, get_or, map, refl, sym, ap, ◌∙◌, arith, ◌<◌, inl, inr, Option, Some, None}
+use Rattle.std.proofs.Common.{◌≡◌, ℕ, Bool, true, false, List, [], ◌∷◌, length, get_or, map, sym, ap, ◌∙◌, ◌<◌, inl, inr, Some}
 use Rattle.std.specs.Prelude.{◌||◌}
 use Rattle.std.specs.List.{AllByRecursion, list_any}
 use Rattle.std.specs.Str.{bytes_eq}
@@ -9,8 +9,8 @@ use Rattle.cjc_export.specs.Supers.{class_named, is_one_of, IsAtOrAbove, at, abo
 use Rattle.cjc_export.proofs.Upwards.{all_found, each_own, found_is}
 use Rattle.cjc_imported.specs.Working.Graph.{places}
 use Rattle.cjc_imported.specs.Working.Rows.{has_or_inherits, is_any_marked}
-use Rattle.cjc_imported.proofs.Loops.{either, or_true, or_cases, same_when}
-use Rattle.cjc_imported.proofs.Names.{same_name, one_here, one_more, Found, found, found_place, Placed, in_places, place_in}
+use Rattle.cjc_imported.proofs.Loops.{or_true, or_cases, same_when}
+use Rattle.cjc_imported.proofs.Names.{same_name, one_here, one_more, found, found_place, in_places, place_in}
 
 -- ---- a class that passes, among several of which each is that of its name
 

@@ -1,10 +1,8 @@
 -- Marks that go downwards: what one step of the walk keeps.
 use Rattle.std.proofs.Common.{◌≡◌, ℕ, zero, suc, ◌+◌, ◌<◌, ◌≤◌, ◌==◌, Bool, true, false, List, [], ◌∷◌, ◌++◌, length, get_or, set, refl, sym, ap, ◌∙◌, subst, arith, inl, inr}
 use Rattle.std.specs.Prelude.{◌||◌, ◌⊎◌, if◌then◌else◌}
-use Rattle.std.specs.List.{list_any}
-use Rattle.std.proofs.lemmas.Bool.{cases_lt}
 use Rattle.std.proofs.lemmas.Bool.Decides.{nat_tests}
-use Rattle.std.proofs.lemmas.List.{get_or-set_same, get_or_past, get_or_default, length-set, length-append, drop_more, drop_all}
+use Rattle.std.proofs.lemmas.List.{get_or-set_same, get_or_default, length-set, length-append, drop_more, drop_all}
 use Rattle.std.proofs.Common.{drop, append_assoc, append-nil}
 use Rattle.std.proofs.lemmas.List.Folds.{list_any-append}
 use Rattle.cjc_imported.specs.Working.Graph.{is_in}

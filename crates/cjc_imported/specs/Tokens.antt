@@ -1,5 +1,5 @@
--- What imported classes have by token, as it is kept: made once for the classes of all export files (Java Card Virtual Machine
--- Specification 2.2.2, 4.3.7 and chapter 5).
+-- What imported classes have by token, as it is kept: made once for the classes of all export files (Java Card
+-- Virtual Machine Specification 2.2.2, 4.3.7 and chapter 5).
 use Rattle.std.specs.Prelude.{◌≡◌, ℕ, ◌+◌, List, [], ◌∷◌, map, length, Bool, ◌||◌, Some}
 use Rattle.std.specs.List.{range_with_len, list_any}
 use Rattle.cjc_export.specs.declared.tree.ExportClass.{ExportClass}

@@ -3,5 +3,5 @@ pub mod Names
 pub mod Graph
 pub mod Reach
 pub mod Rows
-pub mod Told
+pub mod Lookup
 pub mod Upwards

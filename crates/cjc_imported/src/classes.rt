@@ -16,11 +16,11 @@ use std::marker::Model;
 
 /// A class of an export file.
 #[derive(Drop)]
-pub(crate) struct Listed<'a> {
+pub(crate) struct ImportedClass<'a> {
     pub(crate) class: &'a ExportClass,
 }
 
-impl<'a> Model for Listed<'a> {
+impl<'a> Model for ImportedClass<'a> {
     ghost use Rattle.cjc_export.specs.declared.tree.ExportClass.{ExportClass as Class};
 
     ghost Value = { Class };
@@ -67,11 +67,14 @@ impl<'a> Hash for Name<'a> {
 }
 
 /// Puts classes at the end.
-fn put_classes<'a>(all: &mut Row<Listed<'a>>, classes: &'a [ExportClass]) -> Result<(), NoMemory>
+fn put_classes<'a>(
+    all: &mut Row<ImportedClass<'a>>,
+    classes: &'a [ExportClass],
+) -> Result<(), NoMemory>
     ensures { OnOk result (all.new ≡ all.old ++ classes.now) }
 {
     for class in classes {
-        all.push(Listed { class })?;
+        all.push(ImportedClass { class })?;
     }
     Ok(())
 }
@@ -79,7 +82,7 @@ fn put_classes<'a>(all: &mut Row<Listed<'a>>, classes: &'a [ExportClass]) -> Res
 /// The classes of all export files, file by file.
 #[derive(Drop)]
 pub(crate) struct Classes<'a> {
-    pub(crate) all: Row<Listed<'a>>,
+    pub(crate) all: Row<ImportedClass<'a>>,
     /// Where the classes of each file begin.
     pub(crate) starts: Row<usize>,
 }
@@ -115,7 +118,10 @@ fn put_place<'a>(places: &mut Places<'a>, name: &'a [u8], at: usize) -> Result<(
 }
 
 /// The places of the first classes of their names.
-pub(crate) fn places_of<'a>(alloc: Global, classes: &[Listed<'a>]) -> Result<Places<'a>, NoMemory>
+pub(crate) fn places_of<'a>(
+    alloc: Global,
+    classes: &[ImportedClass<'a>],
+) -> Result<Places<'a>, NoMemory>
     ensures { IfOk result (λ places. IsIndex places classes.now) }
 {
     let mut places = IndexMap::new(alloc);

@@ -1,5 +1,5 @@
-//! The classes above each class and below it, by their places (Java Card Virtual Machine Specification 2.2.2, section 5.7). Called by
-//! `rows` and `tokens`.
+//! The classes above each class and below it, by their places (Java Card Virtual Machine Specification 2.2.2, section
+//! 5.7). Called by `rows` and `tokens`.
 
 ghost use Rattle.std.specs.Prelude.{◌≡◌, List, [], ◌++◌, length, map, IfOk, OnOk};
 ghost use Rattle.std.specs.List.{fold};
@@ -9,7 +9,7 @@ ghost use Rattle.cjc_imported.specs.Working.Graph.{AreBelow, above_of, one_place
 ghost use Rattle.cjc_imported.specs.Working.Names.{IsIndex};
 ghost use Rattle.cjc_export.specs.declared.tree.ExportClass.{ExportClass as Class};
 
-use crate::classes::{Listed, Name, Places, places_of};
+use crate::classes::{ImportedClass, Name, Places, places_of};
 use cjc_bytes::{Bytes, NoMemory, Row};
 use std::alloc::Global;
 
@@ -37,7 +37,7 @@ fn places<'a>(alloc: Global, index: &Places<'a>, names: &'a [Bytes]) -> Result<R
 /// What each class lists as supers, by their places.
 pub(crate) fn above_of<'a>(
     alloc: Global,
-    classes: &[Listed<'a>],
+    classes: &[ImportedClass<'a>],
 ) -> Result<Row<Row<usize>>, NoMemory>
     ensures { IfOk result (λ above. above ≡ above_of classes.now) }
 {

@@ -1,5 +1,5 @@
-//! What each class lists itself, by token (Java Card Virtual Machine Specification 2.2.2, sections 5.8 and 5.9). Called by `tokens`. It
-//! knows no other class.
+//! What each class lists itself, by token (Java Card Virtual Machine Specification 2.2.2, sections 5.8 and 5.9).
+//! Called by `tokens`. It knows no other class.
 
 ghost use Rattle.std.specs.Prelude.{◌≡◌, ◌==◌, ◌&&◌, IfOk, length, map};
 ghost use Rattle.std.specs.List.{list_any};
@@ -8,7 +8,7 @@ ghost use Rattle.cjc_sentences.specs.Members.{is_unbound};
 ghost use Rattle.cjc_imported.specs.Tokens.{all_tokens, each_class};
 ghost use Rattle.cjc_imported.specs.Working.Rows.{is_asked, is_wanted, lists_field, lists_method, with_answer};
 
-use crate::classes::Listed;
+use crate::classes::ImportedClass;
 use cjc_bytes::{NoMemory, Row, is_private, is_static};
 use cjc_export::{ExportField, ExportMethod};
 use std::alloc::Global;
@@ -85,7 +85,7 @@ fn fields_of(alloc: Global, statics: bool, fields: &[ExportField]) -> Result<Row
 pub(crate) fn method_tables(
     alloc: Global,
     unbound: bool,
-    classes: &[Listed<'_>],
+    classes: &[ImportedClass<'_>],
 ) -> Result<Row<Row<bool>>, NoMemory>
     ensures { IfOk result (λ tables. tables ≡ each_class (lists_method unbound) classes.now) }
 {
@@ -100,7 +100,7 @@ pub(crate) fn method_tables(
 pub(crate) fn field_tables(
     alloc: Global,
     statics: bool,
-    classes: &[Listed<'_>],
+    classes: &[ImportedClass<'_>],
 ) -> Result<Row<Row<bool>>, NoMemory>
     ensures { IfOk result (λ tables. tables ≡ each_class (lists_field statics) classes.now) }
 {

@@ -1,11 +1,11 @@
-//! What an imported class has by token, found at once. Whoever tests what components name of other packages calls it. It knows no
-//! component.
+//! What an imported class has by token, found at once. Whoever tests what components name of other packages calls it.
+//! It knows no component.
 
 ghost use Rattle.std.specs.Prelude.{◌≡◌, ◌<◌, ◌==◌, IfSome, get_or, length, option_and_then, slice_get, []};
 ghost use Rattle.std.specs.List.{find};
 ghost use Rattle.cjc_export.specs.Supers.{classes_of};
 ghost use Rattle.cjc_imported.specs.Tokens.{AreTokens, file_starts};
-ghost use Rattle.cjc_imported.specs.Working.Told.{told, told_of_class};
+ghost use Rattle.cjc_imported.specs.Working.Lookup.{answer_by_token, answer_of_class};
 ghost use Rattle.cjc_lookup.specs.Indexed.{IsIndexed, places_of};
 ghost use Rattle.cjc_sentences.specs.Classes.{imported};
 ghost use Rattle.cjc_sentences.specs.Members.{class_has, class_has_field, has_static_field, has_static_method, supers_have};
@@ -66,8 +66,8 @@ fn row_at(rows: &[Row<bool>], at: usize) -> &[bool]
 }
 
 /// The answer in rows by token.
-fn told(rows: &[Row<bool>], token: u8, place: Option<usize>) -> bool
-    ensures { result ≡ told rows.now token place }
+fn answer_by_token(rows: &[Row<bool>], token: u8, place: Option<usize>) -> bool
+    ensures { result ≡ answer_by_token rows.now token place }
 {
     match place {
         Some(at) => answer(row_at(rows, usize::from(token)), at),
@@ -76,8 +76,8 @@ fn told(rows: &[Row<bool>], token: u8, place: Option<usize>) -> bool
 }
 
 /// The answer in tables of classes.
-fn told_of_class(tables: &[Row<bool>], token: u8, place: Option<usize>) -> bool
-    ensures { result ≡ told_of_class tables.now token place }
+fn answer_of_class(tables: &[Row<bool>], token: u8, place: Option<usize>) -> bool
+    ensures { result ≡ answer_of_class tables.now token place }
 {
     match place {
         Some(at) => answer(row_at(tables, at), usize::from(token)),
@@ -110,7 +110,7 @@ impl Tokens {
             },
         );
         let place = self.place(names, import, class);
-        is_class && told(self.virtuals.items(), token, place)
+        is_class && answer_by_token(self.virtuals.items(), token, place)
     }
 
     /// Whether an imported class, which is no interface, inherits a virtual method of this token.
@@ -127,7 +127,7 @@ impl Tokens {
             },
         );
         let place = self.place(names, import, class);
-        is_class && told(self.inherited.items(), token, place)
+        is_class && answer_by_token(self.inherited.items(), token, place)
     }
 
     /// Whether an imported class lists an instance field of this token or inherits one.
@@ -136,7 +136,7 @@ impl Tokens {
         requires kept { AreTokens names.now.exports.now self.now }
         ensures { result ≡ class_has_field names.now.exports.now (imported names.now.exports.now import class) token }
     {
-        told(self.fields.items(), token, self.place(names, import, class))
+        answer_by_token(self.fields.items(), token, self.place(names, import, class))
     }
 
     /// Whether an imported class lists a static method or a constructor of this token.
@@ -145,7 +145,7 @@ impl Tokens {
         requires kept { AreTokens names.now.exports.now self.now }
         ensures { result ≡ has_static_method (imported names.now.exports.now import class) token }
     {
-        told_of_class(
+        answer_of_class(
             self.static_methods.items(),
             token,
             self.place(names, import, class),
@@ -158,7 +158,7 @@ impl Tokens {
         requires kept { AreTokens names.now.exports.now self.now }
         ensures { result ≡ has_static_field (imported names.now.exports.now import class) token }
     {
-        told_of_class(
+        answer_of_class(
             self.static_fields.items(),
             token,
             self.place(names, import, class),

@@ -1,5 +1,5 @@
-//! Marks that go from classes to all that stand below them, cycles among them too: each class is looked at once. Called by `rows`. It
-//! knows no export file.
+//! Marks that go from classes to all that stand below them, cycles among them too: each class is looked at once.
+//! Called by `rows`. It knows no export file.
 
 ghost use Rattle.std.specs.Prelude.{◌≡◌, ◌++◌, [], get_or, IfOk, OnOk};
 ghost use Rattle.cjc_imported.specs.Working.Reach.{IsReached, marked_from, marks_after, stack_after, with_mark, with_new};
@@ -46,7 +46,7 @@ fn mark_each(
 }
 
 /// The classes that are marked.
-fn marked(alloc: Global, marks: &[bool]) -> Result<Vec<usize>, NoMemory>
+fn marked_places(alloc: Global, marks: &[bool]) -> Result<Vec<usize>, NoMemory>
     ensures { IfOk result (λ places. places.items ≡ marked_from 0 marks.now) }
 {
     let mut places = Vec::new(alloc);
@@ -67,7 +67,7 @@ pub(crate) fn reach(
     ensures { IfOk result (λ marks. IsReached below.now begin marks) }
 {
     let mut marks = begin.into_vec();
-    let mut stack = marked(alloc, marks.as_slice())?;
+    let mut stack = marked_places(alloc, marks.as_slice())?;
     while let Some(at) = stack.pop() {
         mark_each(&mut marks, &mut stack, below_at(below, at))?;
     }

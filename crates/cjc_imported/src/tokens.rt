@@ -1,5 +1,5 @@
-//! What imported classes have by token (Java Card Virtual Machine Specification 2.2.2, section 4.3.7 and chapter 5). Whoever tests what
-//! components name of other packages makes it.
+//! What imported classes have by token (Java Card Virtual Machine Specification 2.2.2, section 4.3.7 and chapter 5).
+//! Whoever tests what components name of other packages makes it.
 
 ghost use Rattle.std.specs.Prelude.{◌≡◌, List, IfOk};
 ghost use Rattle.cjc_export.specs.declared.tree.ExportClass.{ExportClass as Class};
@@ -8,7 +8,7 @@ ghost use Rattle.cjc_imported.specs.Tokens.{AreTokens, by_token, has_field};
 ghost use Rattle.cjc_imported.specs.Working.Graph.{AreBelow, above_of};
 ghost use Rattle.cjc_imported.specs.Working.Upwards.{AreUpwards};
 
-use crate::classes::{Classes, Listed, all_classes};
+use crate::classes::{Classes, ImportedClass, all_classes};
 use crate::graph::{above_of, below_of};
 use crate::listed::{field_tables, method_tables};
 use crate::rows::{closed_rows, inherited_rows};
@@ -56,7 +56,7 @@ struct Upwards {
 /// By token, which classes have a virtual method.
 fn virtuals_of(
     alloc: Global,
-    classes: &[Listed<'_>],
+    classes: &[ImportedClass<'_>],
     below: &[Row<usize>],
 ) -> Result<Row<Row<bool>>, NoMemory>
     requires { AreBelow (above_of classes.now) below.now }
@@ -70,7 +70,7 @@ fn virtuals_of(
 /// By token, which classes have an instance field.
 fn fields_of(
     alloc: Global,
-    classes: &[Listed<'_>],
+    classes: &[ImportedClass<'_>],
     below: &[Row<usize>],
 ) -> Result<Row<Row<bool>>, NoMemory>
     requires { AreBelow (above_of classes.now) below.now }
@@ -97,7 +97,7 @@ fn inherited_of(
 /// What classes have or inherit, by token, where it is known which stand above and below each.
 fn upwards_by(
     alloc: Global,
-    classes: &[Listed<'_>],
+    classes: &[ImportedClass<'_>],
     above: &[Row<usize>],
     below: &[Row<usize>],
 ) -> Result<Upwards, NoMemory>
@@ -116,7 +116,7 @@ fn upwards_by(
 }
 
 /// What classes have or inherit, by token.
-fn upwards_of(alloc: Global, classes: &[Listed<'_>]) -> Result<Upwards, NoMemory>
+fn upwards_of(alloc: Global, classes: &[ImportedClass<'_>]) -> Result<Upwards, NoMemory>
     ensures { IfOk result (λ t. AreUpwards classes.now t) }
 {
     let above = above_of(alloc, classes)?;

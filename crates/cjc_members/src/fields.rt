@@ -1,5 +1,5 @@
-//! The fields of Descriptor, each found at once (Java Card Virtual Machine Specification 2.2.2, section 6.13). Called by `members` and
-//! `spots`.
+//! The fields of Descriptor, each found at once (Java Card Virtual Machine Specification 2.2.2, section 6.13). Called
+//! by `members` and `spots`.
 
 ghost use Rattle.std.specs.Prelude.{◌≡◌, IfOk, OnOk, flat_map};
 ghost use Rattle.std.specs.Cmp.{partial_equiv_from_equiv};

@@ -1,5 +1,6 @@
-//! The tests of the sentences on what components name by token: the indices of interface maps are tokens that the class has, and the
-//! constant pool names fields, methods, tokens and cells that are there. Whoever tests components calls it. It knows no code.
+//! The tests of the sentences on what components name by token: the indices of interface maps are tokens that the
+//! class has, and the constant pool names fields, methods, tokens and cells that are there. Whoever tests components
+//! calls it. It knows no code.
 #![tactic(auto)]
 
 mod entries;

@@ -1,5 +1,5 @@
-//! Whether a member is there: what is kept of the package and of imported classes, as the tests ask it (Java Card Virtual Machine
-//! Specification 2.2.2, section 6.7). Called by `maps` and `entries`.
+//! Whether a member is there: what is kept of the package and of imported classes, as the tests ask it (Java Card
+//! Virtual Machine Specification 2.2.2, section 6.7). Called by `maps` and `entries`.
 
 ghost use Rattle.std.specs.Prelude.{◌≡◌};
 ghost use Rattle.cjc_lookup.specs.Parts.{complete_of};

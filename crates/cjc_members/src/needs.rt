@@ -1,5 +1,6 @@
-//! How many indices the map of an interface of the package has to have: more than each token that Descriptor gives a method of it (Java
-//! Card Virtual Machine Specification 2.2.2, sections 6.8 and 6.13). Called by `members` and `spots`.
+//! How many indices the map of an interface of the package has to have: more than each token that Descriptor gives a
+//! method of it (Java Card Virtual Machine Specification 2.2.2, sections 6.8 and 6.13). Called by `members` and
+//! `spots`.
 
 ghost use Rattle.std.specs.Prelude.{◌≡◌, IfOk, OnOk};
 ghost use Rattle.cjc_members.specs.Working.Needs.{AreNeeds, HasClass, HasNeed, greater, need_in, need_of_method, need_of_methods};

@@ -1,4 +1,5 @@
-//! Where 707 and 708 are broken first: what imported classes have, and what the classes of the package have, is made here, once.
+//! Where 707 and 708 are broken first: what imported classes have, and what the classes of the package have, is made
+//! here, once.
 
 ghost use Rattle.std.specs.Prelude.{◌≡◌, IfOk, length};
 ghost use Rattle.cjc_imported.specs.Tokens.{AreTokens};

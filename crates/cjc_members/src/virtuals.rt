@@ -1,5 +1,5 @@
-//! The virtual methods that the classes of the package have by token: of each class it is kept what its superclass has (Java Card
-//! Virtual Machine Specification 2.2.2, sections 4.3.7 and 6.8). Called by `members` and `spots`.
+//! The virtual methods that the classes of the package have by token: of each class it is kept what its superclass
+//! has (Java Card Virtual Machine Specification 2.2.2, sections 4.3.7 and 6.8). Called by `members` and `spots`.
 
 ghost use Rattle.std.specs.Prelude.{◌≡◌, ◌≤◌, IfOk, false, get_or, length, map};
 ghost use Rattle.std.specs.Option.{option_copied};
@@ -54,7 +54,8 @@ fn answer(answers: &[bool], at: usize) -> bool
     at < answers.len() && answers[at]
 }
 
-/// Whether the class of a class_ref has a virtual method of a token, as far as the first classes go, of which it is kept.
+/// Whether the class of a class_ref has a virtual method of a token, as far as the first classes go, of which it is
+/// kept.
 pub(crate) fn has_among(
     names: &Names<'_>,
     tokens: &Tokens,

@@ -28,7 +28,8 @@ abbrev pub unmarked : List Bool → ℕ
 unmarked [] = 0
 unmarked (b ∷ marks) = (if b then 0 else 1) + unmarked marks
 
--- a walk that began with some marks: what is marked has all below it marked, or is to be looked at; and no mark stands without cause
+-- a walk that began with some marks: what is marked has all below it marked, or is to be looked at; and no mark
+-- stands without cause
 pub record IsWalk (below : List (List ℕ)) (begin marks : List Bool) (stack : List ℕ) : Type 0 where
   pub size : length marks ≡ length begin
   pub kept : (i : ℕ) → get_or begin i false ≡ true → get_or marks i false ≡ true

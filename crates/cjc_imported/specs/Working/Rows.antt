@@ -1,5 +1,5 @@
 -- Answers of classes by token, as they are made.
-use Rattle.std.specs.Prelude.{◌≡◌, ℕ, ◌==◌, ◌&&◌, ◌||◌, not, List, map, get_or, set, Bool, true, false, if◌then◌else◌, is_none}
+use Rattle.std.specs.Prelude.{ℕ, ◌==◌, ◌&&◌, ◌||◌, not, List, map, get_or, set, Bool, true, false, if◌then◌else◌, is_none}
 use Rattle.std.specs.List.{list_any}
 use Rattle.cjc_bytes.specs.AccessFlags.{is_static}
 use Rattle.cjc_export.specs.declared.tree.ExportClass.{ExportClass}

@@ -1,4 +1,4 @@
-use Rattle.std.proofs.Common.{◌≡◌, ◌∙◌, ap, map, List, Bool, ◌==◌}
+use Rattle.std.proofs.Common.{◌≡◌, ◌∙◌, ap, map, List, ◌==◌}
 use Rattle.std.specs.Prelude.{◌&&◌}
 use Rattle.std.specs.List.{list_any}
 use Rattle.cjc_export.specs.declared.tree.ExportClass.{ExportClass}

@@ -1,4 +1,4 @@
-use Rattle.std.proofs.Common.{List, Bool, ap, sym, ◌∙◌}
+use Rattle.std.proofs.Common.{List, Bool, ap, ◌∙◌}
 use Rattle.cjc_imported.specs.Working.Reach.{marked_from}
 use Rattle.cjc_imported.proofs.Marks.{walk_begins, walk_more, walk_room}
 use Rattle.cjc_imported.proofs.reach.reach.Goals as goal

@@ -1,4 +1,4 @@
-use Rattle.std.proofs.Common.{arith, map, ◌≡◌}
+use Rattle.std.proofs.Common.{arith, map}
 use Rattle.cjc_imported.specs.Working.Rows.{has_or_inherits}
 use Rattle.cjc_imported.proofs.Answers.{rows_more, rows_all}
 use Rattle.cjc_imported.proofs.rows.closed_rows.Goals as goal

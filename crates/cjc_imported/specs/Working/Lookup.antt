@@ -3,14 +3,14 @@ use Rattle.std.specs.Prelude.{ℕ, List, [], get_or, Bool, false, Option, Some, 
 use Rattle.cjc_export.specs.declared.tree.ExportClass.{ExportClass}
 
 -- in rows by token
-abbrev pub told : List (List Bool) → (token : ℕ) → Option ℕ → Bool
-told rows token None = false
-told rows token (Some at) = get_or (get_or rows token []) at false
+abbrev pub answer_by_token : List (List Bool) → (token : ℕ) → Option ℕ → Bool
+answer_by_token rows token None = false
+answer_by_token rows token (Some at) = get_or (get_or rows token []) at false
 
 -- in tables of classes
-abbrev pub told_of_class : List (List Bool) → (token : ℕ) → Option ℕ → Bool
-told_of_class tables token None = false
-told_of_class tables token (Some at) = get_or (get_or tables at []) token false
+abbrev pub answer_of_class : List (List Bool) → (token : ℕ) → Option ℕ → Bool
+answer_of_class tables token None = false
+answer_of_class tables token (Some at) = get_or (get_or tables at []) token false
 
 -- a test of a class that is there
 abbrev pub holds_of : (test : ExportClass → Bool) → Option ExportClass → Bool
