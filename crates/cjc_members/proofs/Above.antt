@@ -20,7 +20,7 @@ use Rattle.cjc_sentences.specs.Members.{has_token, in_imported}
 use Rattle.cjc_imported.specs.Tokens.{all_tokens}
 use Rattle.cjc_imported.proofs.Answers.{token_at}
 use Rattle.cjc_members.specs.Working.Above.{AreAbove, class_answer, has_among}
-use Rattle.cjc_members.proofs.Search.{IsAlone, found_class, no_class_at, no_class, item_is, length-classes_at}
+use Rattle.cjc_members.proofs.Search.{found_class, no_class_at, no_class, item_is, length-classes_at}
 
 -- ---- one class more
 

@@ -1,5 +1,4 @@
-use Rattle.cjc_members.proofs.NeedsOf.{classes_more, classes_all, none_greater}
-use Rattle.cjc_members.specs.Working.Needs.{need_of}
+use Rattle.cjc_members.proofs.NeedsOf.{classes_more, classes_all}
 use Rattle.cjc_members.proofs.needs.needs_of.Goals as goal
 
 pub loop-class-preserved : goal.loop-class-preserved

@@ -1,8 +1,7 @@
-use Rattle.std.proofs.Common.{ℕ, List, Bool, ap, sym, ◌∙◌, arith, length, take, get_or, false}
+use Rattle.std.proofs.Common.{List, Bool, ap, sym, ◌∙◌, arith, length, take, get_or, false}
 use Rattle.std.specs.Prelude.{reverse}
 use Rattle.cjc_capread.specs.declared.tree.ClassEntry.{ClassEntry}
 use Rattle.cjc_capread.specs.declared.tree.ClassRef.{ClassRef}
-use Rattle.cjc_capread.specs.declared.tree.ClassRef.TheVariants.{Inside, Outside}
 use Rattle.cjc_sentences.specs.Classes.{classes_at}
 use Rattle.cjc_members.specs.Working.Above.{has_among}
 use Rattle.cjc_members.proofs.Above.{answer_is, none_answer, outside, past_answer}
