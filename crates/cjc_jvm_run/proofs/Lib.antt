@@ -1,2 +1,2 @@
 pub mod Spends
-pub mod Turns
+pub mod OneTurn

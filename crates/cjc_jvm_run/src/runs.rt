@@ -1,7 +1,8 @@
 //! Whole runs.
 
 ghost use Rattle.std.specs.Prelude.{◌≡◌, ◌<◌, ◌≤◌, ◌+◌, ◌^◌, length, IfOk, OnOk};
-ghost use Rattle.cjc_by_name.specs.Machine.{move, idle, start, run};
+ghost use Rattle.cjc_bytecode.specs.Runs;
+ghost use Rattle.cjc_by_name.specs.Machine.{move, idle, device, report, start, run};
 ghost use Rattle.cjc_turns.specs.States.{Leads, frames_of, with_frame, objects_at_most};
 
 use crate::entries::{Begun, begin};
@@ -50,6 +51,50 @@ fn idle(machine: &Machine<'_>, top: &Option<Activation<'_>>) -> Outcome
     Outcome::Running
 }
 
+// Turns of a run, as long as there are instructions to spend; the outcome.
+fn turns<'a, L: LookUps>(
+    alloc: Global,
+    links: &'a L,
+    machine: &mut Machine<'a>,
+    n: u32,
+) -> Result<Outcome, NoMemory>
+    requires few { n + objects_at_most machine.old < 2 ^ 32 }
+    requires count { machine.old.spent + n < 2 ^ 32 }
+    ensures { IfOk result (λ outcome. Runs.run (device (L.linked links.now)) n machine.old ≡ report outcome machine.new) }
+{
+    let mut top = None;
+    for i in 0..n {
+        match turn(alloc, links, machine, top)? {
+            After::On(next) => {
+                top = next;
+            }
+            After::Ended(outcome) => return Ok(outcome),
+        }
+    }
+    Ok(idle(machine, &top))
+}
+
+// The first state.
+fn start<'a, L: LookUps>(
+    alloc: Global,
+    links: &'a L,
+    script: &'a Script,
+) -> Result<Machine<'a>, NoMemory>
+    ensures { IfOk result (λ machine. machine ≡ start (L.linked links.now) script.now) }
+{
+    let statics = Statics::new(alloc, links.statics())?;
+    let heap = links.heap(alloc)?;
+    Ok(Machine {
+        callers: Pile::new(alloc),
+        heap,
+        statics,
+        entries: script.entries.items(),
+        answers: script.answers.items(),
+        notes: Row::new(alloc),
+        spent: 0,
+    })
+}
+
 /// The run of n instructions of a script.
 pub fn run<L: LookUps>(
     alloc: Global,
@@ -60,26 +105,7 @@ pub fn run<L: LookUps>(
     requires { n + objects_at_most (start (L.linked links.now) script.now) < 2 ^ 32 }
     ensures { IfOk result (λ report. report ≡ run (L.linked links.now) script.now n) }
 {
-    let statics = Statics::new(alloc, links.statics())?;
-    let heap = links.heap(alloc)?;
-    let mut machine = Machine {
-        callers: Pile::new(alloc),
-        heap,
-        statics,
-        entries: script.entries.items(),
-        answers: script.answers.items(),
-        notes: Row::new(alloc),
-        spent: 0,
-    };
-    let mut top = None;
-    for i in 0..n {
-        match turn(alloc, links, &mut machine, top)? {
-            After::On(next) => {
-                top = next;
-            }
-            After::Ended(outcome) => return report(alloc, machine, outcome),
-        }
-    }
-    let outcome = idle(&machine, &top);
+    let mut machine = start(alloc, links, script)?;
+    let outcome = turns(alloc, links, &mut machine, n)?;
     report(alloc, machine, outcome)
 }

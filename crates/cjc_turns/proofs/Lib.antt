@@ -1,3 +1,4 @@
+pub mod Abroad
+pub mod Leading
 pub mod Receivers
 pub mod Tosses
-pub mod Leading

@@ -190,7 +190,16 @@ impl<'a> Machine<'a> {
         let args = copy_of(alloc, frame.args(count))?;
         let mut caller = frame;
         caller.forget(count);
-        self.call_with(alloc, links, call, op, id, types.returned(), args.items(), caller)
+        self.call_with(
+            alloc,
+            links,
+            call,
+            op,
+            id,
+            types.returned(),
+            args.items(),
+            caller,
+        )
     }
 
     /// A call by name.

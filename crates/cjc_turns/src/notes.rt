@@ -30,12 +30,7 @@ pub fn member_of(alloc: Global, class: &[u8], id: &MemberId) -> Result<MemberId,
 }
 
 /// An imported call.
-pub fn event(
-    alloc: Global,
-    class: &[u8],
-    id: &MemberId,
-    args: &[Value],
-) -> Result<Note, NoMemory>
+pub fn event(alloc: Global, class: &[u8], id: &MemberId, args: &[Value]) -> Result<Note, NoMemory>
     ensures { IfOk result (λ note. note ≡ Event (of_class class.now id.now) args.now) }
 {
     let callee = member_of(alloc, class, id)?;

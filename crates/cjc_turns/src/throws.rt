@@ -83,7 +83,13 @@ fn handle<'a, L: LookUps>(
         at_handler (L.linked links.now) (handler_in (L.linked links.now) frame.old exception.now) from frame.old outer object s past ≡ handled h from frame.new outer s past) }
 {
     let method = frame.method();
-    match handler(links, method.class, method.catches, frame.offset(), exception) {
+    match handler(
+        links,
+        method.class,
+        method.catches,
+        frame.offset(),
+        exception,
+    ) {
         Some(target) => {
             if frame.max_stack() == 0 {
                 return Ok(Handling::Full);
