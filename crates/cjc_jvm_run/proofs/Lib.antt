@@ -1,2 +1,4 @@
-pub mod Spends
+pub mod Begins
+pub mod Followed
 pub mod OneTurn
+pub mod Spends

@@ -14,8 +14,9 @@ returns-in-Some-2-clause-next g c =
     let id = c.args.id.now in
     let self = c.args.self.now in
     let o = l.call (holder_of f) c.args.op id in
-    let p = found_call id c.in-Some.call o c.in-Some.ensures in
-    let types : signature_of id.desc ≡ Some c.in-Some-2.types.now = ? in
+    let is = rw c.holder.ensures at c.in-Some.ensures in
+    let p = found_call id c.in-Some.call o is in
+    let types : signature_of id.desc ≡ Some c.in-Some-2.types = ap (λ desc. signature_of desc) (sym c.items.ensures) ∙ sym c.in_ok-types.ensures ∙ c.in-Some-2.is in
     IfOk-weaker c.call_by.result _ _ (λ after h. λ before.
     let s : State = record self { frames = before } in
     leads_as _ _ after c.call_by.new.self
