@@ -10,3 +10,5 @@ mod packages;
 mod runs;
 #[cfg(test)]
 mod shelves;
+#[cfg(test)]
+mod words;

@@ -1,15 +1,17 @@
 //! The package of the worked example, and what is written for it, byte for byte; class files made by hand. The tests of
-//! whole runs read these. Nothing here runs.
+//! whole runs name these, and what is changed in them: `sum 97:00` is the class with the byte 0 at 97, `sum ..103` its
+//! first 103 bytes, `list 300*23` the list with a byte 0x23 behind it up to 300 bytes. Nothing here runs.
 
+use crate::words::{cut, number, octet};
+use cjc_bytes::NoMemory;
 use std::alloc::Global;
-use std::test::Fail;
 
 /// The list of the example.
-pub(crate) const LIST: &[u8] = b"package p A000000001 1.0\nexport lang.exp\nclass T.class\n";
+const LIST: &[u8] = b"package p A000000001 1.0\nexport lang.exp\nclass T.class\n";
 
 /// The export file of java/lang, AID A0000000620001, version 1.0: Object, Throwable and nine exceptions, each with its
 /// constructor and `equals`, which have token 0.
-pub(crate) const LANG: [u8; 814] = [
+const LANG: [u8; 814] = [
     0x00, 0xfa, 0xca, 0xde, 0x02, 0x02, 0x00, 0x1c, 0x01, 0x00, 0x09, 0x6a, 0x61, 0x76, 0x61, 0x2f,
     0x6c, 0x61, 0x6e, 0x67, 0x0d, 0x01, 0x00, 0x00, 0x00, 0x01, 0x07, 0xa0, 0x00, 0x00, 0x00, 0x62,
     0x00, 0x01, 0x01, 0x00, 0x10, 0x6a, 0x61, 0x76, 0x61, 0x2f, 0x6c, 0x61, 0x6e, 0x67, 0x2f, 0x4f,
@@ -64,7 +66,7 @@ pub(crate) const LANG: [u8; 814] = [
 ];
 
 /// A public class p/T with one static method f(S)S whose code is 1A 04 60 93 AC.
-pub(crate) const CLASS: [u8; 104] = [
+const CLASS: [u8; 104] = [
     0xCA, 0xFE, 0xBA, 0xBE, 0, 0, 0, 0x34, 0, 8, // up to the count
     1, 0, 3, b'p', b'/', b'T', 7, 0, 1, // p/T
     1, 0, 16, b'j', b'a', b'v', b'a', b'/', b'l', b'a', b'n', b'g', b'/', b'O', b'b', b'j', b'e',
@@ -77,7 +79,7 @@ pub(crate) const CLASS: [u8; 104] = [
 ];
 
 /// That class with the code 1A 04 60 AC: the sum is not made a short.
-pub(crate) const NO_I2S: [u8; 103] = [
+const NO_I2S: [u8; 103] = [
     0xCA, 0xFE, 0xBA, 0xBE, 0, 0, 0, 0x34, 0, 8, // up to the count
     1, 0, 3, b'p', b'/', b'T', 7, 0, 1, // p/T
     1, 0, 16, b'j', b'a', b'v', b'a', b'/', b'l', b'a', b'n', b'g', b'/', b'O', b'b', b'j', b'e',
@@ -90,7 +92,7 @@ pub(crate) const NO_I2S: [u8; 103] = [
 ];
 
 /// A public class p/T with an initialiser whose code is 00 B1: nop, return.
-pub(crate) const INITIALISER: [u8; 107] = [
+const INITIALISER: [u8; 107] = [
     0xCA, 0xFE, 0xBA, 0xBE, 0, 0, 0, 0x34, 0, 8, // up to the count
     1, 0, 3, b'p', b'/', b'T', 7, 0, 1, // p/T
     1, 0, 16, b'j', b'a', b'v', b'a', b'/', b'l', b'a', b'n', b'g', b'/', b'O', b'b', b'j', b'e',
@@ -104,51 +106,51 @@ pub(crate) const INITIALISER: [u8; 107] = [
 ];
 
 /// Header.cap of the example.
-pub(crate) const HEADER: [u8; 20] = [
+const HEADER: [u8; 20] = [
     0x01, 0x00, 0x11, 0xDE, 0xCA, 0xFF, 0xED, 0x02, 0x02, 0x02, 0x00, 0x01, 0x05, 0xA0, 0x00, 0x00,
     0x00, 0x01, 0x01, 0x70,
 ];
 
 /// Directory.cap of the example.
-pub(crate) const DIRECTORY: [u8; 36] = [
+const DIRECTORY: [u8; 36] = [
     0x02, 0x00, 0x21, 0x00, 0x11, 0x00, 0x21, 0x00, 0x00, 0x00, 0x0B, 0x00, 0x02, 0x00, 0x0C, 0x00,
     0x07, 0x00, 0x0A, 0x00, 0x04, 0x00, 0x07, 0x00, 0x1A, 0x00, 0x00, 0x00, 0x00, 0x00, 0x00, 0x00,
     0x00, 0x01, 0x00, 0x00,
 ];
 
 /// Import.cap of the example.
-pub(crate) const IMPORT: [u8; 14] = [
+const IMPORT: [u8; 14] = [
     0x04, 0x00, 0x0B, 0x01, 0x00, 0x01, 0x07, 0xA0, 0x00, 0x00, 0x00, 0x62, 0x00, 0x01,
 ];
 
 /// ConstantPool.cap of the example.
-pub(crate) const POOL: [u8; 5] = [0x05, 0x00, 0x02, 0x00, 0x00];
+const POOL: [u8; 5] = [0x05, 0x00, 0x02, 0x00, 0x00];
 
 /// Class.cap of the example.
-pub(crate) const CLASSES: [u8; 15] = [
+const CLASSES: [u8; 15] = [
     0x06, 0x00, 0x0C, 0x00, 0x00, 0x00, 0x80, 0x00, 0x00, 0xFF, 0x00, 0x01, 0x00, 0x00, 0x00,
 ];
 
 /// Method.cap of the example.
-pub(crate) const METHODS: [u8; 10] = [0x07, 0x00, 0x07, 0x00, 0x02, 0x10, 0x1C, 0x04, 0x41, 0x78];
+const METHODS: [u8; 10] = [0x07, 0x00, 0x07, 0x00, 0x02, 0x10, 0x1C, 0x04, 0x41, 0x78];
 
 /// StaticField.cap of the example.
-pub(crate) const STATICS: [u8; 13] = [0x08, 0x00, 0x0A, 0, 0, 0, 0, 0, 0, 0, 0, 0, 0];
+const STATICS: [u8; 13] = [0x08, 0x00, 0x0A, 0, 0, 0, 0, 0, 0, 0, 0, 0, 0];
 
 /// RefLocation.cap of the example.
-pub(crate) const LOCATIONS: [u8; 7] = [0x09, 0x00, 0x04, 0x00, 0x00, 0x00, 0x00];
+const LOCATIONS: [u8; 7] = [0x09, 0x00, 0x04, 0x00, 0x00, 0x00, 0x00];
 
 /// Export.cap of the example.
-pub(crate) const EXPORTS: [u8; 10] = [0x0A, 0x00, 0x07, 0x01, 0x00, 0x02, 0x00, 0x01, 0x00, 0x01];
+const EXPORTS: [u8; 10] = [0x0A, 0x00, 0x07, 0x01, 0x00, 0x02, 0x00, 0x01, 0x00, 0x01];
 
 /// Descriptor.cap of the example.
-pub(crate) const DESCRIPTORS: [u8; 29] = [
+const DESCRIPTORS: [u8; 29] = [
     0x0B, 0x00, 0x1A, 0x01, 0x00, 0x01, 0x00, 0x02, 0x00, 0x00, 0x00, 0x00, 0x01, 0x00, 0x09, 0x00,
     0x01, 0x00, 0x02, 0x00, 0x04, 0x00, 0x00, 0x00, 0x00, 0x00, 0x00, 0x02, 0x44,
 ];
 
 /// The export file of p.
-pub(crate) const EXPORT_FILE: [u8; 130] = [
+const EXPORT_FILE: [u8; 130] = [
     0x00, 0xFA, 0xCA, 0xDE, 2, 2, 0, 10, // up to the count
     1, 0, 1, b'p', 13, 1, 0, 0, 0, 1, 5, 0xA0, 0, 0, 0, 1, // the package p
     1, 0, 3, b'p', b'/', b'T', 7, 0, 2, // p/T
@@ -163,30 +165,15 @@ pub(crate) const EXPORT_FILE: [u8; 130] = [
     0, 0, 1, 0, 8, 0, 9, // equals
 ];
 
-/// What is written, in order, each with the number of its call of the shelf.
-pub(crate) const FILES: [(u32, &[u8], &[u8]); 11] = [
-    (3, b"out/Header.cap", &HEADER),
-    (4, b"out/Directory.cap", &DIRECTORY),
-    (5, b"out/Import.cap", &IMPORT),
-    (6, b"out/ConstantPool.cap", &POOL),
-    (7, b"out/Class.cap", &CLASSES),
-    (8, b"out/Method.cap", &METHODS),
-    (9, b"out/StaticField.cap", &STATICS),
-    (10, b"out/RefLocation.cap", &LOCATIONS),
-    (11, b"out/Export.cap", &EXPORTS),
-    (12, b"out/Descriptor.cap", &DESCRIPTORS),
-    (13, b"out/p.exp", &EXPORT_FILE),
-];
-
 /// An abstract class p/T with so many public abstract methods, the first with a descriptor of this one letter.
-pub(crate) fn of_methods(alloc: Global, count: u8, first: u8) -> Result<Vec<u8>, Fail> {
+fn of_methods(alloc: Global, count: u8, first: &str) -> Result<Vec<u8>, NoMemory> {
     let mut class = Vec::new(alloc);
     class.extend_from_slice(b"\xCA\xFE\xBA\xBE\x00\x00\x00\x34\x01\x00")?;
     class.extend_from_slice(
         b"\x07\x00\x02\x01\x00\x03p/T\x07\x00\x04\x01\x00\x10java/lang/Object",
     )?;
     class.extend_from_slice(b"\x01\x00\x03()V\x01\x00\x04(")?;
-    class.push(first)?;
+    class.extend_from_slice(first.as_bytes())?;
     class.extend_from_slice(b")V")?;
     for number in 7..=255 {
         let name = [0x01, 0x00, 0x02, b'a' + number / 16, b'a' + number % 16];
@@ -210,4 +197,110 @@ pub(crate) fn of_methods(alloc: Global, count: u8, first: u8) -> Result<Vec<u8>,
     }
     class.extend_from_slice(b"\x00\x00")?;
     Ok(class)
+}
+
+/// Lists that name other files than the example's.
+const TWICE: &[u8] = b"package p A000000001 1.0\nexport lang.exp\nclass T.class\nclass U.class\n";
+
+const NO_LANG: &[u8] = b"package p A000000001 1.0\nexport p.exp\nclass T.class\n";
+
+const ALONE: &[u8] = b"package p A000000001 1.0\nclass T.class\n";
+
+const TWO_LANG: &[u8] =
+    b"package p A000000001 1.0\nexport lang.exp\nexport lang.exp\nclass T.class\n";
+
+/// What is read, by its name in a case; nothing by another name.
+fn read_file(name: &str) -> &'static [u8] {
+    match name {
+        "list" => LIST,
+        "twice" => TWICE,
+        "no-lang" => NO_LANG,
+        "alone" => ALONE,
+        "two-lang" => TWO_LANG,
+        "lang" => &LANG,
+        "sum" => &CLASS,
+        "no-i2s" => &NO_I2S,
+        "initialiser" => &INITIALISER,
+        _ => &[],
+    }
+}
+
+/// What is read or written, by its name in a case.
+fn file(name: &str) -> &'static [u8] {
+    match name {
+        "header" => &HEADER,
+        "directory" => &DIRECTORY,
+        "import" => &IMPORT,
+        "pool" => &POOL,
+        "classes" => &CLASSES,
+        "methods" => &METHODS,
+        "statics" => &STATICS,
+        "locations" => &LOCATIONS,
+        "exports" => &EXPORTS,
+        "descriptors" => &DESCRIPTORS,
+        "export-file" => &EXPORT_FILE,
+        _ => read_file(name),
+    }
+}
+
+/// Sets a byte. There is no memory for one that is behind the file.
+fn set(bytes: &mut Vec<u8>, at: &str, to: &str) -> Result<(), NoMemory> {
+    let to = octet(to)?;
+    match bytes.get_mut(number(at)? as usize) {
+        Some(byte) => {
+            *byte = to;
+            Ok(())
+        }
+        None => Err(NoMemory),
+    }
+}
+
+/// Fills a file up to a length.
+fn fill(bytes: &mut Vec<u8>, length: &str, with: &str) -> Result<(), NoMemory> {
+    let with = octet(with)?;
+    for _ in bytes.len()..number(length)? as usize {
+        bytes.push(with)?;
+    }
+    Ok(())
+}
+
+/// Changes a file by one word of a case.
+fn change(bytes: &mut Vec<u8>, word: &str) -> Result<(), NoMemory> {
+    if let Some(length) = word.strip_prefix("..") {
+        bytes.truncate(number(length)? as usize);
+        return Ok(());
+    }
+    match word.split_once("*") {
+        Some((length, with)) => fill(bytes, length, with),
+        None => {
+            let (at, to) = cut(word, ":");
+            set(bytes, at, to)
+        }
+    }
+}
+
+/// The class with so many methods.
+fn many(alloc: Global, words: &str) -> Result<Vec<u8>, NoMemory> {
+    let (count, first) = cut(words, " ");
+    let count = number(count)?;
+    if count < 256 {
+        of_methods(alloc, count as u8, first)
+    } else {
+        Err(NoMemory)
+    }
+}
+
+/// The bytes of a file by its name and what is changed in it. `of-methods COUNT FIRST` is the class with so many.
+pub(crate) fn bytes_of(alloc: Global, words: &str) -> Result<Vec<u8>, NoMemory> {
+    let (name, changes) = cut(words, " ");
+    if name == "of-methods" {
+        return many(alloc, changes);
+    }
+    let mut bytes = Vec::from_slice(alloc, file(name))?;
+    if !changes.is_empty() {
+        for word in changes.split(" ") {
+            change(&mut bytes, word)?;
+        }
+    }
+    Ok(bytes)
 }

@@ -1,359 +1,285 @@
-//! Whole runs over files in memory: what is printed, what stands after, and how each ends.
+//! Whole runs over files in memory: what is printed, what stands after, and how each ends. A case says what is not as
+//! in the example, with ` ; ` between, and then ` = ` and what is wanted:
+//!
+//! - `FILE BYTES` is a file that is read or written, its bytes as packages.rt says, and `FILE none` one that is absent;
+//! - `shelf NUMBER` is the call of the shelf that fails, `put NUMBER` the one of the sink;
+//! - `words WORD WORD ..` are the words of the command, and `-` is none.
+//!
+//! Wanted are how many calls of the shelf are over when the run ends, how many bytes are printed, and the line at the
+//! end, without its line feed, or `-` where there is none.
 
-use crate::packages::{
-    CLASS, CLASSES, EXPORT_FILE, FILES, IMPORT, INITIALISER, LANG, LIST, NO_I2S, of_methods,
-};
+use crate::packages::bytes_of;
+use crate::words::{cut, number, question_and_answer};
 use cjc_bytes::{Bytes, NoMemory, Row};
 use cjc_run::{run, status_line};
 use cjc_shelf::{MemShelf, MemSink};
 use std::alloc::Global;
-use std::test::Fail;
+use std::test::*;
 
-/// Each call of the shelf, and how the run ends where it fails.
-const FAULTS: [(u32, &str); 14] = [
-    (0, "shelf fault list\n"),
-    (1, "shelf fault lang.exp\n"),
-    (2, "shelf fault T.class\n"),
-    (3, "shelf fault out/Header.cap\n"),
-    (4, "shelf fault out/Directory.cap\n"),
-    (5, "shelf fault out/Import.cap\n"),
-    (6, "shelf fault out/ConstantPool.cap\n"),
-    (7, "shelf fault out/Class.cap\n"),
-    (8, "shelf fault out/Method.cap\n"),
-    (9, "shelf fault out/StaticField.cap\n"),
-    (10, "shelf fault out/RefLocation.cap\n"),
-    (11, "shelf fault out/Export.cap\n"),
-    (12, "shelf fault out/Descriptor.cap\n"),
-    (13, "shelf fault out/p.exp\n"),
-];
+/// What is read.
+const READ: &str = "\
+list list
+lang.exp lang
+T.class sum
+U.class none
+p.exp none";
 
-const PRINTED: &str =
-    "Header.cap 20\nDirectory.cap 36\nImport.cap 14\nConstantPool.cap 5\nClass.cap 15\nMethod.cap 10\nStaticField.cap 13\nRefLocation.cap 7\nExport.cap 10\nDescriptor.cap 29\np.exp 130\n";
+/// What is written, in order, each with the number of its call of the shelf.
+const WRITTEN: &str = "\
+3 out/Header.cap header
+4 out/Directory.cap directory
+5 out/Import.cap import
+6 out/ConstantPool.cap pool
+7 out/Class.cap classes
+8 out/Method.cap methods
+9 out/StaticField.cap statics
+10 out/RefLocation.cap locations
+11 out/Export.cap exports
+12 out/Descriptor.cap descriptors
+13 out/p.exp export-file
+14 out/Applet.cap none";
 
-const USAGE: &str =
-    "usage: jcconv convert LIST DIR, check LIST DIR, jvm LIST SCRIPT N, card LIST DIR SCRIPT N, make NUMBER SIZE\n";
+/// What is printed.
+const PRINTED: &str = "\
+Header.cap 20
+Directory.cap 36
+Import.cap 14
+ConstantPool.cap 5
+Class.cap 15
+Method.cap 10
+StaticField.cap 13
+RefLocation.cap 7
+Export.cap 10
+Descriptor.cap 29
+p.exp 130
+";
 
-const CONVERT: [&[u8]; 3] = [b"convert", b"list", b"out"];
+const USAGE: &str = "usage: jcconv convert LIST DIR, check LIST DIR, jvm LIST SCRIPT N, \
+    card LIST DIR SCRIPT N, make NUMBER SIZE";
 
-fn words_of(alloc: Global, words: &[&[u8]]) -> Result<Row<Bytes>, NoMemory> {
+/// The files that convert the example, and those that do not.
+const CONVERSIONS: &str = "\
+list list = 14 170 -
+lang.exp lang 24:03 25:02 33:7f 458:c8 477:07 479:04 \
+    ; out/Import.cap import 4:03 5:02 13:7f ; out/Class.cap classes 7:c8 11:08 \
+    ; out/p.exp export-file 123:07 125:04 \
+    = 14 170 - # version 2.3, another AID, Object with token 200, its `equals` protected and with token 7
+list list 262144*23 = 14 170 - # the longest
+list list 262145*23 = 0 0 too long list
+T.class no-i2s = 0 0 refused 801 list - - 0
+T.class sum 0:00 = 0 0 refused 101 T.class - - 0
+T.class sum ..103 = 0 0 refused 101 T.class - - 102
+T.class sum 97:00 = 0 0 refused 103 T.class p/T f(S)S 4 # nop at the end
+T.class sum 95:61 = 0 0 refused 303 T.class p/T f(S)S 2 # ladd for iadd
+T.class sum 95:61 97:00 = 0 0 refused 103 T.class p/T f(S)S 4
+lang.exp lang ..3 = 0 0 refused 104 lang.exp - - 0
+lang.exp lang ..3 ; T.class sum 97:00 = 0 0 refused 104 lang.exp - - 0
+lang.exp lang ..3 ; T.class sum 95:61 = 0 0 refused 104 lang.exp - - 0
+T.class zeros 262145*00 = 0 0 too long T.class
+list twice ; U.class sum = 0 0 refused 202 U.class p/T - 0
+list no-lang ; p.exp export-file = 0 0 refused 207 list - - 0
+list two-lang = 0 0 refused 202 lang.exp - - 0
+list alone ; T.class sum 95:61 = 0 0 refused 207 list - - 0
+T.class sum 72:29 = 0 0 refused 304 T.class p/T f(S)S 0 # synchronized
+T.class sum 95:61 72:29 = 0 0 refused 304 T.class p/T f(S)S 0
+T.class sum 85:01 = 0 0 refused 405 T.class p/T f(S)S 0 # a max_stack of 258
+T.class sum 95:61 85:01 = 0 0 refused 303 T.class p/T f(S)S 2
+T.class sum 93:01 94:00 95:00 96:00 = 0 0 refused 502 T.class p/T f(S)S 4 # aconst_null, three nops, ireturn
+T.class sum 93:04 95:04 = 0 0 refused 503 T.class p/T f(S)S 2 # three constants
+T.class initialiser = 0 0 refused 308 T.class p/T <clinit>()V 0 # a nop
+T.class initialiser 78:28 = 0 0 refused 304 T.class p/T <clinit>()V 0 # and synchronized
+T.class of-methods 127 S = 0 0 refused 801 list - - 0 # equals of java/lang/Object has token 0
+T.class of-methods 128 S = 0 0 refused 413 T.class p/T - 0
+T.class of-methods 127 C = 0 0 refused 301 T.class p/T ah(C)V 0
+T.class of-methods 128 C = 0 0 refused 301 T.class p/T ah(C)V 0 # a char comes before a limit
+words - = 0 0 usage
+words convert list = 0 0 usage
+words convert list out out = 0 0 usage
+words Convert list out = 0 0 usage
+list none ; lang.exp none ; T.class none = 0 0 absent list
+T.class none = 0 0 absent T.class";
+
+/// Each call of the shelf fails, and each of the sink.
+const FAULTS: &str = "\
+shelf 0 = 0 0 shelf fault list
+shelf 1 = 1 0 shelf fault lang.exp
+shelf 2 = 2 0 shelf fault T.class
+shelf 3 = 3 0 shelf fault out/Header.cap
+shelf 4 = 4 0 shelf fault out/Directory.cap
+shelf 5 = 5 0 shelf fault out/Import.cap
+shelf 6 = 6 0 shelf fault out/ConstantPool.cap
+shelf 7 = 7 0 shelf fault out/Class.cap
+shelf 8 = 8 0 shelf fault out/Method.cap
+shelf 9 = 9 0 shelf fault out/StaticField.cap
+shelf 10 = 10 0 shelf fault out/RefLocation.cap
+shelf 11 = 11 0 shelf fault out/Export.cap
+shelf 12 = 12 0 shelf fault out/Descriptor.cap
+shelf 13 = 13 0 shelf fault out/p.exp
+put 0 = 14 0 sink fault
+put 1 = 14 14 sink fault
+put 2 = 14 31 sink fault
+put 3 = 14 45 sink fault
+put 4 = 14 64 sink fault
+put 5 = 14 77 sink fault
+put 6 = 14 91 sink fault
+put 7 = 14 110 sink fault
+put 8 = 14 128 sink fault
+put 9 = 14 142 sink fault
+put 10 = 14 160 sink fault";
+
+/// What a case says of a file, a call or the words; the second where it says nothing.
+fn said<'t>(case: &'t str, of: &str, otherwise: &'t str) -> &'t str {
+    for part in case.split(" ; ") {
+        let (name, rest) = cut(part, " ");
+        if name == of {
+            return rest;
+        }
+    }
+    otherwise
+}
+
+/// The number of a call that fails, or none.
+fn failing(alloc: Global, word: &str) -> Result<Row<u32>, NoMemory> {
     let mut row = Row::new(alloc);
-    for word in words {
-        row.push(Bytes::copy_of(alloc, word)?)?;
+    if !word.is_empty() {
+        row.push(number(word)?)?;
     }
     Ok(row)
 }
 
-fn numbers(alloc: Global, numbers: &[u32]) -> Result<Row<u32>, NoMemory> {
+fn words_of(alloc: Global, words: &str) -> Result<Row<Bytes>, NoMemory> {
     let mut row = Row::new(alloc);
-    for number in numbers {
-        row.push(*number)?;
+    if words != "-" {
+        for word in words.split(" ") {
+            row.push(Bytes::copy_of(alloc, word.as_bytes())?)?;
+        }
     }
     Ok(row)
 }
 
-/// The list, its export file and this class file.
-fn package(alloc: Global, failing: &[u32], class: &[u8]) -> Result<MemShelf, Fail> {
-    let mut shelf = MemShelf::new(alloc, numbers(alloc, failing)?);
-    shelf.add(b"list", LIST)?;
-    shelf.add(b"lang.exp", &LANG)?;
-    shelf.add(b"T.class", class)?;
+/// Puts a file that is read on the shelf.
+fn put_file(alloc: Global, shelf: &mut MemShelf, name: &str, bytes: &str) -> Result<(), NoMemory> {
+    if bytes == "none" {
+        return Ok(());
+    }
+    let bytes = bytes_of(alloc, bytes)?;
+    shelf.add(name.as_bytes(), bytes.as_slice())
+}
+
+fn put_files(alloc: Global, shelf: &mut MemShelf, case: &str) -> Result<(), NoMemory> {
+    for line in READ.lines() {
+        let (name, bytes) = cut(line, " ");
+        put_file(alloc, shelf, name, said(case, name, bytes))?;
+    }
+    Ok(())
+}
+
+fn shelf_of(alloc: Global, case: &str) -> Result<MemShelf, NoMemory> {
+    let mut shelf = MemShelf::new(alloc, failing(alloc, said(case, "shelf", ""))?);
+    put_files(alloc, &mut shelf, case)?;
     Ok(shelf)
 }
 
-/// Whether a run with these words, where the puts of these numbers fail, prints this text, and ends with this line.
+fn sink_of(alloc: Global, failing_put: &str) -> Result<MemSink, NoMemory> {
+    let mut sink = MemSink::new(alloc, failing(alloc, failing_put)?);
+    sink.reserve()?;
+    Ok(sink)
+}
+
+/// Whether a file is whole, or none where these bytes are.
+fn is_file(alloc: Global, shelf: &MemShelf, name: &str, bytes: &str) -> Result<bool, NoMemory> {
+    let found = shelf.get(name.as_bytes());
+    if bytes == "none" {
+        return Ok(found.is_none());
+    }
+    let bytes = bytes_of(alloc, bytes)?;
+    Ok(found == Some(bytes.as_slice()))
+}
+
+/// Whether a shelf has the files of the calls before this one whole, and none of the others.
+fn stand_before(alloc: Global, shelf: &MemShelf, case: &str, call: u32) -> Result<bool, NoMemory> {
+    for line in WRITTEN.lines() {
+        let (at, file) = cut(line, " ");
+        let (name, bytes) = cut(file, " ");
+        let bytes = if number(at)? < call {
+            said(case, name, bytes)
+        } else {
+            "none"
+        };
+        if !is_file(alloc, shelf, name, bytes)? {
+            return Ok(false);
+        }
+    }
+    Ok(true)
+}
+
+/// Whether these bytes are the line that a run ends with.
+fn is_end(bytes: &[u8], end: &str) -> bool {
+    let line = if end == "usage" { USAGE } else { end };
+    match bytes {
+        [] => end == "-",
+        [front @ .., b'\n'] => front == line.as_bytes(),
+        _ => false,
+    }
+}
+
+/// Whether these bytes are the first so many that are printed.
+fn is_printed(bytes: &[u8], length: u32) -> bool {
+    match PRINTED.get(..length as usize) {
+        Some(text) => bytes == text.as_bytes(),
+        None => false,
+    }
+}
+
+/// Runs the command of a case, and tells whether it prints and ends as wanted.
 fn ends_so(
     alloc: Global,
-    failing: &[u32],
-    words: &[&[u8]],
     shelf: &mut MemShelf,
-    text: &str,
+    case: &str,
+    length: u32,
     end: &str,
-) -> Result<bool, Fail> {
-    let mut out = MemSink::new(alloc, numbers(alloc, failing)?);
-    out.reserve()?;
-    let mut errors = MemSink::new(alloc, Row::new(alloc));
-    errors.reserve()?;
-    let words = words_of(alloc, words)?;
+) -> Result<bool, NoMemory> {
+    let words = words_of(alloc, said(case, "words", "convert list out"))?;
+    let mut out = sink_of(alloc, said(case, "put", ""))?;
+    let mut errors = sink_of(alloc, "")?;
     let status = run(alloc, words.items(), shelf, &mut out);
-    status_line(&status, &mut errors)?;
-    Ok(out.bytes() == text.as_bytes() && errors.bytes() == end.as_bytes())
+    if status_line(&status, &mut errors).is_err() {
+        return Ok(false);
+    }
+    Ok(is_printed(out.bytes(), length) && is_end(errors.bytes(), end))
 }
 
-/// Whether this shelf has the files of the calls before this one whole, and none of the others.
-fn stand_before(shelf: &MemShelf, files: &[(u32, &[u8], &[u8])], call: u32) -> bool {
-    files.iter().all(|(at, name, bytes)| {
-        if *at < call {
-            shelf.get(name) == Some(*bytes)
-        } else {
-            shelf.get(name).is_none()
+/// Whether a run is as wanted.
+fn is_so(alloc: Global, case: &str, wanted: &str) -> Result<bool, NoMemory> {
+    let (call, wanted) = cut(wanted, " ");
+    let (length, end) = cut(wanted, " ");
+    let call = number(call)?;
+    let length = number(length)?;
+    let mut shelf = shelf_of(alloc, case)?;
+    if !ends_so(alloc, &mut shelf, case, length, end)? {
+        return Ok(false);
+    }
+    stand_before(alloc, &shelf, case, call)
+}
+
+/// The first case that goes otherwise; nothing where there is none.
+fn first_wrong(alloc: Global, cases: &str) -> &str {
+    for line in cases.lines() {
+        let (case, wanted) = question_and_answer(line);
+        match is_so(alloc, case, wanted) {
+            Ok(true) => {}
+            _ => return line,
         }
-    })
-}
-
-/// Whether this package, with this list and export file of java/lang, is refused so and nothing is written or printed.
-fn is_refused(
-    alloc: Global,
-    list: &[u8],
-    lang: &[u8],
-    class: &[u8],
-    end: &str,
-) -> Result<bool, Fail> {
-    let mut shelf = package(alloc, &[], class)?;
-    shelf.add(b"list", list)?;
-    shelf.add(b"lang.exp", lang)?;
-    shelf.add(b"U.class", &CLASS)?;
-    shelf.add(b"p.exp", &EXPORT_FILE)?;
-    Ok(ends_so(alloc, &[], &CONVERT, &mut shelf, "", end)? && stand_before(&shelf, &FILES, 0))
-}
-
-/// Each put, and how many bytes the lines before it have.
-const PUTS: [(u32, usize); 11] = [
-    (0, 0),
-    (1, 14),
-    (2, 31),
-    (3, 45),
-    (4, 64),
-    (5, 77),
-    (6, 91),
-    (7, 110),
-    (8, 128),
-    (9, 142),
-    (10, 160),
-];
-
-#[test]
-fn converts_a_sum(rt: HostRuntime) -> Result<(), Fail> {
-    let mut shelf = package(rt.alloc(), &[], &CLASS)?;
-    let is_done = ends_so(rt.alloc(), &[], &CONVERT, &mut shelf, PRINTED, "")?;
-    let stand = stand_before(&shelf, &FILES, 14);
-    assert!(rt; is_done && stand && shelf.get(b"out/Applet.cap").is_none());
-    Ok(())
-}
-
-#[test]
-fn converts_by_another_export_file(rt: HostRuntime) -> Result<(), Fail> {
-    // version 2.3, another AID, Object with token 200, its `equals` protected and with token 7
-    let mut lang = LANG;
-    lang[24] = 3;
-    lang[25] = 2;
-    lang[33] = 0x7F;
-    lang[458] = 200;
-    lang[477] = 7;
-    lang[479] = 4;
-    let mut import = IMPORT;
-    import[4] = 3;
-    import[5] = 2;
-    import[13] = 0x7F;
-    let mut classes = CLASSES;
-    classes[7] = 200;
-    classes[11] = 8;
-    let mut export = EXPORT_FILE;
-    export[123] = 7;
-    export[125] = 4;
-    let mut files = FILES;
-    files[2].2 = &import;
-    files[4].2 = &classes;
-    files[10].2 = &export;
-    let mut shelf = package(rt.alloc(), &[], &CLASS)?;
-    shelf.add(b"lang.exp", &lang)?;
-    let is_done = ends_so(rt.alloc(), &[], &CONVERT, &mut shelf, PRINTED, "")?;
-    assert!(rt; is_done && stand_before(&shelf, &files, 14));
-    Ok(())
-}
-
-/// A list of this length that says what the example's says: behind its lines stands a comment.
-fn long_list(alloc: Global, length: usize) -> Result<Vec<u8>, Fail> {
-    let mut list = LIST.to_vec(alloc)?;
-    for _ in LIST.len()..length {
-        list.push(b'#')?;
     }
-    Ok(list)
+    ""
 }
 
 #[test]
-fn reads_the_longest_file_and_no_longer(rt: HostRuntime) -> Result<(), Fail> {
-    let cases = [
-        (262_144, PRINTED, "", 14),
-        (262_145, "", "too long list\n", 0),
-    ];
-    for (length, text, end, call) in cases {
-        let list = long_list(rt.alloc(), length)?;
-        let mut shelf = package(rt.alloc(), &[], &CLASS)?;
-        shelf.add(b"list", list.as_slice())?;
-        let is_so = ends_so(rt.alloc(), &[], &CONVERT, &mut shelf, text, end)?;
-        assert!(rt; is_so && stand_before(&shelf, &FILES, call), "{length}");
-    }
-    Ok(())
+fn converts_or_refuses_and_writes_nothing(rt: HostRuntime) {
+    assert_eq!(rt; first_wrong(rt.alloc(), CONVERSIONS), "");
 }
 
 #[test]
-fn refuses_and_writes_nothing(rt: HostRuntime) -> Result<(), Fail> {
-    let mut broken = CLASS;
-    broken[0] = 0;
-    let long = vec![in rt.alloc(); 0u8; 262_145]?;
-    // nop at the end, ladd for iadd, and both
-    let mut falls = CLASS;
-    falls[97] = 0x00;
-    let mut longs = CLASS;
-    longs[95] = 0x61;
-    let mut both = longs;
-    both[97] = 0x00;
-    let cut = &LANG[..3];
-    let cases: [(&[u8], &[u8], &str); 10] = [
-        (&LANG, &NO_I2S, "refused 801 list - - 0\n"),
-        (&LANG, &broken, "refused 101 T.class - - 0\n"),
-        (&LANG, &CLASS[..103], "refused 101 T.class - - 102\n"),
-        (&LANG, &falls, "refused 103 T.class p/T f(S)S 4\n"),
-        (&LANG, &longs, "refused 303 T.class p/T f(S)S 2\n"),
-        (&LANG, &both, "refused 103 T.class p/T f(S)S 4\n"),
-        (cut, &CLASS, "refused 104 lang.exp - - 0\n"),
-        (cut, &falls, "refused 104 lang.exp - - 0\n"),
-        (cut, &longs, "refused 104 lang.exp - - 0\n"),
-        (&LANG, long.as_slice(), "too long T.class\n"),
-    ];
-    for (lang, class, want) in cases {
-        assert!(rt; is_refused(rt.alloc(), LIST, lang, class, want)?, "{want}");
-    }
-    Ok(())
-}
-
-/// Lists that name other files than the first form's.
-const TWICE: &[u8] = b"package p A000000001 1.0\nexport lang.exp\nclass T.class\nclass U.class\n";
-
-const NO_LANG: &[u8] = b"package p A000000001 1.0\nexport p.exp\nclass T.class\n";
-
-const ALONE: &[u8] = b"package p A000000001 1.0\nclass T.class\n";
-
-const TWO_LANG: &[u8] =
-    b"package p A000000001 1.0\nexport lang.exp\nexport lang.exp\nclass T.class\n";
-
-#[test]
-fn refuses_by_the_world(rt: HostRuntime) -> Result<(), Fail> {
-    let mut longs = CLASS;
-    longs[95] = 0x61;
-    // synchronized, and a max_stack of 258
-    let mut locks = CLASS;
-    locks[72] = 0x29;
-    let mut deep = CLASS;
-    deep[85] = 1;
-    let mut mixed = longs;
-    mixed[72] = 0x29;
-    let mut late = longs;
-    late[85] = 1;
-    // aconst_null, three nops, ireturn; and three constants
-    let mut nulls = CLASS;
-    nulls[93] = 0x01;
-    nulls[94] = 0x00;
-    nulls[95] = 0x00;
-    nulls[96] = 0x00;
-    let mut high = CLASS;
-    high[93] = 0x04;
-    high[95] = 0x04;
-    // a nop in the initialiser, which is synchronized
-    let mut both = INITIALISER;
-    both[78] = 0x28;
-    let cases: [(&[u8], &[u8], &str); 13] = [
-        (TWICE, &CLASS, "refused 202 U.class p/T - 0\n"),
-        (NO_LANG, &CLASS, "refused 207 list - - 0\n"),
-        (TWO_LANG, &CLASS, "refused 202 lang.exp - - 0\n"),
-        (ALONE, &longs, "refused 207 list - - 0\n"),
-        (LIST, &longs, "refused 303 T.class p/T f(S)S 2\n"),
-        (LIST, &locks, "refused 304 T.class p/T f(S)S 0\n"),
-        (LIST, &mixed, "refused 304 T.class p/T f(S)S 0\n"),
-        (LIST, &deep, "refused 405 T.class p/T f(S)S 0\n"),
-        (LIST, &late, "refused 303 T.class p/T f(S)S 2\n"),
-        (LIST, &nulls, "refused 502 T.class p/T f(S)S 4\n"),
-        (LIST, &high, "refused 503 T.class p/T f(S)S 2\n"),
-        (
-            LIST,
-            &INITIALISER,
-            "refused 308 T.class p/T <clinit>()V 0\n",
-        ),
-        (LIST, &both, "refused 304 T.class p/T <clinit>()V 0\n"),
-    ];
-    for (list, class, want) in cases {
-        assert!(rt; is_refused(rt.alloc(), list, &LANG, class, want)?, "{want}");
-    }
-    Ok(())
-}
-
-#[test]
-fn refuses_too_many_methods(rt: HostRuntime) -> Result<(), Fail> {
-    // equals of java/lang/Object has token 0; a char comes before a limit
-    let cases: [(u8, u8, &str); 4] = [
-        (127, b'S', "refused 801 list - - 0\n"),
-        (128, b'S', "refused 413 T.class p/T - 0\n"),
-        (127, b'C', "refused 301 T.class p/T ah(C)V 0\n"),
-        (128, b'C', "refused 301 T.class p/T ah(C)V 0\n"),
-    ];
-    for (count, first, want) in cases {
-        let class = of_methods(rt.alloc(), count, first)?;
-        assert!(rt;
-            is_refused(rt.alloc(), LIST, &LANG, &class, want)?,
-            "{want}"
-        );
-    }
-    Ok(())
-}
-
-#[test]
-fn each_call_of_the_shelf_fails(rt: HostRuntime) -> Result<(), Fail> {
-    for (call, want) in FAULTS {
-        let mut shelf = package(rt.alloc(), &[call], &CLASS)?;
-        let is_so = ends_so(rt.alloc(), &[], &CONVERT, &mut shelf, "", want)?;
-        assert!(rt; is_so && stand_before(&shelf, &FILES, call), "at {call}");
-    }
-    Ok(())
-}
-
-#[test]
-fn each_put_fails(rt: HostRuntime) -> Result<(), Fail> {
-    for (put, end) in PUTS {
-        let mut shelf = package(rt.alloc(), &[], &CLASS)?;
-        let text = PRINTED.get(..end).unwrap_or("");
-        let is_so = ends_so(
-            rt.alloc(),
-            &[put],
-            &CONVERT,
-            &mut shelf,
-            text,
-            "sink fault\n",
-        )?;
-        assert!(rt; is_so && stand_before(&shelf, &FILES, 14), "at {put}");
-    }
-    Ok(())
-}
-
-#[test]
-fn words_of_no_form(rt: HostRuntime) -> Result<(), Fail> {
-    let words: [&[&[u8]]; 4] = [
-        &[],
-        &[b"convert", b"list"],
-        &[b"convert", b"list", b"out", b"out"],
-        &[b"Convert", b"list", b"out"],
-    ];
-    for words in words {
-        let mut shelf = package(rt.alloc(), &[], &CLASS)?;
-        let is_so = ends_so(rt.alloc(), &[], words, &mut shelf, "", USAGE)?;
-        assert!(rt; is_so && stand_before(&shelf, &FILES, 0));
-    }
-    Ok(())
-}
-
-#[test]
-fn files_that_are_absent(rt: HostRuntime) -> Result<(), Fail> {
-    let mut shelf = MemShelf::new(rt.alloc(), Row::new(rt.alloc()));
-    let no_list = ends_so(rt.alloc(), &[], &CONVERT, &mut shelf, "", "absent list\n")?;
-    shelf.add(b"list", LIST)?;
-    shelf.add(b"lang.exp", LANG.as_slice())?;
-    let no_class = ends_so(
-        rt.alloc(),
-        &[],
-        &CONVERT,
-        &mut shelf,
-        "",
-        "absent T.class\n",
-    )?;
-    assert!(rt; no_list && no_class && stand_before(&shelf, &FILES, 0));
-    Ok(())
+fn each_call_fails(rt: HostRuntime) {
+    assert_eq!(rt; first_wrong(rt.alloc(), FAULTS), "");
 }
