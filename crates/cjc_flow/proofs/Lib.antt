@@ -1,0 +1,11 @@
+pub mod Answering
+pub mod Arriving
+pub mod Loading
+pub mod Given
+pub mod Joining
+pub mod Marked
+pub mod Edges
+pub mod Exact
+pub mod Normal
+pub mod Searching
+pub mod Least

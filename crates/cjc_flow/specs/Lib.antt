@@ -1,0 +1,4 @@
+pub mod States
+pub mod Constants
+pub mod Tables
+pub mod Working

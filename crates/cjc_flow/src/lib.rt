@@ -1,0 +1,18 @@
+//! The least intervals of a method's numbers over its type table, by the solver of dataflow problems, with rows where ways
+//! meet. It knows no token, no component, and nothing of narrow code.
+#![tactic(auto)]
+
+mod arrival;
+mod code;
+mod elements;
+mod insns;
+mod intervals;
+mod ranging;
+mod state;
+mod steps;
+mod targets;
+mod values;
+
+pub use intervals::Intervals;
+pub use ranging::{RangeTable, Ranging};
+pub use state::Ranges;
