@@ -2,7 +2,7 @@
 use Rattle.std.proofs.Common.{◌≡◌, ℕ, zero, suc, ◌+◌, ◌-◌, ◌*◌, ◌/◌, ◌%◌, ◌^◌, ◌<◌, ◌≤◌, ◌==◌, Bool, true, false, List, [], ◌∷◌, ◌++◌, length, refl, sym, ap, subst, ◌∙◌, arith, All, Option, Some, None, Result, Ok, Err, length-append}
 use Rattle.std.specs.Prelude.{if◌then◌else◌, nat_lt, sum_by}
 use Rattle.std.specs.List.{flat_map}
-use Rattle.std.specs.Int.{Width, w8, w16, w32, byte_len}
+use Rattle.std.specs.Int.{Width, w8, w16, w32, byte_len, from_be_bytes}
 use Rattle.std.proofs.lemmas.List.Sums.{sum_by-cons, sum_by-append}
 use Rattle.cjc_bytes.specs.AccessFlags.{is_static}
 use Rattle.cjc_bytes.specs.Format.{Format, number, run, here, looked_up, gives, followed_by, Spells, FileSpells, repeated, before, where_true, u1, u2, raw}
@@ -12,7 +12,7 @@ use Rattle.cjc_capread.specs.Header.{header}
 use Rattle.cjc_capread.specs.Directory.{directory}
 use Rattle.cjc_capread.specs.Applet.{applet, applet_entry}
 use Rattle.cjc_capread.specs.Import.{import, imported_package}
-use Rattle.cjc_capread.specs.Pool.{constant_pool, content, pool_entry}
+use Rattle.cjc_capread.specs.Pool.{constant_pool, content, pool_entry, tag_of}
 use Rattle.cjc_capread.specs.Class.{class_entry, class_info, entry_content, implemented_interface, interface_entry, next_entry}
 use Rattle.cjc_capread.specs.Method.{handler, method}
 use Rattle.cjc_capread.specs.StaticField.{array_init, static_field}
@@ -22,8 +22,6 @@ use Rattle.cjc_capread.specs.Descriptor.{class_descriptor, descriptor, ended, fi
 use Rattle.cjc_capread.specs.Until.{or_gives, until}
 use Rattle.cjc_capread.specs.Component.{component, either, info, size_in}
 use Rattle.cjc_capread.specs.Kinds.{applet_of, import_of, pool_of, class_of, method_of, statics_of, locations_of, export_of, descriptor_of}
-use Rattle.cjc_capread.specs.declared.pool.Tag.{Tag}
-use Rattle.cjc_capread.specs.declared.pool.Tag.TheVariants as tags
 use Rattle.cjc_capread.specs.declared.tree.AppletEntry.{AppletEntry}
 use Rattle.cjc_capread.specs.declared.tree.Applet.{Applet}
 use Rattle.cjc_capread.specs.declared.tree.ArrayInit.{ArrayInit}
@@ -157,58 +155,51 @@ refs n at xs bytes h =
     let e = two_each xs in
     omega (arith, s, e)
 
+-- The same where so many bytes stand before it.
+abbrev MeasuresFrom : {A : Type 0} → Format A → ℕ → (A → ℕ) → Type 0
+MeasuresFrom {A} p n size = (at : ℕ) (a : A) (bytes : List ℕ) → Spells p at a bytes → size a ≤ n + length bytes
+
+take : {A B : Type 0} (p : Format B) (f : B → Format A) (n : ℕ) (size : A → ℕ) (own : B → ℕ) → Measures p own → ((x : B) → MeasuresFrom (f x) (n + own x) size) → MeasuresFrom (followed_by p f) n size
+take p f n size own m rest at v bytes h =
+    let t = two _ _ _ _ _ h in
+    let total = t.total in
+    let one = m t.from t.x t.front t.one in
+    let more = rest t.x t.place v t.back t.rest in
+    omega (arith, total, one, more)
+
+last : {A : Type 0} (y : A) (n : ℕ) (size : A → ℕ) → size y ≤ n → MeasuresFrom (gives y) n size
+last {A} y n size le at v bytes h = subst (λ (z : A). size z ≤ n + length bytes) (given y at v bytes h) (omega (arith, le))
+
+whole : {A : Type 0} (p : Format A) (size : A → ℕ) → MeasuresFrom p 0 size → Measures p size
+whole p size m at v bytes h = let le = m at v bytes h in omega (arith, le)
+
+a_byte : {A : Type 0} (table : ℕ → Option A) → Measures (number w8 table) (λ x. 1)
+a_byte table at v bytes h = let e = wide w8 table at v bytes h in omega (arith, e)
+
+four : {A : Type 0} (table : ℕ → Option A) → Measures (number w32 table) (λ x. 4)
+four table at v bytes h = let e = wide w32 table at v bytes h in omega (arith, e)
+
+one : Measures u1 (λ x. 1)
+one at v bytes h = let e = one_byte at v bytes h in omega (arith, e)
+
+double : Measures u2 (λ x. 2)
+double at v bytes h = let e = two_bytes at v bytes h in omega (arith, e)
+
+a_ref : Measures class_ref (λ x. 2)
+a_ref at v bytes h = let e = named at v bytes h in omega (arith, e)
+
+counted : Measures bytes1 (λ a. 1 + length a)
+counted at v bytes h = let e = behind_one at v bytes h in omega (arith, e)
+
 -- ---- components
 
 of_header : Measures header (header_size)
 unfolding header
-of_header at v bytes h =
-    let m = two _ _ _ _ _ h in
-    let m_t = m.total in
-    let m_s = wide w32 _ m.from m.x m.front m.one in
-    let n = two _ _ _ _ _ m.rest in
-    let n_t = n.total in
-    let n_s = wide w8 _ n.from n.x n.front n.one in
-    let o = two _ _ _ _ _ n.rest in
-    let o_t = o.total in
-    let o_s = wide w8 _ o.from o.x o.front o.one in
-    let f = two _ _ _ _ _ o.rest in
-    let f_t = f.total in
-    let f_s = one_byte f.from f.x f.front f.one in
-    let p = two _ _ _ _ _ f.rest in
-    let p_t = p.total in
-    let p_s = one_byte p.from p.x p.front p.one in
-    let q = two _ _ _ _ _ p.rest in
-    let q_t = q.total in
-    let q_s = one_byte q.from q.x q.front q.one in
-    let aid = two _ _ _ _ _ q.rest in
-    let aid_t = aid.total in
-    let aid_s = behind_one aid.from aid.x aid.front aid.one in
-    let name = two _ _ _ _ _ aid.rest in
-    let name_t = name.total in
-    let name_s = behind_one name.from name.x name.front name.one in
-    let P : Header → Type 0 = λ y. header_size y ≤ length bytes in
-    subst P (given _ name.place v name.back name.rest) (omega (arith, m_t, m_s, n_t, n_s, o_t, o_s, f_t, f_s, p_t, p_s, q_t, q_s, aid_t, aid_s, name_t, name_s))
+of_header = whole _ _ (take _ _ _ _ (λ m. 4) (four _) (λ m. take _ _ _ _ (λ n. 1) (a_byte _) (λ n. take _ _ _ _ (λ o. 1) (a_byte _) (λ o. take _ _ _ _ (λ f. 1) one (λ f. take _ _ _ _ (λ p. 1) one (λ p. take _ _ _ _ (λ q. 1) one (λ q. take _ _ _ _ (λ aid. 1 + length aid) counted (λ aid. take _ _ _ _ (λ name. 1 + length name) counted (λ name. last _ _ _ (omega arith))))))))))
 
-of_directory : Measures directory (λ @v. 2 * length @v.component_sizes)
+of_directory : Measures directory (λ v. 2 * length v.component_sizes)
 unfolding directory
-of_directory at v bytes h =
-    let sizes = two _ _ _ _ _ h in
-    let sizes_t = sizes.total in
-    let sizes_s = numbers 12 sizes.from sizes.x sizes.front sizes.one in
-    let i = two _ _ _ _ _ sizes.rest in
-    let i_t = i.total in
-    let a = two _ _ _ _ _ i.rest in
-    let a_t = a.total in
-    let b = two _ _ _ _ _ a.rest in
-    let b_t = b.total in
-    let c = two _ _ _ _ _ b.rest in
-    let c_t = c.total in
-    let d = two _ _ _ _ _ c.rest in
-    let d_t = d.total in
-    let e = two _ _ _ _ _ d.rest in
-    let e_t = e.total in
-    let P : Directory → Type 0 = λ y. 2 * length y.component_sizes ≤ length bytes in
-    subst P (given _ e.place v e.back e.rest) (omega (arith, sizes_t, sizes_s, i_t, a_t, b_t, c_t, d_t, e_t))
+of_directory = whole _ _ (take _ _ _ _ (λ sizes. 2 * length sizes) (numbers 12) (λ sizes. take _ _ _ _ (λ i. 2) double (λ i. take _ _ _ _ (λ a. 2) double (λ a. take _ _ _ _ (λ b. 2) double (λ b. take _ _ _ _ (λ c. 1) one (λ c. take _ _ _ _ (λ d. 1) one (λ d. take _ _ _ _ (λ e. 1) (a_byte _) (λ e. last _ _ _ (omega arith)))))))))
 
 of_applet_entry : Measures applet_entry (applet_size)
 unfolding applet_entry
@@ -312,14 +303,33 @@ with_static at f v bytes h =
     let s = of_static_ref t.from t.x t.front t.one in
     omega (arith, total, s)
 
-of_content : (tag : Tag) → Measures (content tag) (λ v. 3)
+by_if : {A : Type 0} (P : A → Type 0) (b : Bool) (x y : A) → P x → P y → P (if b then x else y)
+by_if P true x y p q = p
+by_if P false x y p q = q
+
+-- Three bytes stand behind each tag.
+abbrev AllThree : {T : Type 0} → (T → Format PoolEntry) → Option T → Type 0
+AllThree {T} f o = (x : T) → o ≡ Some x → Measures (f x) (λ v. 3)
+
+one_tag : {T : Type 0} (f : T → Format PoolEntry) (a : T) → Measures (f a) (λ v. 3) → AllThree f (Some a)
+one_tag {T} f a m x e = let same : a ≡ x = cc in subst (λ (y : T). Measures (f y) (λ v. 3)) same m
+
+no_tag : {T : Type 0} (f : T → Format PoolEntry) → AllThree f None
+no_tag f x e = absurd cc
+
+of_tags : (n : ℕ) → AllThree content (tag_of n)
 unfolding content
-of_content tags.Class at v bytes h = with_token at _ v bytes (λ r. behind_byte _ _) h
-of_content tags.InstanceField at v bytes h = with_token at _ v bytes (λ r. behind_u1 _) h
-of_content tags.VirtualMethod at v bytes h = with_token at _ v bytes (λ r. behind_u1 _) h
-of_content tags.SuperMethod at v bytes h = with_token at _ v bytes (λ r. behind_u1 _) h
-of_content tags.StaticField at v bytes h = with_static at _ v bytes h
-of_content tags.StaticMethod at v bytes h = with_static at _ v bytes h
+of_tags n =
+    by_if (AllThree content) (n == 1) _ _ (one_tag content _ (λ at v bytes h. with_token at _ v bytes (λ r. behind_byte _ _) h))
+    (by_if (AllThree content) (n == 2) _ _ (one_tag content _ (λ at v bytes h. with_token at _ v bytes (λ r. behind_u1 _) h))
+    (by_if (AllThree content) (n == 3) _ _ (one_tag content _ (λ at v bytes h. with_token at _ v bytes (λ r. behind_u1 _) h))
+    (by_if (AllThree content) (n == 4) _ _ (one_tag content _ (λ at v bytes h. with_token at _ v bytes (λ r. behind_u1 _) h))
+    (by_if (AllThree content) (n == 5) _ _ (one_tag content _ (λ at v bytes h. with_static at _ v bytes h))
+    (by_if (AllThree content) (n == 6) _ _ (one_tag content _ (λ at v bytes h. with_static at _ v bytes h)) (no_tag content))))))
+
+tabled : {A : Type 0} (w : Width) (table : ℕ → Option A) (at : ℕ) (a : A) (bytes : List ℕ) → Spells (number w table) at a bytes → table (from_be_bytes w bytes) ≡ Some a
+unfolding Spells
+tabled w table at a bytes h = h.1
 
 of_entry : Measures pool_entry (λ v. 4)
 unfolding pool_entry
@@ -327,7 +337,7 @@ of_entry at v bytes h =
     let tag = two _ _ _ _ _ h in
     let total = tag.total in
     let s = wide w8 _ tag.from tag.x tag.front tag.one in
-    let rest = of_content tag.x tag.place v tag.back tag.rest in
+    let rest = of_tags (from_be_bytes w8 tag.front) tag.x (tabled w8 tag_of tag.from tag.x tag.front tag.one) tag.place v tag.back tag.rest in
     omega (arith, total, s, rest)
 
 entries : (n : ℕ) → Measures (repeated n pool_entry) (λ xs. 4 * length xs)
@@ -348,7 +358,7 @@ of_pool at v bytes h =
     let P : ConstantPool → Type 0 = λ y. pool_size y ≤ length bytes in
     subst P (given _ all.place v all.back all.rest) (omega (arith, count_t, count_s, all_t, all_s))
 
-of_interface : (flags : ℕ) → (count : ℕ) → Measures (interface_entry flags count) (λ @v. 2 * length @v.superinterfaces)
+of_interface : (flags : ℕ) → (count : ℕ) → Measures (interface_entry flags count) (λ v. 2 * length v.superinterfaces)
 unfolding interface_entry
 of_interface flags count at v bytes h =
     let supers = two _ _ _ _ _ h in
@@ -369,44 +379,9 @@ of_map at v bytes h =
     let P : ImplementedInterface → Type 0 = λ y. map_size y ≤ length bytes in
     subst P (given _ index.place v index.back index.rest) (omega (arith, interface_t, interface_s, index_t, index_s))
 
-of_class : (flags : ℕ) → (count : ℕ) → Measures (class_entry flags count) (λ @v. 9 + 2 * length @v.public_methods + 2 * length @v.package_methods + sum_by map_size @v.interfaces)
+of_class : (flags : ℕ) → (count : ℕ) → Measures (class_entry flags count) (λ v. 9 + 2 * length v.public_methods + 2 * length v.package_methods + sum_by map_size v.interfaces)
 unfolding class_entry
-of_class flags count at v bytes h =
-    let super = two _ _ _ _ _ h in
-    let super_t = super.total in
-    let super_s = named super.from super.x super.front super.one in
-    let a = two _ _ _ _ _ super.rest in
-    let a_t = a.total in
-    let a_s = one_byte a.from a.x a.front a.one in
-    let b = two _ _ _ _ _ a.rest in
-    let b_t = b.total in
-    let b_s = one_byte b.from b.x b.front b.one in
-    let c = two _ _ _ _ _ b.rest in
-    let c_t = c.total in
-    let c_s = one_byte c.from c.x c.front c.one in
-    let d = two _ _ _ _ _ c.rest in
-    let d_t = d.total in
-    let d_s = one_byte d.from d.x d.front d.one in
-    let public_count = two _ _ _ _ _ d.rest in
-    let public_count_t = public_count.total in
-    let public_count_s = one_byte public_count.from public_count.x public_count.front public_count.one in
-    let e = two _ _ _ _ _ public_count.rest in
-    let e_t = e.total in
-    let e_s = one_byte e.from e.x e.front e.one in
-    let package_count = two _ _ _ _ _ e.rest in
-    let package_count_t = package_count.total in
-    let package_count_s = one_byte package_count.from package_count.x package_count.front package_count.one in
-    let public = two _ _ _ _ _ package_count.rest in
-    let public_t = public.total in
-    let public_s = numbers public_count.x public.from public.x public.front public.one in
-    let package = two _ _ _ _ _ public.rest in
-    let package_t = package.total in
-    let package_s = numbers package_count.x package.from package.x package.front package.one in
-    let all = two _ _ _ _ _ package.rest in
-    let all_t = all.total in
-    let all_s = in_row implemented_interface map_size of_map count all.from all.x all.front all.one in
-    let P : ClassEntry → Type 0 = λ y. 9 + 2 * length y.public_methods + 2 * length y.package_methods + sum_by map_size y.interfaces ≤ length bytes in
-    subst P (given _ all.place v all.back all.rest) (omega (arith, super_t, super_s, a_t, a_s, b_t, b_s, c_t, c_s, d_t, d_s, public_count_t, public_count_s, e_t, e_s, package_count_t, package_count_s, public_t, public_s, package_t, package_s, all_t, all_s))
+of_class flags count = whole _ _ (take _ _ _ _ (λ owner. 2) a_ref (λ owner. take _ _ _ _ (λ a. 1) one (λ a. take _ _ _ _ (λ b. 1) one (λ b. take _ _ _ _ (λ c. 1) one (λ c. take _ _ _ _ (λ d. 1) one (λ d. take _ _ _ _ (λ outer_count. 1) one (λ outer_count. take _ _ _ _ (λ e. 1) one (λ e. take _ _ _ _ (λ inner_count. 1) one (λ inner_count. take _ _ _ _ (λ outer. 2 * length outer) (numbers outer_count) (λ outer. take _ _ _ _ (λ inner. 2 * length inner) (numbers inner_count) (λ inner. take _ _ _ _ (λ maps. sum_by map_size maps) (in_row implemented_interface map_size of_map count) (λ maps. last _ _ _ (omega arith)))))))))))))
 
 -- the bytes of interfaces and classes
 abbrev infos : ClassInfo → ℕ
@@ -441,6 +416,18 @@ of_next so_far at v bytes h =
     let rest = of_info so_far _ t.x t.place v t.back t.rest in
     omega (arith, total, s, rest)
 
+infos_by_test : (b : Bool) (p : ClassInfo → Format ClassInfo) (so_far : ClassInfo) (place : ℕ) (v : ClassInfo) (back : List ℕ) → ((t : ClassInfo) → Measures (p t) (λ y. infos y - infos t))
+    → Spells (or_gives b (followed_by (next_entry so_far) p) so_far) place v back → infos v - infos so_far ≤ length back
+infos_by_test true p so_far place v back m h =
+    let t = two _ _ _ _ _ h in
+    let total = t.total in
+    let one = of_next so_far t.from t.x t.front t.one in
+    let rest = m t.x t.place v t.back t.rest in
+    omega (arith, total, one, rest)
+infos_by_test false p so_far place v back m h =
+    let P : ClassInfo → Type 0 = λ y. infos y - infos so_far ≤ length back in
+    subst P (given so_far place v back h) (omega arith)
+
 of_all_infos : (n end : ℕ) (so_far : ClassInfo) → Measures (until n end next_entry so_far) (λ v. infos v - infos so_far)
 unfolding until
 of_all_infos zero end so_far at v bytes h =
@@ -449,19 +436,8 @@ of_all_infos zero end so_far at v bytes h =
 of_all_infos (suc n) end so_far at v bytes h =
     let more = two _ _ _ _ _ h in
     let total = more.total in
-    let rest = by_test more.x more.place more.back more.rest in
+    let rest = infos_by_test more.x (until n end next_entry) so_far more.place v more.back (λ t. of_all_infos n end t) more.rest in
     omega (arith, total, rest)
-  where
-    by_test : (b : Bool) (place : ℕ) (back : List ℕ) → Spells (or_gives b (followed_by (next_entry so_far) (until n end next_entry)) so_far) place v back → infos v - infos so_far ≤ length back
-    by_test true place back g =
-        let t = two _ _ _ _ _ g in
-        let total = t.total in
-        let one = of_next so_far t.from t.x t.front t.one in
-        let rest = of_all_infos n end t.x t.place v t.back t.rest in
-        omega (arith, total, one, rest)
-    by_test false place back g =
-        let P : ClassInfo → Type 0 = λ y. infos y - infos so_far ≤ length back in
-        subst P (given so_far place v back g) (omega arith)
 
 of_classes : (end : ℕ) → Measures (class_info end) class_info_size
 unfolding class_info
@@ -472,7 +448,7 @@ of_classes end at v bytes h =
     let rest = of_all_infos end end _ t.place v t.back t.rest in
     omega (arith, total, s, rest)
 
-of_handler : Measures handler (λ @v. 8)
+of_handler : Measures handler (λ v. 8)
 unfolding handler
 of_handler at v bytes h =
     let a = two _ _ _ _ _ h in
@@ -619,7 +595,7 @@ of_place false at v bytes h =
     let b_s = one_byte b.from b.x b.front b.one in
     omega (arith, a_t, b_t, a_s, b_s)
 
-of_field : Measures field_descriptor (λ @v. 7)
+of_field : Measures field_descriptor (λ v. 7)
 unfolding field_descriptor
 of_field at v bytes h =
     let a = two _ _ _ _ _ h in
@@ -637,32 +613,9 @@ of_field at v bytes h =
     let P : FieldDescriptor → Type 0 = λ y. 7 ≤ length bytes in
     subst P (given _ c.place v c.back c.rest) (omega (arith, a_t, a_s, b_t, b_s, place_t, place_s, c_t, c_s))
 
-of_described_method : Measures method_descriptor (λ @v. 12)
+of_described_method : Measures method_descriptor (λ v. 12)
 unfolding method_descriptor
-of_described_method at v bytes h =
-    let a = two _ _ _ _ _ h in
-    let a_t = a.total in
-    let a_s = one_byte a.from a.x a.front a.one in
-    let b = two _ _ _ _ _ a.rest in
-    let b_t = b.total in
-    let b_s = one_byte b.from b.x b.front b.one in
-    let c = two _ _ _ _ _ b.rest in
-    let c_t = c.total in
-    let c_s = two_bytes c.from c.x c.front c.one in
-    let d = two _ _ _ _ _ c.rest in
-    let d_t = d.total in
-    let d_s = two_bytes d.from d.x d.front d.one in
-    let e = two _ _ _ _ _ d.rest in
-    let e_t = e.total in
-    let e_s = two_bytes e.from e.x e.front e.one in
-    let f = two _ _ _ _ _ e.rest in
-    let f_t = f.total in
-    let f_s = two_bytes f.from f.x f.front f.one in
-    let g = two _ _ _ _ _ f.rest in
-    let g_t = g.total in
-    let g_s = two_bytes g.from g.x g.front g.one in
-    let P : MethodDescriptor → Type 0 = λ y. 12 ≤ length bytes in
-    subst P (given _ g.place v g.back g.rest) (omega (arith, a_t, a_s, b_t, b_s, c_t, c_s, d_t, d_s, e_t, e_s, f_t, f_s, g_t, g_s))
+of_described_method = whole _ _ (take _ _ _ _ (λ a. 1) one (λ a. take _ _ _ _ (λ b. 1) one (λ b. take _ _ _ _ (λ c. 2) double (λ c. take _ _ _ _ (λ d. 2) double (λ d. take _ _ _ _ (λ e. 2) double (λ e. take _ _ _ _ (λ f. 2) double (λ f. take _ _ _ _ (λ g. 2) double (λ g. last _ _ _ (omega arith)))))))))
 
 fields : (n : ℕ) → Measures (repeated n field_descriptor) (λ xs. 7 * length xs)
 fields n at xs bytes h =
@@ -678,36 +631,7 @@ methods n at xs bytes h =
 
 of_described : Measures class_descriptor (described_size)
 unfolding class_descriptor
-of_described at v bytes h =
-    let a = two _ _ _ _ _ h in
-    let a_t = a.total in
-    let a_s = one_byte a.from a.x a.front a.one in
-    let b = two _ _ _ _ _ a.rest in
-    let b_t = b.total in
-    let b_s = one_byte b.from b.x b.front b.one in
-    let c = two _ _ _ _ _ b.rest in
-    let c_t = c.total in
-    let c_s = named c.from c.x c.front c.one in
-    let interface_count = two _ _ _ _ _ c.rest in
-    let interface_count_t = interface_count.total in
-    let interface_count_s = one_byte interface_count.from interface_count.x interface_count.front interface_count.one in
-    let field_count = two _ _ _ _ _ interface_count.rest in
-    let field_count_t = field_count.total in
-    let field_count_s = two_bytes field_count.from field_count.x field_count.front field_count.one in
-    let method_count = two _ _ _ _ _ field_count.rest in
-    let method_count_t = method_count.total in
-    let method_count_s = two_bytes method_count.from method_count.x method_count.front method_count.one in
-    let interfaces = two _ _ _ _ _ method_count.rest in
-    let interfaces_t = interfaces.total in
-    let interfaces_s = refs interface_count.x interfaces.from interfaces.x interfaces.front interfaces.one in
-    let all_fields = two _ _ _ _ _ interfaces.rest in
-    let all_fields_t = all_fields.total in
-    let all_fields_s = fields field_count.x all_fields.from all_fields.x all_fields.front all_fields.one in
-    let all_methods = two _ _ _ _ _ all_fields.rest in
-    let all_methods_t = all_methods.total in
-    let all_methods_s = methods method_count.x all_methods.from all_methods.x all_methods.front all_methods.one in
-    let P : ClassDescriptor → Type 0 = λ y. described_size y ≤ length bytes in
-    subst P (given _ all_methods.place v all_methods.back all_methods.rest) (omega (arith, a_t, a_s, b_t, b_s, c_t, c_s, interface_count_t, interface_count_s, field_count_t, field_count_s, method_count_t, method_count_s, interfaces_t, interfaces_s, all_fields_t, all_fields_s, all_methods_t, all_methods_s))
+of_described = whole _ _ (take _ _ _ _ (λ a. 1) one (λ a. take _ _ _ _ (λ b. 1) one (λ b. take _ _ _ _ (λ c. 2) a_ref (λ c. take _ _ _ _ (λ interface_count. 1) one (λ interface_count. take _ _ _ _ (λ field_count. 2) double (λ field_count. take _ _ _ _ (λ method_count. 2) double (λ method_count. take _ _ _ _ (λ interfaces. 2 * length interfaces) (refs interface_count) (λ interfaces. take _ _ _ _ (λ all_fields. 7 * length all_fields) (fields field_count) (λ all_fields. take _ _ _ _ (λ all_methods. 12 * length all_methods) (methods method_count) (λ all_methods. last _ _ _ (omega arith)))))))))))
 
 pairs_length : (pairs : List ℕ) → length (flat_map two_nibbles pairs) ≡ 2 * length pairs
 pairs_length [] = omega arith
@@ -748,26 +672,27 @@ of_type at v bytes h =
     let rest = of_ended _ (length pairs.x) _ (pairs_length pairs.x) pairs.place v pairs.back pairs.rest in
     omega (arith, a, b, c, d, rest)
 
+types_by_test : (b : Bool) (p : Format (List TypeDescriptor)) (place : ℕ) (v : List TypeDescriptor) (back : List ℕ) → Measures p (sum_by type_size)
+    → Spells (where_true b (followed_by type_descriptor (λ x. followed_by p (λ xs. gives (x ∷ xs))))) place v back → sum_by type_size v ≤ length back
+types_by_test true p place v back m h =
+    let t = two _ _ _ _ _ h in
+    let u = two _ _ _ _ _ t.rest in
+    let a = t.total in
+    let b = u.total in
+    let one = of_type t.from t.x t.front t.one in
+    let rest = m u.from u.x u.front u.one in
+    let s = sum_by-cons type_size t.x u.x in
+    subst (λ (ts : List TypeDescriptor). sum_by type_size ts ≤ length back) (given _ u.place v u.back u.rest) (omega (arith, a, b, one, rest, s))
+types_by_test false p place v back m h = subst (λ (ts : List TypeDescriptor). sum_by type_size ts ≤ length back) (given [] place v back h) (omega arith)
+
 of_types : (n end : ℕ) → Measures (before n end type_descriptor) (sum_by type_size)
 unfolding before
 of_types zero end at v bytes h = subst (λ (ts : List TypeDescriptor). sum_by type_size ts ≤ length bytes) (given [] at v bytes h) (omega arith)
 of_types (suc n) end at v bytes h =
     let more = two _ _ _ _ _ h in
     let total = more.total in
-    let rest = by_test more.x more.place more.back more.rest in
+    let rest = types_by_test more.x (before n end type_descriptor) more.place v more.back (λ k a bs g. of_types n end k a bs g) more.rest in
     omega (arith, total, rest)
-  where
-    by_test : (b : Bool) (place : ℕ) (back : List ℕ) → Spells (where_true b (followed_by type_descriptor (λ x. followed_by (before n end type_descriptor) (λ xs. gives (x ∷ xs))))) place v back → sum_by type_size v ≤ length back
-    by_test true place back g =
-        let t = two _ _ _ _ _ g in
-        let u = two _ _ _ _ _ t.rest in
-        let a = t.total in
-        let b = u.total in
-        let one = of_type t.from t.x t.front t.one in
-        let rest = of_types n end u.from u.x u.front u.one in
-        let s = sum_by-cons type_size t.x u.x in
-        subst (λ (ts : List TypeDescriptor). sum_by type_size ts ≤ length back) (given _ u.place v u.back u.rest) (omega (arith, a, b, one, rest, s))
-    by_test false place back g = subst (λ (ts : List TypeDescriptor). sum_by type_size ts ≤ length back) (given [] place v back g) (omega arith)
 
 of_descriptor : (end : ℕ) → Measures (descriptor end) (descriptor_size)
 unfolding descriptor
@@ -817,6 +742,10 @@ by_tag : (b : Bool) (p q : Format Component) → Measures p component_size → M
 by_tag true p q m n at x bytes h = m at x bytes h
 by_tag false p q m n at x bytes h = n at x bytes h
 
+not_there : (at : ℕ) (x : Component) (bytes : List ℕ) → Spells (looked_up (Err 0)) at x bytes → component_size x ≤ length bytes
+unfolding Spells
+not_there at x bytes h = let e = h.1 in absurd cc
+
 of_info_any : (tag end : ℕ) → Measures (info tag end) component_size
 unfolding info
 of_info_any tag end =
@@ -832,10 +761,6 @@ of_info_any tag end =
     (by_tag (tag == 10) _ _ (as_kind export components.Export of_export)
     (by_tag (tag == 11) _ _ (as_kind (descriptor end) components.Descriptor (of_descriptor end))
     (λ at x bytes h. not_there at x bytes h)))))))))))
-  where
-    not_there : (at : ℕ) (x : Component) (bytes : List ℕ) → Spells (looked_up (Err 0)) at x bytes → component_size x ≤ length bytes
-    unfolding Spells
-    not_there at x bytes h = let e = h.1 in absurd cc
 
 -- what a file of a component says has no more bytes than the file
 pub is_within : (tag : ℕ) (bytes : List ℕ) (x : Component) → read_component tag bytes ≡ Ok x → 3 + component_size x ≤ length bytes
@@ -973,10 +898,6 @@ little_descriptor (components.Locations x) h = omega arith
 little_descriptor (components.Export x) h = omega arith
 little_descriptor (components.Descriptor x) h = h
 
-by_if : {A : Type 0} (P : A → Type 0) (b : Bool) (x y : A) → P x → P y → P (if b then x else y)
-by_if P true x y p q = p
-by_if P false x y p q = q
-
 small_with : (cap : CapTree) (tag : ℕ) (x : Component) → IsLittle x → IsSmall cap → IsSmall (with_component cap tag x)
 small_with cap tag x l h =
     by_if IsSmall (tag == 3) _ _ (record { header = h.header; directory = h.directory; applet = little_applet x l; import = h.import; pool = h.pool; class = h.class; method = h.method; statics = h.statics; locations = h.locations; export = h.export; descriptor = h.descriptor })
@@ -998,8 +919,8 @@ unfolding with_components
 small_files cap [] [] all h = h
 small_files cap [] (bytes ∷ files) all h = h
 small_files cap (tag ∷ tags) [] all h = h
-small_files cap (tag ∷ tags) (bytes ∷ files) all h = 
-    small_files _ tags files (λ k d lt. all (suc k) d (omega (arith, lt))) (small_read cap tag bytes (read_component tag bytes) refl (all 0 bytes (omega arith)) h)
+small_files cap (tag ∷ tags) (bytes ∷ files) all h =
+    small_files (with_read cap tag (read_component tag bytes)) tags files (λ k d lt. all (suc k) d (omega (arith, lt))) (small_read cap tag bytes (read_component tag bytes) refl (all 0 bytes (omega arith)) h)
 
 small_front : (h : Header) (d : Directory) → IsLittle (components.Header h) → IsLittle (components.Directory d) → IsSmall (front h d)
 small_front h d l m = record { header = l; directory = m; applet = omega arith; import = omega arith; pool = omega arith; class = omega arith; method = omega arith; statics = omega arith; locations = omega arith; export = omega arith; descriptor = omega arith }

@@ -9,7 +9,7 @@ use Rattle.cjc_export.specs.declared.tree.ExportTree.{ExportTree}
 use Rattle.cjc_folder.specs.Breaks.{cap_in, export_trees, file_breaks, unless_broken}
 use Rattle.cjc_folder.specs.Reads.{plan_of_folder}
 use Rattle.cjc_folder.specs.declared.folder.Folder.{Folder}
-use Rattle.cjc_sentences.specs.Consistent.{breaks}
+use Rattle.cjc_sentences.specs.Consistent.{Consistent, breaks}
 
 -- the list of this name, its export files, and the components of the folder
 abbrev pub plan_of_check : (name dir : List ℕ) → Plan Folder
@@ -30,7 +30,11 @@ check_breaks f = unless_broken (file_breaks f) (sentence_breaks (cap_in f.parts)
 abbrev pub ok_line : List ℕ
 ok_line = codes "ok" ++ 10 ∷ []
 
--- What is printed where nothing is broken, and else which rule is broken first.
+-- The components of a folder are consistent with its export files.
+abbrev pub AreConsistent : Folder → Type 0
+AreConsistent f = (cap : CapTree) × (cap_in f.parts ≡ Some cap) × Consistent cap (export_trees f.exports)
+
+-- What is printed where nothing is broken, so that the components are consistent, and else which rule is broken first.
 abbrev pub Checks : Folder → Result Todo Refusal → Type 0
-Checks f (Ok todo) = (check_breaks f ≡ []) × (todo ≡ record { files = []; lines = ok_line ∷ [] })
+Checks f (Ok todo) = (check_breaks f ≡ []) × AreConsistent f × (todo ≡ record { files = []; lines = ok_line ∷ [] })
 Checks f (Err r) = (b : Break) × IsFirst b (check_breaks f) × (r ≡ b.refusal)

@@ -3,3 +3,4 @@ pub mod Standing
 pub mod OwnTokens
 pub mod Promising
 pub mod OneStatus
+pub mod Tested

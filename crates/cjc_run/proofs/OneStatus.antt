@@ -3,7 +3,10 @@ use Rattle.std.proofs.Common.{ℕ, List}
 use Rattle.cjc_list.specs.Listed.{ListTree}
 use Rattle.cjc_command.proofs.OneAnswer.{IsOneAnswer}
 use Rattle.cjc_convert.proofs.OneAnswer.{one_refusal, not_refused}
-use Rattle.cjc_run.specs.Request.{Request, convert}
+use Rattle.cjc_checking.proofs.OneAnswer.{one_refusal as one_broken, never_both}
+use Rattle.cjc_checking.specs.Check.{Checks}
+use Rattle.cjc_folder.specs.declared.folder.Folder.{Folder}
+use Rattle.cjc_run.specs.Request.{Request, check, convert}
 use Rattle.cjc_run.specs.Command.{command_of}
 use Rattle.cjc_run.specs.Convert.{Makes}
 
@@ -13,6 +16,13 @@ convert_once dir inputs = record {
   not_both = λ todo r made f. not_refused inputs.0 inputs.1 made.0 r made.1 f;
 }
 
+check_once : (inputs : Folder) → IsOneAnswer (Checks inputs)
+check_once inputs = record {
+  one = λ r s f g. one_broken inputs r s f g;
+  not_both = λ todo r made f. never_both inputs todo r made f;
+}
+
 -- one line a command
 pub makes_once : (asked : Request) (inputs : (command_of asked).Inputs) → IsOneAnswer ((command_of asked).Makes inputs)
 makes_once (convert list dir) inputs = convert_once dir inputs
+makes_once (check list dir) inputs = check_once inputs

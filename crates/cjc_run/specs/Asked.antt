@@ -1,7 +1,9 @@
 -- What a value of the program stands for.
 use Rattle.cjc_run.specs.declared.command.Asked.{Asked}
-use Rattle.cjc_run.specs.Request.{Request, convert}
+use Rattle.cjc_run.specs.declared.command.Asked.TheVariants as asks
+use Rattle.cjc_run.specs.Request.{Request, check, convert}
 
 -- the request that a value of the program stands for
 abbrev pub asked : Asked → Request
-asked a = convert a.list.now a.dir.now
+asked (asks.Convert list dir) = convert list.now dir.now
+asked (asks.Check list dir) = check list.now dir.now

@@ -1,7 +1,9 @@
 -- The command that a request stands for.
 use Rattle.cjc_command.specs.Answer.{Command}
-use Rattle.cjc_run.specs.Request.{Request, convert}
+use Rattle.cjc_checking.specs.Check.{Checks, plan_of_check}
+use Rattle.cjc_run.specs.Request.{Request, check, convert}
 use Rattle.cjc_run.specs.Convert.{plan_of_convert, Makes}
 
 abbrev pub command_of : Request → Command
 command_of (convert list dir) = record { Inputs = _; plan = plan_of_convert list; Makes = Makes dir }
+command_of (check list dir) = record { Inputs = _; plan = plan_of_check list dir; Makes = Checks }

@@ -1,5 +1,5 @@
 -- What a command that is done promises of the files before and after it.
-use Rattle.std.specs.Prelude.{◌≡◌, Bool, true, false, ℕ, List, [], ◌∷◌, map, Option, Some, IfSome, IsSomeAnd}
+use Rattle.std.specs.Prelude.{◌≡◌, Bool, true, false, ℕ, List, [], ◌∷◌, ◌++◌, map, Option, Some, IfSome, IsSomeAnd}
 use Rattle.std.specs.FinMap.{get}
 use Rattle.cjc_bytes.specs.Format.{FileSpells}
 use Rattle.cjc_bytes.specs.declared.settings.FileLine.{FileLine}
@@ -19,7 +19,10 @@ use Rattle.cjc_first.specs.Sentences.Consistent.{Consistent}
 use Rattle.cjc_convert.specs.declared.conversion.Converted.{Converted}
 use Rattle.cjc_first.specs.BehaveAlike.{BehaveAlike}
 use Rattle.cjc_run.specs.Convert.{files_made, below}
-use Rattle.cjc_run.specs.Request.{Request, convert}
+use Rattle.cjc_checking.specs.Check.{AreConsistent, check_breaks, ok_line, plan_of_check}
+use Rattle.cjc_command.specs.Plan.{complete, verdict}
+use Rattle.cjc_folder.specs.declared.folder.Folder.{Folder}
+use Rattle.cjc_run.specs.Request.{Request, check, convert}
 
 abbrev pub SpellStep : Bool → Option (List ℕ) → (List ClassTree → Type 0) → List ClassTree → Type 0
 SpellStep true file rest [] = ⊥
@@ -62,6 +65,21 @@ pub record Converts (name dir : List ℕ) (before after : Files) : Type 0 where
   -- They do so by other export files too, as long as in each of them the classes have tokens of their own.
   pub alike_beyond : (exports : List ExportTree) → HaveOwnTokens exports → BehaveAlike classes exports cap
 
+-- The list of this name, the export files that it names and the components in the folder were read, and none of them breaks a
+-- rule. What the components say is consistent with what the export files say.
+pub record IsTested (name dir : List ℕ) (files : Files) : Type 0 where
+  pub folder : Folder
+  pub read : verdict files (plan_of_check name dir) ≡ complete folder
+  pub unbroken : check_breaks folder ≡ []
+  pub consistent : AreConsistent folder
+
+-- `ok` is printed, nothing is written, and the components are consistent.
+pub record Checked (name dir : List ℕ) (old new : Shelved) (from to : Sunk) : Type 0 where
+  pub kept : IfSome old.files (λ files. new.files ≡ Some files)
+  pub tested : IfSome old.files (IsTested name dir)
+  pub printed : IfSome from.written (λ before. to.written ≡ Some (before ++ ok_line))
+
 -- what the request that is done promises of the shelf and the sink before and after
 abbrev pub Promised : Request → Shelved → Shelved → Sunk → Sunk → Type 0
 Promised (convert name dir) old new from to = IfSome old.files (λ before. IsSomeAnd new.files (Converts name dir before))
+Promised (check name dir) old new from to = Checked name dir old new from to

@@ -6,11 +6,13 @@ ghost use Rattle.cjc_run.specs.Asked.{asked};
 
 use cjc_bytes::Bytes;
 
-/// What is asked for: `convert LIST DIR`, the only form so far.
+/// What is asked for.
 #[derive(Clone, Copy)]
-pub(crate) struct Asked<'a> {
-    pub(crate) list: &'a [u8],
-    pub(crate) dir: &'a [u8],
+pub(crate) enum Asked<'a> {
+    /// `convert LIST DIR`
+    Convert { list: &'a [u8], dir: &'a [u8] },
+    /// `check LIST DIR`
+    Check { list: &'a [u8], dir: &'a [u8] },
 }
 
 /// What the words ask for, where they are of a form.
@@ -18,7 +20,11 @@ pub(crate) fn asked_by(words: &[Bytes]) -> Option<Asked<'_>>
     ensures { option_map asked result ≡ request words.now }
 {
     match words {
-        [verb, list, dir] if verb.items() == b"convert".as_slice() => Some(Asked {
+        [verb, list, dir] if verb.items() == b"convert".as_slice() => Some(Asked::Convert {
+            list: list.items(),
+            dir: dir.items(),
+        }),
+        [verb, list, dir] if verb.items() == b"check".as_slice() => Some(Asked::Check {
             list: list.items(),
             dir: dir.items(),
         }),

@@ -13,6 +13,7 @@ ghost use Rattle.cjc_run.specs.Promise.{Promised};
 use crate::command::{Asked, asked_by};
 use crate::converting::gather_convert;
 use cjc_bytes::Bytes;
+use cjc_checking::gather_check;
 use cjc_command::{Status, Todo, publish};
 use cjc_shelf::{Shelf, Sink};
 use std::alloc::Global;
@@ -21,7 +22,10 @@ use std::alloc::Global;
 fn gather<S: Shelf>(alloc: Global, command: Asked<'_>, shelf: &mut S) -> Result<Todo, Status>
     ensures { Gathers (command_of (asked command.entry)).plan (command_of (asked command.entry)).Makes (S.shelved shelf.old) (S.shelved shelf.new) result }
 {
-    gather_convert(alloc, command.list, command.dir, shelf)
+    match command {
+        Asked::Convert { list, dir } => gather_convert(alloc, list, dir, shelf),
+        Asked::Check { list, dir } => gather_check(alloc, list, dir, shelf),
+    }
 }
 
 fn act<S: Shelf, O: Sink>(alloc: Global, command: Asked<'_>, shelf: &mut S, out: &mut O) -> Status

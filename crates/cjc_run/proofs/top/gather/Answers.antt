@@ -1,0 +1,7 @@
+use Rattle.cjc_run.proofs.top.gather.Goals as goal
+
+pub returns-in-Convert : goal.returns-in-Convert
+returns-in-Convert g c = rw c.in-Convert.is c.gather_convert.ensures
+
+pub returns-in-Check : goal.returns-in-Check
+returns-in-Check g c = rw c.in-Check.is c.gather_check.ensures
