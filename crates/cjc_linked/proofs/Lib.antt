@@ -1,0 +1,11 @@
+pub mod Offsets
+pub mod Taking
+pub mod Owners
+pub mod Heights
+pub mod Above
+pub mod Starting
+pub mod Fields
+pub mod Keeping
+pub mod Calling
+pub mod Found
+pub mod Walks

@@ -1,0 +1,7 @@
+pub mod Linkage
+pub mod Found
+pub mod Methods
+pub mod Fresh
+pub mod Keys
+pub mod Starts
+pub mod Working
