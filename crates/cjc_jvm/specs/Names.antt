@@ -1,5 +1,5 @@
 -- What instructions name, as look-ups answer it, in the definition's terms.
-use Rattle.std.specs.Prelude.{◌≡◌, ℕ, List, Option, Some, None, option_map}
+use Rattle.std.specs.Prelude.{◌≡◌, ℕ, List, Option, Some, None}
 use Rattle.cjc_bytes.specs.declared.fault.MemberId.{MemberId}
 use Rattle.cjc_script.specs.Sorts
 use Rattle.cjc_heap.specs.Kinds.{elements_of}

@@ -1,4 +1,4 @@
-use Rattle.std.proofs.Common.{◌+◌, ◌∷◌, ◌∙◌, ap, sym, drop, refl}
+use Rattle.std.proofs.Common.{◌+◌, ◌∙◌, ap, sym, drop, refl}
 use Rattle.cjc_by_name.specs.Effects.{Go, one_value}
 use Rattle.cjc_by_name.specs.OnePackage.{of_class}
 use Rattle.cjc_heap.specs.Looks.{put_field_at}

@@ -1,4 +1,4 @@
-use Rattle.std.proofs.Common.{◌≡◌, ◌∙◌, ap, pos, replicate, true}
+use Rattle.std.proofs.Common.{◌≡◌, ◌∙◌, ap, replicate, true}
 use Rattle.std.specs.Prelude.{Some}
 use Rattle.std.proofs.lemmas.Result.{IfOk-weaker}
 use Rattle.cjc_script.specs.declared.value.Value.TheVariants.{Null}
