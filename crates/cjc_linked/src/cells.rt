@@ -192,16 +192,13 @@ fn cell_of(
 // The static cell of a field of a class is put at the end, where it has one.
 fn put_cell(
     alloc: Global,
-    image: &StaticImage,
     starts: &Starts<'_>,
     class: &[u8],
     field: &FieldTree,
     cells: &mut Row<FieldValue>,
 ) -> Result<(), NoMemory>
-    requires { AreStarts image.now.arrays image.now.others starts.now }
-    ensures { OnOk result (cells.new ≡ cells.old ++ (if is_cell field.now then cell_of image.now (record { class = class.now; name = field.now.name; desc = field.now.desc }) ∷ [] else [])) }
+    ensures { OnOk result ((image : Image) → AreStarts image.arrays image.others starts.now → cells.new ≡ cells.old ++ (if is_cell field.now then cell_of image (record { class = class.now; name = field.now.name; desc = field.now.desc }) ∷ [] else [])) }
 {
-    let _image = image;
     if !is_cell(field) {
         return Ok(());
     }
@@ -212,16 +209,14 @@ fn put_cell(
 // The static cells of a class are put at the end.
 fn put_cells(
     alloc: Global,
-    image: &StaticImage,
     starts: &Starts<'_>,
     class: &ClassTree<'_>,
     cells: &mut Row<FieldValue>,
 ) -> Result<(), NoMemory>
-    requires { AreStarts image.now.arrays image.now.others starts.now }
-    ensures { OnOk result (cells.new ≡ cells.old ++ cells_in image.now class.now.name class.now.fields) }
+    ensures { OnOk result ((image : Image) → AreStarts image.arrays image.others starts.now → cells.new ≡ cells.old ++ cells_in image class.now.name class.now.fields) }
 {
     for field in class.fields.items() {
-        put_cell(alloc, image, starts, class.name.items(), field, cells)?;
+        put_cell(alloc, starts, class.name.items(), field, cells)?;
     }
     Ok(())
 }
@@ -237,7 +232,7 @@ pub(crate) fn cells(
     let starts = starts_of(alloc, image)?;
     let mut row = Row::new(alloc);
     for class in classes {
-        put_cells(alloc, image, &starts, class, &mut row)?;
+        put_cells(alloc, &starts, class, &mut row)?;
     }
     Ok(row)
 }
