@@ -1,10 +1,10 @@
 -- Each instruction that is written has an opcode of its form.
-use Rattle.std.proofs.Common.{◌≡◌, ℕ, zero, suc, ◌+◌, ◌-◌, ◌<◌, ◌≤◌, refl, sym, ap, subst, ◌∙◌, arith, Bool, true, false, List, [], ◌∷◌, ◌++◌, length}
-use Rattle.std.specs.Prelude.{Option, Some, None, map, filter, flat_map, nat_le, nat_lt, slice_get, ◌==◌, if◌then◌else◌, ℤ, pos, negsuc}
+use Rattle.std.proofs.Common.{◌≡◌, ℕ, zero, suc, ◌+◌, ◌-◌, ◌≤◌, refl, sym, subst, arith, Bool, true, false, List, [], ◌∷◌, ◌++◌}
+use Rattle.std.specs.Prelude.{Option, Some, None, flat_map, nat_le, slice_get, ◌==◌, if◌then◌else◌, ℤ, pos, negsuc}
 use Rattle.std.proofs.lemmas.Bool.{leb-false, leb-true}
 use Rattle.cjc_bytes.specs.declared.fault.MemberId.{MemberId}
 use Rattle.cjc_script.specs.Sorts.{Sort, Boolean, Byte, Short, Int, Reference, NoValue, Shape, OfClass, OfNumbers, OfReferences, Booleans, Bytes, Shorts, Ints, field_sort, shape_named}
-use Rattle.cjc_bytecode.specs.Meanings.{Use, Uses, Casts, Asks, meaning}
+use Rattle.cjc_bytecode.specs.Meanings.{Use, Uses, meaning}
 use Rattle.cjc_words.specs.Words.{low_word}
 use Rattle.cjc_code.specs.declared.insn.JInsn.{JInsn}
 use Rattle.cjc_code.specs.declared.insn.JOp.{JOp}
@@ -16,7 +16,7 @@ use Rattle.cjc_ncode.specs.declared.narrow.NInsn.{NInsn}
 use Rattle.cjc_ncode.specs.declared.narrow.NInsn.TheVariants.{Op, Push, Local, Inc, Words, Jump, Switch, Named, Interface, NewArray, TypeTest}
 use Rattle.cjc_ncode.specs.declared.narrow.PoolKey.{PoolKey}
 use Rattle.cjc_ncode.specs.declared.narrow.PoolKey.TheVariants as keys
-use Rattle.cjc_ncode.specs.Written.{Resolution, call_by, condition, field_access, is_byte, local as local_form, low_of, nargs_of, on_stack, pair_cases, pushed, pushed_word, static_access, static_by, switched, table_cases, type_test, written}
+use Rattle.cjc_ncode.specs.Written.{Resolution, call_by, condition, field_access, is_byte, local as local_form, low_of, nargs_of, on_stack, pair_cases, pushed_word, static_access, static_by, switched, table_cases, type_test, written}
 use Rattle.cjc_select_laws.specs.Names.{NamesFit}
 
 module _ (n : Naming) where

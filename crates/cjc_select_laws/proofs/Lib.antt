@@ -10,3 +10,4 @@ pub mod Run
 pub mod Formed
 pub mod Matches
 pub mod Said
+pub mod Numbers

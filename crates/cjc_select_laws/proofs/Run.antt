@@ -1,5 +1,5 @@
 -- The narrow code by which a package's look-ups run a method is what is selected for it.
-use Rattle.std.proofs.Common.{◌≡◌, ℕ, ap, List}
+use Rattle.std.proofs.Common.{◌≡◌, ap, List}
 use Rattle.std.specs.Prelude.{Option, Some}
 use Rattle.cjc_bytes.specs.declared.fault.MemberId.{MemberId}
 use Rattle.cjc_by_name.specs.Linked.{Method}
@@ -8,12 +8,11 @@ use Rattle.cjc_classfile.specs.Code.{CodeTree}
 use Rattle.cjc_classfile.specs.declared.tree.ClassTree.{ClassTree}
 use Rattle.cjc_classfile.specs.declared.tree.MethodTree.{MethodTree}
 use Rattle.cjc_code.specs.Decoded.{decoded}
-use Rattle.cjc_narrow.specs.Package.{code_of, flags_of}
-use Rattle.cjc_narrow.specs.Resolved.{argument_words, method_found, resolution}
+use Rattle.cjc_narrow.specs.Package.{code_of}
+use Rattle.cjc_narrow.specs.Resolved.{argument_words, resolution}
 use Rattle.cjc_narrow.specs.Selected.{selected_code}
 use Rattle.cjc_ncode.specs.Written.{narrow_method}
 use Rattle.cjc_types.specs.declared.state.State.{State}
-use Rattle.cjc_world.specs.Classes.{all_classes}
 use Rattle.cjc_world.specs.Files.{Files}
 use Rattle.cjc_select_laws.specs.Keeps.{FindsItself}
 

@@ -1,8 +1,7 @@
 -- Bytes can say each instruction that is written, distances to its labels aside.
 use Rattle.std.proofs.Common.{◌≡◌, ℕ, zero, suc, ◌+◌, ◌-◌, ◌*◌, ◌<◌, ◌≤◌, refl, sym, ap, subst, ◌∙◌, arith, Bool, true, false, List, [], ◌∷◌, ◌++◌, length, replicate}
-use Rattle.std.specs.Int.RustNames.{int_le}
 use Rattle.std.specs.Int.{w16}
-use Rattle.std.specs.Prelude.{FitsSigned, Option, Some, None, ◌&&◌, map, filter, flat_map, nat_le, slice_get, ◌==◌, if◌then◌else◌, ℤ, pos, negsuc, ◌+ℤ◌, ◌-ℤ◌, ◌≤ℤ◌}
+use Rattle.std.specs.Prelude.{FitsSigned, Option, Some, None, ◌&&◌, flat_map, nat_le, slice_get, ◌==◌, if◌then◌else◌, ℤ, pos, negsuc, ◌≤ℤ◌}
 use Rattle.std.proofs.lemmas.Bool.{leb-false, leb-true}
 use Rattle.std.proofs.lemmas.Int.{ints}
 use Rattle.cjc_bytes.specs.declared.fault.MemberId.{MemberId}
@@ -10,9 +9,8 @@ use Rattle.cjc_script.specs.Sorts.{Sort, Boolean, Byte as ByteSort, Short, Int, 
 use Rattle.cjc_bytecode.specs.Meanings.{meaning}
 use Rattle.cjc_words.specs.Words.{low_word}
 use Rattle.cjc_words.proofs.Words.{low_word_fits}
-use Rattle.cjc_capread.specs.Decode.{AllFit, IsWithin, IsWritable, below, matches_ascend, more, negative, none, positive}
-use Rattle.cjc_capread.specs.Opcodes.{Byte, Fields, Form, Index1, Index2, Lookup, Operand, Signed1, Signed2, Table, form, forms}
-use Rattle.cjc_code.specs.declared.insn.JCase.{JCase}
+use Rattle.cjc_capread.specs.Decode.{AllFit, IsWithin, below, matches_ascend, more, negative, none, positive}
+use Rattle.cjc_capread.specs.Opcodes.{Byte, Fields, Index1, Index2, Lookup, Signed1, Signed2, Table, form, forms}
 use Rattle.cjc_code.specs.declared.insn.JInsn.{JInsn}
 use Rattle.cjc_code.specs.declared.insn.JOp.{JOp}
 use Rattle.cjc_code.specs.declared.insn.JOp.TheVariants as jop
@@ -24,7 +22,7 @@ use Rattle.cjc_ncode.specs.declared.narrow.NInsn.{NInsn}
 use Rattle.cjc_ncode.specs.declared.narrow.NInsn.TheVariants.{Op, Push, Local, Inc, Words, Jump, Switch, Named, Interface, NewArray, TypeTest}
 use Rattle.cjc_ncode.specs.declared.narrow.PoolKey.{PoolKey}
 use Rattle.cjc_ncode.specs.declared.narrow.PoolKey.TheVariants as keys
-use Rattle.cjc_ncode.specs.Written.{Resolution, arithmetic, array_load, array_store, call_by, condition, element_number, field_access, is_byte, leaving, local, low_of, nargs_of, on_stack, pair_cases, pushed, pushed_word, static_access, static_by, switched, table_cases, type_test, written}
+use Rattle.cjc_ncode.specs.Written.{Resolution, arithmetic, array_load, array_store, call_by, condition, element_number, field_access, is_byte, leaving, local, low_of, nargs_of, on_stack, pair_cases, pushed_word, static_access, static_by, switched, table_cases, type_test, written}
 use Rattle.cjc_select_laws.specs.Operands.{IndexFits, NumbersFit, OperandsFit}
 use Rattle.cjc_select_laws.proofs.Matches.{AreRow, AreWords, count_is, last_is, last_low, last_of, offsets_fit, pair_words, pairs_ascend, pairs_fit, table_row, true_le, within_by}
 use Rattle.cjc_select_laws.proofs.Sizes.{pair_few}

@@ -1,15 +1,18 @@
 -- Which numbers of a package and of class files fit the operands of narrow instructions.
 use Rattle.std.specs.Int.RustNames.{int_lt}
 use Rattle.std.specs.List.{Contains}
-use Rattle.std.specs.Prelude.{◌≡◌, ℕ, ◌<◌, true, List, [], ◌∷◌, length, Option, Some}
+use Rattle.std.specs.Prelude.{◌≡◌, ℕ, ◌<◌, ◌≤◌, true, List, [], ◌∷◌, length, unwrap_or, Option, Some}
+use Rattle.cjc_bytes.specs.declared.fault.MemberId.{MemberId}
 use Rattle.cjc_capread.specs.Decode.{IsWithin}
 use Rattle.cjc_capread.specs.Opcodes.{Fields, Form, Index1, form}
 use Rattle.cjc_code.specs.declared.insn.JCase.{JCase}
 use Rattle.cjc_code.specs.declared.insn.JOp.{JOp}
 use Rattle.cjc_code.specs.declared.insn.JOp.TheVariants as jop
+use Rattle.cjc_keys.specs.Index.{index_of}
 use Rattle.cjc_lower.specs.Naming.{Naming}
 use Rattle.cjc_ncode.specs.declared.narrow.NInsn.{NInsn}
 use Rattle.cjc_ncode.specs.declared.narrow.NInsn.TheVariants as insns
+use Rattle.cjc_ncode.specs.declared.narrow.PoolKey.{PoolKey}
 use Rattle.cjc_ncode.specs.declared.narrow.PoolKey.TheVariants as keys
 
 -- an index of one byte or of two
@@ -36,3 +39,9 @@ OperandsFit (jop.Store refs l) = l < 256
 OperandsFit (jop.Inc l by) = (l < 256) × IsWithin 32768 by
 OperandsFit (jop.LookupSwitch other cases) = (length cases < 65536) × CasesAscend cases
 OperandsFit _ = Unit {0}
+
+-- A naming has the indices of a pool of at most 16,383 keys, and a byte for the token of each method of an interface.
+pub record IsSmall (n : Naming) (pool : List PoolKey) : Type 0 where
+  pub few : length pool ≤ 16383
+  pub index : (key : PoolKey) → n.index key ≡ unwrap_or (index_of pool key) 0
+  pub token : (m : MemberId) → n.interface_token m < 256

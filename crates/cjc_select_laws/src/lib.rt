@@ -29,7 +29,10 @@ ghost use Rattle.cjc_select_laws.specs.Keeps.{FindsItself, IsSpelt, KeepsRules};
 ghost use Rattle.cjc_emit_laws.specs.Said.{CanBeSaid};
 ghost use Rattle.cjc_ncode.specs.Written.{reached};
 ghost use Rattle.cjc_select_laws.specs.Names.{NamesFit};
-ghost use Rattle.cjc_select_laws.specs.Operands.{NumbersFit, OperandsFit};
+ghost use Rattle.cjc_narrow.specs.Selected.{near_fields};
+ghost use Rattle.cjc_ncode.specs.declared.narrow.PoolKey.{PoolKey as Key};
+ghost use Rattle.cjc_written.specs.Operands.{CanBeSaid as IsSaid};
+ghost use Rattle.cjc_select_laws.specs.Operands.{IsSmall, NumbersFit, OperandsFit};
 
 /// The narrow code of a method that was decoded, of the instructions that its least type table reaches, can be laid out,
 /// whichever field instructions have an index of one byte: its jumps, switches and handlers lead to instructions that are
@@ -71,4 +74,12 @@ pub fn selected_code_can_be_said()
     ensures { (n : Naming) (files : Files) (near : List Member) (class : ClassTree) (method : MethodTree) (tree : CodeTree) (insns : List JInsn) (flags : List Bool)
         → ((k : ℕ) (i : JInsn) → slice_get (reached insns (rows_by flags)) k ≡ Some i → OperandsFit i.op)
         → (k : ℕ) (insn : Insn) → (let m = selected_code files near class method tree insns (rows_by flags) in slice_get m.insns k ≡ Some insn) → NumbersFit n insn → CanBeSaid n insn }
+{}
+
+/// The indices, words and tokens of what is selected by a pool of at most 16,383 keys fit their operands: a field has an index
+/// of one byte only where the pool has it among its first 256 keys.
+pub fn selected_numbers_fit()
+    ensures { (n : Naming) (pool : List Key) → IsSmall n pool → (files : Files) (class : ClassTree) (method : MethodTree) (tree : CodeTree) (insns : List JInsn) (flags : List Bool)
+        → ((k : ℕ) (i : JInsn) → slice_get (reached insns (rows_by flags)) k ≡ Some i → IsSaid i.op)
+        → (k : ℕ) (insn : Insn) → (let m = selected_code files (near_fields pool) class method tree insns (rows_by flags) in slice_get m.insns k ≡ Some insn) → NumbersFit n insn }
 {}
