@@ -1,11 +1,10 @@
 -- The first place at which a rule is broken.
-use Rattle.std.proofs.Common.{◌≡◌, ◌⊎◌, ◌≤◌, ◌<◌, ◌+◌, ℕ, zero, suc, Bool, true, false, cond, nat_lt, List, [], ◌∷◌, length, drop, slice_get, get_or, Option, Some, None, refl, sym, ◌∙◌, ap, subst, inl, inr, add-zero, zero-add, arith, ℤ}
+use Rattle.std.proofs.Common.{◌≡◌, ◌⊎◌, ◌≤◌, ◌<◌, ◌+◌, ℕ, zero, suc, Bool, true, false, nat_lt, List, [], ◌∷◌, drop, slice_get, Option, Some, None, refl, sym, ◌∙◌, ap, subst, inl, inr, add-zero, zero-add, arith, ℤ}
 use Rattle.std.proofs.lemmas.Bool.{ltb-true, ltb-false}
 use Rattle.std.proofs.lemmas.List.{drop_more}
-use Rattle.std.proofs.lemmas.Option.{slice_get_within, slice_get-get_or, get_or_from_slice_get}
+use Rattle.std.proofs.lemmas.Option.{slice_get_within, get_or_from_slice_get}
 use Rattle.cjc_bytes.specs.declared.fault.MemberId.{MemberId}
 use Rattle.cjc_code.specs.declared.insn.JInsn.{JInsn}
-use Rattle.cjc_fixpoint.specs.Tables.{HasRow}
 use Rattle.cjc_types.specs.declared.state.State.{State}
 use Rattle.cjc_types.specs.declared.table.TypeTable.{TypeTable}
 use Rattle.cjc_types.specs.Flow.{Body}

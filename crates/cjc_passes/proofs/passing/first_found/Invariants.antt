@@ -1,4 +1,4 @@
-use Rattle.std.proofs.Common.{◌≡◌, length, drop}
+use Rattle.std.proofs.Common.{◌≡◌, drop}
 use Rattle.cjc_types.specs.Tables.{rows_of}
 use Rattle.cjc_passes.specs.Working.Search.{first_from}
 use Rattle.cjc_passes.proofs.passing.first_found.Given as goal

@@ -1,16 +1,12 @@
-use Rattle.std.proofs.Common.{◌≡◌, ℕ, List, get_or, Option, ℤ, sym, ap, ◌∙◌, subst}
+use Rattle.std.proofs.Common.{List, get_or, sym, ap, ◌∙◌, subst}
 use Rattle.std.proofs.lemmas.Option.{get_or_from_slice_get}
-use Rattle.cjc_bytes.specs.declared.fault.MemberId.{MemberId}
 use Rattle.cjc_classfile.specs.declared.tree.ClassTree.{ClassTree}
 use Rattle.cjc_classfile.specs.declared.tree.MethodTree.{MethodTree}
 use Rattle.cjc_code.specs.declared.insn.JInsn.{JInsn}
 use Rattle.cjc_world.specs.Classes.{all_classes}
-use Rattle.cjc_types.specs.declared.state.State.{State}
-use Rattle.cjc_types.specs.declared.table.TypeTable.{TypeTable}
 use Rattle.cjc_types.specs.Flow.{Body, body_of}
 use Rattle.cjc_types.specs.Tables.{IsTypeTable, rows_of}
 use Rattle.cjc_types.proofs.Least.{method_same}
-use Rattle.cjc_range_flow.specs.Frames.{RangeState}
 use Rattle.cjc_flow.specs.Constants.{values_of}
 use Rattle.cjc_flow.specs.Tables.{ranges_of}
 use Rattle.cjc_passes.proofs.First.{found_same, nothing_broken, first_broken}
