@@ -70,26 +70,45 @@ fn consistent_components(rt: HostRuntime) -> Result<(), Fail> {
 #[test]
 fn one_sentence_is_false(rt: HostRuntime) -> Result<(), Fail> {
     let cases: [(Change, &str); 18] = [
-        ((DIRECTORY, 10, b"\x0C"), "refused 701 Directory.cap - - 9\n"),
-        ((DIRECTORY, 33, b"\x02"), "refused 701 Directory.cap - - 33\n"),
+        (
+            (DIRECTORY, 10, b"\x0C"),
+            "refused 701 Directory.cap - - 9\n",
+        ),
+        (
+            (DIRECTORY, 33, b"\x02"),
+            "refused 701 Directory.cap - - 33\n",
+        ),
         // Class is absent: what speaks of other components is not tested
-        ((DIRECTORY, 14, b"\x00"), "refused 701 Directory.cap - - 13\n"),
+        (
+            (DIRECTORY, 14, b"\x00"),
+            "refused 701 Directory.cap - - 13\n",
+        ),
         ((HEADER, 9, b"\x00"), "refused 702 Header.cap - - 9\n"),
         ((HEADER, 9, b"\x06"), "refused 702 Header.cap - - 9\n"),
         ((IMPORT, 5, b"\x02"), "refused 703 Import.cap - - 5\n"),
         ((IMPORT, 13, b"\x7F"), "refused 703 Import.cap - - 6\n"),
-        ((LIST, 41, b"export lang.exp\n"), "refused 703 Import.cap - - 3\n"),
+        (
+            (LIST, 55, b"export lang.exp\n"),
+            "refused 703 Import.cap - - 3\n",
+        ),
         ((CLASS, 7, b"\x01"), "refused 704 Class.cap - - 6\n"),
         ((CLASS, 6, b"\x00\x02"), "refused 705 Class.cap - - 6\n"),
         ((METHOD, 6, b"\xC0"), "refused 709 Method.cap - - 6\n"),
-        ((METHOD, 4, b"\x82"), "refused 709 Method.cap - - 4\n"),
+        // a header of four bytes, which leaves too few for the code
+        ((METHOD, 4, b"\x82"), "refused 709 Method.cap - - 10\n"),
         ((METHOD, 9, b"\x00"), "refused 710 Method.cap - - 9\n"),
         // a jump into its own operand
         ((METHOD, 7, b"\x70\x01"), "refused 710 Method.cap - - 7\n"),
-        ((METHOD, 6, b"\x7C\x00\x00"), "refused 711 Method.cap - - 7\n"),
+        (
+            (METHOD, 6, b"\x7C\x00\x00"),
+            "refused 711 Method.cap - - 7\n",
+        ),
         ((EXPORT, 9, b"\x02"), "refused 717 Export.cap - - 8\n"),
         ((EXPORT, 5, b"\x03"), "refused 717 Export.cap - - 4\n"),
-        ((DESCRIPTOR, 18, b"\x03"), "refused 718 Descriptor.cap - - 17\n"),
+        (
+            (DESCRIPTOR, 18, b"\x03"),
+            "refused 718 Descriptor.cap - - 17\n",
+        ),
     ];
     for (change, want) in cases {
         assert!(rt; ends_so(rt.alloc(), &[change], "", want)?, "{want}");
