@@ -1,4 +1,0 @@
-pub mod Begins
-pub mod Followed
-pub mod OneTurn
-pub mod Spends
