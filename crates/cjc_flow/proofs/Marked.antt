@@ -1,5 +1,5 @@
 -- Which places are marked, and what comes to one.
-use Rattle.std.proofs.Common.{◌≡◌, ◌||◌, ◌==◌, ◌<◌, ℕ, zero, suc, Bool, true, false, cond, not, is_some, List, [], ◌∷◌, filter, filter_map, length, slice_get, get_or, Option, Some, None, option_map, Result, Ok, Err, IfOk, Contains, refl, sym, ◌∙◌, ap, inl, inr, arith}
+use Rattle.std.proofs.Common.{◌≡◌, ◌||◌, ◌==◌, ◌<◌, ℕ, zero, suc, Bool, true, false, cond, not, is_some, List, [], ◌∷◌, filter, filter_map, length, slice_get, get_or, Option, Some, None, option_map, Result, Ok, Err, IfOk, Contains, refl, sym, ◌∙◌, ap, subst, inl, inr, arith}
 use Rattle.std.specs.List.{list_any, range_with_len}
 use Rattle.std.proofs.lemmas.Bool.{eqb-true, eqb-false}
 use Rattle.std.proofs.lemmas.List.Quantifiers.{position-Some}
@@ -7,6 +7,7 @@ use Rattle.std.proofs.lemmas.Option.{slice_get_within, slice_get-get_or, get_or_
 use Rattle.cjc_classfile.specs.declared.tree.Catch.{Catch}
 use Rattle.cjc_code.specs.declared.insn.JInsn.{JInsn}
 use Rattle.cjc_code.specs.declared.insn.JOp.TheVariants as jop
+use Rattle.cjc_fixpoint.specs.declared.flow.Edge.{Edge}
 use Rattle.cjc_fixpoint.specs.Kept.{mark_of}
 use Rattle.cjc_fixpoint.specs.Working.Edges.{contains_head, contains_tail, contains_cons}
 use Rattle.cjc_fixpoint.specs.Working.SegmentLaws.{contains_none, kept_from}
@@ -18,10 +19,10 @@ use Rattle.cjc_types.specs.declared.state.State.{State}
 use Rattle.cjc_types.specs.declared.table.Frame.{Frame}
 use Rattle.cjc_types.specs.declared.table.TypeTable.{TypeTable}
 use Rattle.cjc_types.specs.Steps.{targets}
-use Rattle.cjc_types.specs.Flow.{Body, place_at, type_flow}
+use Rattle.cjc_types.specs.Flow.{Body, place_at, edge, covers, caught, handler_edge, type_flow}
 use Rattle.cjc_types.specs.Marks.{is_place, leads_to, is_jumped_to, is_handler, is_marked, marks_of}
 use Rattle.cjc_types.specs.Tables.{IsTypeTable, state_of, states_of, rows_of}
-use Rattle.cjc_types.specs.Working.MarkLaws.{marks_are}
+use Rattle.cjc_types.specs.Working.MarkLaws.{LeadsOn, marks_are}
 use Rattle.cjc_range_flow.specs.Frames.{RangeState}
 use Rattle.cjc_range_flow.specs.Flow.{rounded, is_target, by_types, arrival, first_state, entry}
 use Rattle.cjc_flow.specs.Working.Kept.{Ranged, kept_arrival}
@@ -101,6 +102,26 @@ pub handler_marked : (b : Body) (c : Catch) (to : ℕ) → Contains b.catches c 
 handler_marked b c to has is =
     let handles : is_handler b to ≡ true = any_has (λ (d : Catch). is_place (place_at b.insns d.target) to) b.catches c has (ap (λ (o : Option ℕ). is_place o to) is ∙ same_self to) in
     ap (λ (h : Bool). (to == 0) || (is_jumped_to b to || h)) handles ∙ ap (λ (j : Bool). (to == 0) || j) (or_true (is_jumped_to b to)) ∙ or_true (to == 0)
+
+handler_to : (insns : List JInsn) (offset : ℕ) (x : State) (c : Catch) (e : Edge State) → handler_edge insns offset x c ≡ Some e → place_at insns c.target ≡ Some e.to
+handler_to insns offset x c e is = go (covers c offset) (place_at insns c.target) is
+  where
+    go : (covered : Bool) (o : Option ℕ) → cond covered (option_map (edge (caught c x)) o) None ≡ Some e → o ≡ Some e.to
+    go true None h = absurd cc
+    go true (Some to) h = let same : edge (caught c x) to ≡ e = cc in ap (λ (f : Edge State). Some f.to) same
+    go false o h = absurd cc
+
+-- only the way on leads to a place without a mark
+pub leads_unmarked : (b : Body) (at : ℕ) → is_marked b (suc at) ≡ false → LeadsOn b at
+leads_unmarked b at none = record {
+  jumps = λ insn is to has same. clash (subst (λ n. is_marked b n ≡ true) same (jump_marked b at insn to is has));
+  handlers = λ offset x e has same.
+      let from = kept_from (handler_edge b.insns offset x) b.catches e has in
+      clash (subst (λ n. is_marked b n ≡ true) same (handler_marked b from.0 e.to from.1 (handler_to b.insns offset x from.0 e from.2)));
+}
+  where
+    clash : is_marked b (suc at) ≡ true → ⊥
+    clash is = let both : true ≡ false = sym is ∙ none in cc
 
 pub not_target : (b : Body) (to : ℕ) → is_marked b to ≡ false → is_target b to ≡ false
 not_target b to e = go (to == 0) e

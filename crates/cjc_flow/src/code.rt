@@ -1,14 +1,12 @@
 //! A method with its instructions, as intervals read it. Called by ranging.rt. Knows no interval but those of arguments.
 
 ghost use Rattle.std.specs.Prelude.{◌≡◌, ◌<◌, ◌+◌, ◌^◌, ◌++◌, filter_map, length, slice_get, option_map, option_to_list, replicate, take, IfOk, OnOk};
-ghost use Rattle.std.specs.List.{list_any};
 ghost use Rattle.cjc_classfile.specs.Code.{CodeTree};
 ghost use Rattle.cjc_classfile.specs.declared.tree.ClassTree.{ClassTree as Class};
 ghost use Rattle.cjc_classfile.specs.declared.tree.MethodTree.{MethodTree as ClassMethod};
 ghost use Rattle.cjc_types.specs.Flow.{body_of, covers as covers_offset, next_place as next_by, place_at as place_by, successors as successors_of};
 ghost use Rattle.cjc_types.specs.Index.{AreInOrder};
 ghost use Rattle.cjc_types.specs.Tables.{IsMethodOf, IsOfPackage};
-ghost use Rattle.cjc_types.specs.Working.Onward.{begins_at, may_lead as may_lead_by};
 ghost use Rattle.cjc_range_flow.specs.Flow.{argument_ranges, first_state};
 
 use crate::intervals::{Intervals, full_interval};
@@ -65,18 +63,6 @@ pub(crate) fn covers(catch: &Catch, offset: u32) -> bool
     ensures { result ≡ covers_offset catch.now offset }
 {
     u32::from(catch.start) <= offset && offset < u32::from(catch.end)
-}
-
-/// Whether a handler begins at an offset.
-fn begins(catches: &[Catch], offset: u32) -> bool
-    ensures { result ≡ list_any (begins_at offset) catches.now }
-{
-    for catch in catches {
-        if u32::from(catch.target) == offset {
-            return true;
-        }
-    }
-    false
 }
 
 /// Puts the place at the end, where there is one.
@@ -196,17 +182,6 @@ impl<'a> Method<'a> {
         let offsets = insns::targets(alloc, op)?;
         self.put_places(&mut places, offsets.items())?;
         Ok(places)
-    }
-
-    /// Whether a jump of an instruction or some handler may lead to the place behind.
-    pub(crate) fn may_lead(&self, at: u32) -> bool
-        ensures { result ≡ may_lead_by self.now.catches (slice_get self.now.insns at) (slice_get self.now.insns (at + 1)) }
-    {
-        let here = at as usize;
-        match (self.insns.get(here), self.insns.get(here + 1)) {
-            (Some(insn), Some(next)) => insns::jumps(&insn.op) || begins(self.catches, next.at),
-            _ => false,
-        }
     }
 
     /// The intervals of the arguments.

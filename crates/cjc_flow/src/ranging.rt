@@ -429,9 +429,6 @@ impl Repeating for Ranging<'_> {
     }
 
     fn pass(&self, alloc: Global, at: u32, before: Ranges) -> Result<Option<Ranges>, NoMemory> {
-        if self.method.may_lead(at) {
-            return moved_on(alloc, self, at, Some(before));
-        }
         if self.is_marked(at + 1) {
             return moved_on(alloc, self, at, Some(before));
         }
