@@ -5,9 +5,8 @@ use Rattle.std.specs.List.{flat_map}
 use Rattle.std.proofs.lemmas.List.{reverse-append, map-append, append-nil}
 use Rattle.std.proofs.lemmas.Grind.{flat_map-append}
 use Rattle.cjc_script.specs.declared.report.FieldValue.{FieldValue}
-use Rattle.cjc_bytes.specs.declared.fault.MemberId.{MemberId}
 use Rattle.cjc_world.specs.Classes.{Class, class_named}
-use Rattle.cjc_world.specs.Kin.{Kin, End, Unknown, Known, IsAcyclic, kin, upwards}
+use Rattle.cjc_world.specs.Kin.{Kin, Known, IsAcyclic, kin, upwards}
 use Rattle.cjc_by_name.specs.Effects.{fresh_field}
 use Rattle.cjc_by_name.specs.OnePackage.{declared_fields}
 use Rattle.cjc_linked.specs.Fresh.{fresh_fields}

@@ -1,17 +1,14 @@
 -- Calls as look-ups answer them.
-use Rattle.std.proofs.Common.{◌≡◌, ℕ, refl, sym, ap, ◌∙◌, true, false, List, [], ◌∷◌, ◌++◌}
-use Rattle.std.specs.Prelude.{Option, Some, None, option_map, option_and_then, if◌then◌else◌}
-use Rattle.cjc_bytes.specs.declared.fault.MemberId.{MemberId}
-use Rattle.cjc_world.specs.declared.found.Found.{Found}
-use Rattle.cjc_world.specs.Files.{Files}
-use Rattle.cjc_world.specs.Lookup.{selected, receiver}
+use Rattle.std.proofs.Common.{◌≡◌, ℕ, refl, sym, ap, ◌∙◌, true, List, [], ◌++◌}
+use Rattle.std.specs.Prelude.{Option, Some, None, if◌then◌else◌}
+use Rattle.cjc_world.specs.Lookup.{selected}
 use Rattle.cjc_world.specs.Classes.{Class, class_named, declared}
 use Rattle.cjc_world.specs.Kin.{IsAcyclic, Unknown, kin, line, upwards}
 use Rattle.cjc_classfile.specs.declared.tree.ClassTree.{ClassTree}
 use Rattle.cjc_world.proofs.Settled.{kin-known}
 use Rattle.cjc_world.proofs.Upwards.{line_goes_up}
 use Rattle.cjc_by_name.specs.Linked
-use Rattle.cjc_by_name.specs.OnePackage.{first_imported, of_class, method_at, callee_at, selected_from, select_in}
+use Rattle.cjc_by_name.specs.OnePackage.{first_imported}
 use Rattle.cjc_jvm.specs.Names.{selection_of}
 use Rattle.cjc_linked.proofs.Heights.{kin_none, kin_unknown}
 

@@ -1,16 +1,14 @@
 -- Static cells and fields of objects, one field more.
-use Rattle.std.proofs.Common.{◌≡◌, refl, sym, ap, ◌∙◌, Bool, true, false, List, [], ◌∷◌, ◌++◌, map, ℕ}
-use Rattle.std.specs.Prelude.{Option, Some, None, if◌then◌else◌}
-use Rattle.std.proofs.lemmas.List.{append-nil, append_assoc}
+use Rattle.std.proofs.Common.{◌≡◌, refl, ap, Bool, true, false, List, [], ◌∷◌, ◌++◌, map, ℕ}
+use Rattle.std.specs.Prelude.{if◌then◌else◌}
 use Rattle.cjc_bytes.specs.declared.fault.MemberId.{MemberId}
 use Rattle.cjc_bytes.specs.AccessFlags.{is_static}
 use Rattle.cjc_classfile.specs.declared.tree.FieldTree.{FieldTree}
 use Rattle.cjc_script.specs.declared.report.FieldValue.{FieldValue}
-use Rattle.cjc_script.specs.declared.value.Value.{Value}
 use Rattle.cjc_world.specs.declared.image.StaticImage.{StaticImage}
-use Rattle.cjc_world.specs.Classes.{Member, field_of_class}
+use Rattle.cjc_world.specs.Classes.{field_of_class}
 use Rattle.cjc_by_name.specs.Effects.{fresh_field}
-use Rattle.cjc_by_name.specs.OnePackage.{cell_of, cells_in, is_cell, instance_fields, member_of}
+use Rattle.cjc_by_name.specs.OnePackage.{cell_of, cells_in, is_cell, instance_fields}
 
 -- the field of a class
 abbrev pub named : List ℕ → FieldTree → MemberId

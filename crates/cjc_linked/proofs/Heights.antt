@@ -2,7 +2,7 @@
 use Rattle.std.proofs.Common.{◌≡◌, ℕ, ◌+◌, ◌<◌, refl, ap, arith, List, [], ◌∷◌}
 use Rattle.std.specs.Prelude.{Option, Some, None}
 use Rattle.cjc_world.specs.Classes.{Class, class_named}
-use Rattle.cjc_world.specs.Kin.{Kin, End, Unknown, Known, IsAcyclic, IsKin, ends, unknown_here, known_here, kin}
+use Rattle.cjc_world.specs.Kin.{Kin, End, Unknown, Known, IsAcyclic, ends, unknown_here, known_here, kin}
 use Rattle.cjc_world.proofs.Settled.{kin-IsKin, IsKin-one}
 
 -- how many names and classes a tree has

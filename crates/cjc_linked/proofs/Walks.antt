@@ -1,6 +1,6 @@
 -- Walks that put what each item adds at the end.
 use Rattle.std.proofs.Common.{◌≡◌, ℕ, ◌+◌, ◌<◌, ◌≤◌, sym, ap, ◌∙◌, List, [], ◌∷◌, ◌++◌, length, get_or, take}
-use Rattle.std.proofs.lemmas.List.{append_assoc, append-nil, take_more, take_all}
+use Rattle.std.proofs.lemmas.List.{append_assoc, take_more, take_all}
 
 module _ {A B : Type 0} (F : List A → List B) (one : A → List B) (xs : List A) where
   pub walk_step : ((ys : List A) (y : A) → F (ys ++ y ∷ []) ≡ F ys ++ one y) → (i : ℕ) (x : A) (old now new : List B) → i < length xs → x ≡ get_or xs i x

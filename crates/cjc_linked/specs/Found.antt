@@ -1,5 +1,5 @@
 -- What a look-up found, as it is lent.
-use Rattle.std.specs.Prelude.{ℕ, List, Bool, Option, if◌then◌else◌}
+use Rattle.std.specs.Prelude.{List, Bool, Option, if◌then◌else◌}
 use Rattle.cjc_world.specs.declared.found.Found.{Found}
 use Rattle.cjc_world.specs.Classes.{Class}
 use Rattle.cjc_world.specs.Working.Known.{class_of}

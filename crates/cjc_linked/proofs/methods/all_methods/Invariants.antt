@@ -1,4 +1,4 @@
-use Rattle.std.proofs.Common.{◌≡◌, ◌+◌, take, drop, map}
+use Rattle.std.proofs.Common.{◌≡◌, take, drop, map}
 use Rattle.cjc_code.specs.PackageCodes.{of_classes, code_with}
 use Rattle.cjc_linked.specs.Methods.{AreIndices, methods_of}
 use Rattle.cjc_linked.proofs.methods.all_methods.Given as goal

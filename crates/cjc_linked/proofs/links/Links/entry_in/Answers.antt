@@ -1,5 +1,5 @@
-use Rattle.std.proofs.Common.{◌≡◌, ◌∙◌, ◌+◌, ◌<◌, ap, sym, List, [], length, get_or, true, false}
-use Rattle.std.specs.Prelude.{Some, None, position, slice_get, if◌then◌else◌}
+use Rattle.std.proofs.Common.{◌≡◌, ◌∙◌, ◌+◌, ◌<◌, ap, sym, [], length, get_or, true, false}
+use Rattle.std.specs.Prelude.{Some, None, position, if◌then◌else◌}
 use Rattle.std.proofs.lemmas.Option.{slice_get-get_or}
 use Rattle.cjc_bytes.specs.AccessFlags.{is_static}
 use Rattle.cjc_world.specs.Classes.{Member}
