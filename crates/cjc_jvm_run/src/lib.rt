@@ -1,0 +1,10 @@
+//! Runs of class files by name: entries, instructions, whole runs and their reports, over any look-ups, against the
+//! definition that cjc_by_name gives. Knows no class files and how names are looked up, no tokens and no components.
+#![tactic(auto)]
+
+mod entries;
+mod reports;
+mod runs;
+mod steps;
+
+pub use runs::run;
