@@ -8,3 +8,5 @@ mod intervals;
 mod methods;
 #[cfg(test)]
 mod names;
+#[cfg(test)]
+mod words;

@@ -1,10 +1,13 @@
-//! One method for each case of the rules, and what some rows of tables hold.
+//! One method for each case of the rules, and what some rows of tables hold. A case has the descriptor of a static
+//! method, max_stack, max_locals, the bytes of its code, and maybe ` catch ` and where a handler of everything begins,
+//! ends and goes; then ` = ` and what is answered, and maybe ` # ` and why.
 
 ghost use Rattle.std.specs.Prelude.{IfOk};
 ghost use Rattle.cjc_types.specs.Tables.{IsOfPackage};
 
-use cjc_bytes::{Bytes, Fault, FileLine, MemberId, NoMemory, Row, Rule};
-use cjc_classfile::{Catch, ClassTree, Code, FieldTree, MethodTree, PoolItem};
+use crate::words::{cut, is_number, number, octet, question_and_answer, small_number};
+use cjc_bytes::{Bytes, Fault, FileLine, MemberId, NoMemory, Row};
+use cjc_classfile::{Catch, ClassTree, Code, MethodTree, PoolItem};
 use cjc_code::{MethodCode, decode};
 use cjc_export::{ExportClass, ExportTree};
 use cjc_types::{Cell, Frame, Method, TypeTable, TypeWalk, infer};
@@ -12,44 +15,69 @@ use cjc_world::World;
 use std::alloc::Global;
 use std::test::*;
 
-const OBJECT: &[u8] = b"java/lang/Object";
+/// The classes of java/lang that are needed, each with its supers.
+const LANGUAGE: &str = "\
+java/lang/Object -
+java/lang/Throwable java/lang/Object
+java/lang/ArrayIndexOutOfBoundsException java/lang/Throwable,java/lang/Object
+java/lang/ArrayStoreException java/lang/Throwable,java/lang/Object
+java/lang/NegativeArraySizeException java/lang/Throwable,java/lang/Object
+java/lang/ArithmeticException java/lang/Throwable,java/lang/Object
+java/lang/ClassCastException java/lang/Throwable,java/lang/Object
+java/lang/NullPointerException java/lang/Throwable,java/lang/Object";
 
-const THROWABLE: &[u8] = b"java/lang/Throwable";
+/// The classes of the package, each with its flags and interfaces. p/T has the method.
+const PACKAGE: &str = "\
+p/T 1 -
+p/M 1 p/I
+p/N 1 p/I
+p/I 1537 -";
 
-/// The exceptions that java/lang needs.
-const EXCEPTIONS: [&[u8]; 6] = [
-    b"java/lang/ArrayIndexOutOfBoundsException",
-    b"java/lang/ArrayStoreException",
-    b"java/lang/NegativeArraySizeException",
-    b"java/lang/ArithmeticException",
-    b"java/lang/ClassCastException",
-    b"java/lang/NullPointerException",
-];
+/// What the codes below name, from index 1 on.
+const POOL: &str = "\
+class p/M
+class java/lang/Object
+class [S
+field p/T f S
+field p/T o Lp/M;
+method p/M v ()V
+method p/T s (SLp/M;)S
+interface p/I i ()V
+method p/T q ()V
+method java/lang/Object w ()V
+method p/M <init> ()V";
 
 /// A static method: its descriptor, max_stack, max_locals, and the code with at most one handler of everything.
 #[derive(Clone, Copy)]
 struct Draft<'t> {
-    desc: &'t [u8],
+    desc: &'t str,
     max_stack: u16,
     max_locals: u16,
     code: &'t [u8],
-    catch: Option<(u16, u16, u16)>,
+    catch: &'t str,
 }
 
-fn copies(alloc: Global, names: &[&[u8]]) -> Result<Row<Bytes>, NoMemory> {
+fn text(alloc: Global, word: &str) -> Result<Bytes, NoMemory> {
+    Bytes::copy_of(alloc, word.as_bytes())
+}
+
+fn texts(alloc: Global, words: &str) -> Result<Row<Bytes>, NoMemory> {
     let mut row = Row::new(alloc);
-    for name in names {
-        row.push(Bytes::copy_of(alloc, name)?)?;
+    if words != "-" {
+        for word in words.split(",") {
+            row.push(text(alloc, word)?)?;
+        }
     }
     Ok(row)
 }
 
-fn imported(alloc: Global, name: &[u8], supers: &[&[u8]]) -> Result<ExportClass, NoMemory> {
+fn imported(alloc: Global, words: &str) -> Result<ExportClass, NoMemory> {
+    let (name, supers) = cut(words, " ");
     Ok(ExportClass {
         token: 0,
         flags: 1,
-        name: Bytes::copy_of(alloc, name)?,
-        supers: copies(alloc, supers)?,
+        name: text(alloc, name)?,
+        supers: texts(alloc, supers)?,
         interfaces: Row::new(alloc),
         fields: Row::new(alloc),
         methods: Row::new(alloc),
@@ -58,13 +86,11 @@ fn imported(alloc: Global, name: &[u8], supers: &[&[u8]]) -> Result<ExportClass,
 
 fn language(alloc: Global) -> Result<ExportTree, NoMemory> {
     let mut classes = Row::new(alloc);
-    classes.push(imported(alloc, OBJECT, &[])?)?;
-    classes.push(imported(alloc, THROWABLE, &[OBJECT])?)?;
-    for name in EXCEPTIONS {
-        classes.push(imported(alloc, name, &[THROWABLE, OBJECT])?)?;
+    for line in LANGUAGE.lines() {
+        classes.push(imported(alloc, line)?)?;
     }
     Ok(ExportTree {
-        name: Bytes::copy_of(alloc, b"java/lang")?,
+        name: text(alloc, "java/lang")?,
         aid: Bytes::new(alloc),
         major: 1,
         minor: 0,
@@ -73,109 +99,146 @@ fn language(alloc: Global) -> Result<ExportTree, NoMemory> {
     })
 }
 
-fn member(alloc: Global, class: &[u8], name: &[u8], desc: &[u8]) -> Result<MemberId, NoMemory> {
+fn member(alloc: Global, words: &str) -> Result<MemberId, NoMemory> {
+    let (class, words) = cut(words, " ");
+    let (name, desc) = cut(words, " ");
     Ok(MemberId {
-        class: Bytes::copy_of(alloc, class)?,
-        name: Bytes::copy_of(alloc, name)?,
-        desc: Bytes::copy_of(alloc, desc)?,
+        class: text(alloc, class)?,
+        name: text(alloc, name)?,
+        desc: text(alloc, desc)?,
     })
 }
 
-/// What the codes below name, from index 1 on.
+fn pool_item(alloc: Global, line: &str) -> Result<PoolItem, NoMemory> {
+    let (kind, words) = cut(line, " ");
+    match kind {
+        "class" => Ok(PoolItem::Class(text(alloc, words)?)),
+        "field" => Ok(PoolItem::Field(member(alloc, words)?)),
+        "method" => Ok(PoolItem::Method(member(alloc, words)?)),
+        "interface" => Ok(PoolItem::InterfaceMethod(member(alloc, words)?)),
+        _ => Err(NoMemory),
+    }
+}
+
 fn pool(alloc: Global) -> Result<Row<PoolItem>, NoMemory> {
     let mut pool = Row::new(alloc);
     pool.push(PoolItem::Other)?;
-    pool.push(PoolItem::Class(Bytes::copy_of(alloc, b"p/M")?))?;
-    pool.push(PoolItem::Class(Bytes::copy_of(alloc, OBJECT)?))?;
-    pool.push(PoolItem::Class(Bytes::copy_of(alloc, b"[S")?))?;
-    pool.push(PoolItem::Field(member(alloc, b"p/T", b"f", b"S")?))?;
-    pool.push(PoolItem::Field(member(alloc, b"p/T", b"o", b"Lp/M;")?))?;
-    pool.push(PoolItem::Method(member(alloc, b"p/M", b"v", b"()V")?))?;
-    pool.push(PoolItem::Method(member(alloc, b"p/T", b"s", b"(SLp/M;)S")?))?;
-    pool.push(PoolItem::InterfaceMethod(member(alloc, b"p/I", b"i", b"()V")?))?;
-    pool.push(PoolItem::Method(member(alloc, b"p/T", b"q", b"()V")?))?;
-    pool.push(PoolItem::Method(member(alloc, OBJECT, b"w", b"()V")?))?;
-    pool.push(PoolItem::Method(member(alloc, b"p/M", b"<init>", b"()V")?))?;
+    for line in POOL.lines() {
+        pool.push(pool_item(alloc, line)?)?;
+    }
     Ok(pool)
 }
 
-fn method<'t>(
-    alloc: Global,
-    flags: u16,
-    name: &[u8],
-    desc: &[u8],
-    code: Option<Code<'t>>,
-) -> Result<MethodTree<'t>, NoMemory> {
-    Ok(MethodTree {
-        flags,
-        name: Bytes::copy_of(alloc, name)?,
-        desc: Bytes::copy_of(alloc, desc)?,
-        code,
+/// The handler of these words: where it begins, ends and goes.
+fn handler(words: &str) -> Result<Catch, NoMemory> {
+    let (start, words) = cut(words, " ");
+    let (end, target) = cut(words, " ");
+    Ok(Catch {
+        start: small_number(start)?,
+        end: small_number(end)?,
+        target: small_number(target)?,
+        class: None,
     })
 }
 
-fn code<'t>(alloc: Global, draft: Draft<'t>) -> Result<Code<'t>, NoMemory> {
+fn catches(alloc: Global, words: &str) -> Result<Row<Catch>, NoMemory> {
     let mut catches = Row::new(alloc);
-    if let Some((start, end, target)) = draft.catch {
-        catches.push(Catch {
-            start,
-            end,
-            target,
-            class: None,
-        })?;
+    if !words.is_empty() {
+        catches.push(handler(words)?)?;
     }
-    Ok(Code {
-        max_stack: draft.max_stack,
-        max_locals: draft.max_locals,
-        bytes: draft.code,
-        catches,
+    Ok(catches)
+}
+
+/// The method of a draft.
+fn drafted<'t>(alloc: Global, draft: Draft<'t>) -> Result<MethodTree<'t>, NoMemory> {
+    Ok(MethodTree {
+        flags: 9,
+        name: text(alloc, "m")?,
+        desc: text(alloc, draft.desc)?,
+        code: Some(Code {
+            max_stack: draft.max_stack,
+            max_locals: draft.max_locals,
+            bytes: draft.code,
+            catches: catches(alloc, draft.catch)?,
+        }),
     })
 }
 
-fn class<'t>(
+/// A private method without code, which some codes name.
+fn private<'t>(alloc: Global) -> Result<MethodTree<'t>, NoMemory> {
+    Ok(MethodTree {
+        flags: 2,
+        name: text(alloc, "q")?,
+        desc: text(alloc, "()V")?,
+        code: None,
+    })
+}
+
+/// The methods of a class: p/T alone has some.
+fn methods<'t>(
     alloc: Global,
-    flags: u16,
-    name: &[u8],
-    interfaces: &[&[u8]],
-    methods: Row<MethodTree<'t>>,
-) -> Result<ClassTree<'t>, NoMemory> {
+    class: &str,
+    draft: Draft<'t>,
+) -> Result<Row<MethodTree<'t>>, NoMemory> {
+    let mut methods = Row::new(alloc);
+    if class == "p/T" {
+        methods.push(drafted(alloc, draft)?)?;
+        methods.push(private(alloc)?)?;
+    }
+    Ok(methods)
+}
+
+fn class<'t>(alloc: Global, line: &str, draft: Draft<'t>) -> Result<ClassTree<'t>, NoMemory> {
+    let (name, words) = cut(line, " ");
+    let (flags, interfaces) = cut(words, " ");
     Ok(ClassTree {
         major: 52,
-        flags,
-        name: Bytes::copy_of(alloc, name)?,
-        superclass: Bytes::copy_of(alloc, OBJECT)?,
-        interfaces: copies(alloc, interfaces)?,
+        flags: small_number(flags)?,
+        name: text(alloc, name)?,
+        superclass: text(alloc, "java/lang/Object")?,
+        interfaces: texts(alloc, interfaces)?,
         pool: pool(alloc)?,
         fields: Row::new(alloc),
-        methods,
+        methods: methods(alloc, name, draft)?,
     })
 }
 
-fn line(alloc: Global, class_file: bool, name: &[u8]) -> Result<FileLine, NoMemory> {
+fn classes<'t>(alloc: Global, draft: Draft<'t>) -> Result<Row<ClassTree<'t>>, NoMemory> {
+    let mut classes = Row::new(alloc);
+    for line in PACKAGE.lines() {
+        classes.push(class(alloc, line, draft)?)?;
+    }
+    Ok(classes)
+}
+
+fn line(alloc: Global, class_file: bool, name: &str) -> Result<FileLine, NoMemory> {
     Ok(FileLine {
         class_file,
-        name: Bytes::copy_of(alloc, name)?,
+        name: text(alloc, name)?,
     })
+}
+
+/// The lines of the list for the files of the package.
+fn lines(alloc: Global) -> Result<Row<FileLine>, NoMemory> {
+    let mut lines = Row::new(alloc);
+    for _ in 0..4 {
+        lines.push(line(alloc, true, "a class file")?)?;
+    }
+    lines.push(line(alloc, false, "an export file")?)?;
+    Ok(lines)
+}
+
+fn exports(alloc: Global) -> Result<Row<ExportTree>, NoMemory> {
+    let mut exports = Row::new(alloc);
+    exports.push(language(alloc)?)?;
+    Ok(exports)
 }
 
 /// A package of p/T, which has the method, and of p/M and p/N, which both implement p/I.
 fn package<'t>(alloc: Global, draft: Draft<'t>) -> Result<World<'t>, Fault> {
-    let mut methods = Row::new(alloc);
-    let code = code(alloc, draft)?;
-    methods.push(method(alloc, 9, b"m", draft.desc, Some(code))?)?;
-    methods.push(method(alloc, 2, b"q", b"()V", None)?)?;
-    let mut classes = Row::new(alloc);
-    classes.push(class(alloc, 1, b"p/T", &[], methods)?)?;
-    classes.push(class(alloc, 1, b"p/M", &[b"p/I"], Row::new(alloc))?)?;
-    classes.push(class(alloc, 1, b"p/N", &[b"p/I"], Row::new(alloc))?)?;
-    classes.push(class(alloc, 0x0601, b"p/I", &[], Row::new(alloc))?)?;
-    let mut lines = Row::new(alloc);
-    for _ in 0..4 {
-        lines.push(line(alloc, true, b"a class file")?)?;
-    }
-    lines.push(line(alloc, false, b"an export file")?)?;
-    let mut exports = Row::new(alloc);
-    exports.push(language(alloc)?)?;
+    let lines = lines(alloc)?;
+    let classes = classes(alloc, draft)?;
+    let exports = exports(alloc)?;
     World::new(alloc, b"list", b"p", lines, classes, exports)
 }
 
@@ -212,196 +275,198 @@ fn types(alloc: Global, draft: Draft<'_>) -> Result<TypeTable, Fault> {
     infer(alloc, b"T.class", &world, &code)
 }
 
-/// The rule and the offset of the refusal; 0 where there is none.
-fn refusal(answer: &Result<TypeTable, Fault>) -> (u16, u32) {
+/// The bytes of a code.
+fn bytes_of(alloc: Global, words: &str) -> Result<Vec<u8>, NoMemory> {
+    let mut bytes = Vec::new(alloc);
+    for word in words.split(" ") {
+        bytes.push(octet(word)?)?;
+    }
+    Ok(bytes)
+}
+
+/// The rule and the offset of the refusal, or `well` where there is none.
+fn is_answer(answer: Result<TypeTable, Fault>, wanted: &str) -> bool {
+    let (rule, offset) = cut(wanted, " ");
     match answer {
-        Ok(_) => (0, 0),
-        Err(Fault::Refused(refusal)) => (refusal.rule.0, refusal.place.offset),
-        Err(Fault::NoMemory) => (1, 0),
+        Ok(_) => wanted == "well",
+        Err(Fault::Refused(refusal)) => {
+            is_number(rule, refusal.rule.0 as u32) && is_number(offset, refusal.place.offset)
+        }
+        Err(Fault::NoMemory) => false,
     }
 }
 
-/// What a method gives: its descriptor, max_stack, max_locals, code, and the rule and the offset of its refusal.
-type Case<'t> = (&'t [u8], u16, u16, &'t [u8], u16, u32);
+/// The words of the bytes of a method's code, and those of its handler.
+fn code_and_catch(method: &str) -> (&str, &str) {
+    let (_, words) = cut(method, " ");
+    let (_, words) = cut(words, " ");
+    let (_, words) = cut(words, " ");
+    cut(words, " catch ")
+}
 
-/// Stacks: different heights, too high, too low.
-const STACKS: [Case<'static>; 5] = [
-    (b"(S)S", 2, 1, b"\x1A\x99\x00\x04\x04\x03\xAC", 501, 5),
-    (b"(S)V", 1, 1, b"\x1A\x99\x00\x04\x04\xB1", 501, 5), // no way leaves the clash
-    (b"()S", 1, 0, b"\x04\x04\xAC", 503, 1),
-    (b"()S", 1, 0, b"\x04\x60\xAC", 503, 1),
-    (b"()V", 1, 0, b"\x57\xB1", 503, 0),
-];
+/// A method of these words, whose code has these bytes.
+fn draft_of<'t>(method: &'t str, code: &'t [u8]) -> Result<Draft<'t>, NoMemory> {
+    let (desc, words) = cut(method, " ");
+    let (max_stack, words) = cut(words, " ");
+    let (max_locals, _) = cut(words, " ");
+    let (_, catch) = code_and_catch(method);
+    Ok(Draft {
+        desc,
+        max_stack: small_number(max_stack)?,
+        max_locals: small_number(max_locals)?,
+        code,
+        catch,
+    })
+}
 
-/// Numbers and references.
-const KINDS: [Case<'static>; 21] = [
-    (b"()S", 1, 0, b"\x01\xAC", 502, 1),
-    (b"(Lp/M;)V", 1, 1, b"\x1A\x57\xB1", 502, 0),
-    (b"(S)V", 1, 1, b"\x2A\x57\xB1", 502, 0),
-    (b"(J)V", 1, 1, b"\x2A\x57\xB1", 502, 0),
-    (b"(Lp/M;)V", 0, 1, b"\x84\x00\x01\xB1", 502, 0),
-    (b"(Lp/M;)V", 1, 1, b"\x2A\x3B\xB1", 502, 1),
-    (b"(S)V", 1, 1, b"\x1A\x4B\xB1", 502, 1),
-    (b"()S", 2, 0, b"\x04\x01\x60\xAC", 502, 2),
-    (b"()S", 1, 0, b"\x01\x74\xAC", 502, 1),
-    (b"()S", 1, 0, b"\x01\x91\xAC", 502, 1),
-    (b"()V", 1, 0, b"\x01\x99\x00\x03\xB1", 502, 1),
-    (b"()V", 2, 0, b"\x04\x01\x9F\x00\x03\xB1", 502, 2),
-    (b"()V", 1, 0, b"\x04\xC6\x00\x03\xB1", 502, 1),
-    (b"()V", 2, 0, b"\x01\x04\xA5\x00\x03\xB1", 502, 2),
-    (
-        b"()V",
-        1,
-        0,
-        b"\x01\xAB\x00\x00\x00\x00\x00\x0B\x00\x00\x00\x00\xB1",
-        502,
-        1,
-    ),
-    (
-        b"()V",
-        1,
-        0,
-        b"\x01\xAA\x00\x00\x00\x00\x00\x13\x00\x00\x00\x00\x00\x00\x00\x00\x00\x00\x00\x13\xB1",
-        502,
-        1,
-    ),
-    (b"()V", 1, 0, b"\x01\xBC\x09\x57\xB1", 502, 1),
-    (b"()V", 1, 0, b"\x01\xBD\x00\x02\x57\xB1", 502, 1),
-    (b"()V", 1, 0, b"\x04\xC0\x00\x01\x57\xB1", 502, 1),
-    (b"()V", 1, 0, b"\x04\xC1\x00\x01\x57\xB1", 502, 1),
-    (b"()V", 1, 0, b"\x04\xBF", 502, 1),
-];
+fn is_answered(alloc: Global, case: &str) -> Result<bool, NoMemory> {
+    let (method, wanted) = question_and_answer(case);
+    let (words, _) = code_and_catch(method);
+    let code = bytes_of(alloc, words)?;
+    let draft = draft_of(method, code.as_slice())?;
+    Ok(is_answer(types(alloc, draft), wanted))
+}
 
-/// Arrays.
-const ARRAYS: [Case<'static>; 10] = [
-    (b"(Lp/M;)V", 1, 1, b"\x2A\xBE\x57\xB1", 502, 1),
-    (b"([B)V", 2, 1, b"\x2A\x03\x35\x57\xB1", 502, 2),
-    (b"([S)V", 2, 1, b"\x2A\x01\x35\x57\xB1", 502, 2),
-    (b"([S)V", 2, 1, b"\x2A\x03\x32\x57\xB1", 502, 2),
-    (b"([S)V", 2, 1, b"\x2A\x03\x2E\x57\xB1", 502, 2),
-    (b"([S)V", 2, 1, b"\x2A\x03\x33\x57\xB1", 502, 2),
-    (b"([Z)V", 2, 1, b"\x2A\x03\x33\x57\xB1", 0, 0),
-    (b"([S)V", 3, 1, b"\x2A\x03\x01\x56\xB1", 502, 3),
-    (b"([Lp/M;)V", 3, 1, b"\x2A\x03\x04\x53\xB1", 502, 3),
-    (b"([Lp/M;Lp/N;)V", 3, 2, b"\x2A\x03\x2B\x53\xB1", 0, 0),
-];
-
-/// Classes, receivers and results.
-const CLASSES: [Case<'static>; 20] = [
-    (b"(Lp/M;)V", 1, 1, b"\x2A\xBF", 502, 1),
-    (b"(Lp/M;)V", 1, 1, b"\x2A\xB4\x00\x04\x57\xB1", 502, 1),
-    (b"(Lp/M;)V", 2, 1, b"\x2A\x04\xB5\x00\x04\xB1", 502, 2),
-    (b"(Lp/T;)V", 2, 1, b"\x2A\x01\xB5\x00\x04\xB1", 502, 2),
-    (b"(Lp/T;)V", 2, 1, b"\x2A\x04\xB5\x00\x04\xB1", 0, 0),
-    (b"()V", 1, 0, b"\x04\xB3\x00\x05\xB1", 502, 1),
-    (b"()V", 1, 0, b"\x01\xB3\x00\x05\xB1", 0, 0),
-    (b"(Lp/N;)V", 1, 1, b"\x2A\xB6\x00\x06\xB1", 502, 1),
-    (b"(Lp/N;)V", 2, 1, b"\x04\x2A\xB8\x00\x07\x57\xB1", 502, 2),
-    (b"(Lp/M;)V", 2, 1, b"\x01\x2A\xB8\x00\x07\x57\xB1", 502, 2),
-    (b"(Lp/M;)V", 2, 1, b"\x04\x2A\xB8\x00\x07\x57\xB1", 0, 0),
-    (
-        b"(Ljava/lang/Object;)V",
-        1,
-        1,
-        b"\x2A\xB9\x00\x08\x01\x00\xB1",
-        502,
-        1,
-    ),
-    (b"(Lp/M;)V", 1, 1, b"\x2A\xB7\x00\x0A\xB1", 502, 1), // by super: of the class itself
-    (b"(Lp/T;)V", 1, 1, b"\x2A\xB7\x00\x0A\xB1", 0, 0),
-    (b"(Lp/T;)V", 1, 1, b"\x2A\xB7\x00\x09\xB1", 0, 0), // private
-    (b"()V", 2, 0, b"\xBB\x00\x01\x59\xB7\x00\x0B\x57\xB1", 0, 0), // a constructor of another class
-    (b"()S", 0, 0, b"\xB1", 502, 0),
-    (b"()V", 1, 0, b"\x04\xAC", 502, 1),
-    (b"()J", 1, 0, b"\x04\xAC", 502, 1),
-    (b"(Lp/N;)Lp/M;", 1, 1, b"\x2A\xB0", 502, 1),
-];
-
-/// How many of the cases from the first on answer as they should.
-fn answered(alloc: Global, cases: &[Case<'static>]) -> usize {
-    for (i, (desc, max_stack, max_locals, code, rule, offset)) in cases.iter().enumerate() {
-        let draft = Draft {
-            desc,
-            max_stack: *max_stack,
-            max_locals: *max_locals,
-            code,
-            catch: None,
-        };
-        if refusal(&types(alloc, draft)) != (*rule, *offset) {
-            return i;
+/// The first case that is answered otherwise; nothing where there is none.
+fn first_wrong(alloc: Global, cases: &str) -> &str {
+    for case in cases.lines() {
+        match is_answered(alloc, case) {
+            Ok(true) => {}
+            _ => return case,
         }
     }
-    cases.len()
+    ""
 }
+
+/// Stacks: different heights, too high, too low.
+const STACKS: &str = "\
+(S)S 2 1 1A 99 00 04 04 03 AC = 501 5
+(S)V 1 1 1A 99 00 04 04 B1 = 501 5 # no way leaves the clash
+()S 1 0 04 04 AC = 503 1
+()S 1 0 04 60 AC = 503 1
+()V 1 0 57 B1 = 503 0
+()V 0 0 A7 00 04 B1 B1 catch 0 3 3 = 503 3 # an exception in a method without an operand stack";
+
+/// Numbers and references.
+const KINDS: &str = "\
+()S 1 0 01 AC = 502 1
+(Lp/M;)V 1 1 1A 57 B1 = 502 0
+(S)V 1 1 2A 57 B1 = 502 0
+(J)V 1 1 2A 57 B1 = 502 0
+(Lp/M;)V 0 1 84 00 01 B1 = 502 0
+(Lp/M;)V 1 1 2A 3B B1 = 502 1
+(S)V 1 1 1A 4B B1 = 502 1
+()S 2 0 04 01 60 AC = 502 2
+()S 1 0 01 74 AC = 502 1
+()S 1 0 01 91 AC = 502 1
+()V 1 0 01 99 00 03 B1 = 502 1
+()V 2 0 04 01 9F 00 03 B1 = 502 2
+()V 1 0 04 C6 00 03 B1 = 502 1
+()V 2 0 01 04 A5 00 03 B1 = 502 2
+()V 1 0 01 AB 00 00 00 00 00 0B 00 00 00 00 B1 = 502 1
+()V 1 0 01 AA 00 00 00 00 00 13 00 00 00 00 00 00 00 00 00 00 00 13 B1 = 502 1
+()V 1 0 01 BC 09 57 B1 = 502 1
+()V 1 0 01 BD 00 02 57 B1 = 502 1
+()V 1 0 04 C0 00 01 57 B1 = 502 1
+()V 1 0 04 C1 00 01 57 B1 = 502 1
+()V 1 0 04 BF = 502 1";
+
+/// Arrays.
+const ARRAYS: &str = "\
+(Lp/M;)V 1 1 2A BE 57 B1 = 502 1
+([B)V 2 1 2A 03 35 57 B1 = 502 2
+([S)V 2 1 2A 01 35 57 B1 = 502 2
+([S)V 2 1 2A 03 32 57 B1 = 502 2
+([S)V 2 1 2A 03 2E 57 B1 = 502 2
+([S)V 2 1 2A 03 33 57 B1 = 502 2
+([Z)V 2 1 2A 03 33 57 B1 = well
+([S)V 3 1 2A 03 01 56 B1 = 502 3
+([Lp/M;)V 3 1 2A 03 04 53 B1 = 502 3
+([Lp/M;Lp/N;)V 3 2 2A 03 2B 53 B1 = well";
+
+/// Classes, receivers and results.
+const CLASSES: &str = "\
+(Lp/M;)V 1 1 2A BF = 502 1
+(Lp/M;)V 1 1 2A B4 00 04 57 B1 = 502 1
+(Lp/M;)V 2 1 2A 04 B5 00 04 B1 = 502 2
+(Lp/T;)V 2 1 2A 01 B5 00 04 B1 = 502 2
+(Lp/T;)V 2 1 2A 04 B5 00 04 B1 = well
+()V 1 0 04 B3 00 05 B1 = 502 1
+()V 1 0 01 B3 00 05 B1 = well
+(Lp/N;)V 1 1 2A B6 00 06 B1 = 502 1
+(Lp/N;)V 2 1 04 2A B8 00 07 57 B1 = 502 2
+(Lp/M;)V 2 1 01 2A B8 00 07 57 B1 = 502 2
+(Lp/M;)V 2 1 04 2A B8 00 07 57 B1 = well
+(Ljava/lang/Object;)V 1 1 2A B9 00 08 01 00 B1 = 502 1
+(Lp/M;)V 1 1 2A B7 00 0A B1 = 502 1 # by super: of the class itself
+(Lp/T;)V 1 1 2A B7 00 0A B1 = well
+(Lp/T;)V 1 1 2A B7 00 09 B1 = well # private
+()V 2 0 BB 00 01 59 B7 00 0B 57 B1 = well # a constructor of another class
+()S 0 0 B1 = 502 0
+()V 1 0 04 AC = 502 1
+()J 1 0 04 AC = 502 1
+(Lp/N;)Lp/M; 1 1 2A B0 = 502 1";
 
 #[test]
 fn stacks_have_one_height_and_their_room(rt: HostRuntime) {
-    assert_eq!(rt; answered(rt.alloc(), &STACKS), STACKS.len());
+    assert_eq!(rt; first_wrong(rt.alloc(), STACKS), "");
 }
 
 #[test]
 fn operands_are_of_their_kind(rt: HostRuntime) {
-    assert_eq!(rt; answered(rt.alloc(), &KINDS), KINDS.len());
+    assert_eq!(rt; first_wrong(rt.alloc(), KINDS), "");
 }
 
 #[test]
 fn arrays_hold_what_is_loaded_and_stored(rt: HostRuntime) {
-    assert_eq!(rt; answered(rt.alloc(), &ARRAYS), ARRAYS.len());
+    assert_eq!(rt; first_wrong(rt.alloc(), ARRAYS), "");
 }
 
 #[test]
 fn receivers_and_results_are_of_their_class(rt: HostRuntime) {
-    assert_eq!(rt; answered(rt.alloc(), &CLASSES), CLASSES.len());
+    assert_eq!(rt; first_wrong(rt.alloc(), CLASSES), "");
 }
 
-/// An exception in a method without an operand stack.
-#[test]
-fn a_handler_needs_a_cell(rt: HostRuntime) {
-    let draft = Draft {
-        desc: b"()V",
-        max_stack: 0,
-        max_locals: 0,
-        code: b"\xA7\x00\x04\xB1\xB1",
-        catch: Some((0, 3, 3)),
-    };
-    assert_eq!(rt; refusal(&types(rt.alloc(), draft)), (503, 3));
-}
+/// What is known before an instruction of a method: ` at `, the number of the instruction, and `local` for the first
+/// local, `top` for the top of the stack or `frame` for whether there is a frame. A cell is a reference of the types
+/// that are answered.
+const FRAMES: &str = "\
+(ZLp/N;Lp/M;)V 2 3 1A 99 00 07 2B A7 00 04 2C 4B 2A B9 00 08 01 00 B1 at 6 local = p/M p/N # they share an interface
+(ZLp/M;[S)V 2 3 1A 99 00 07 2B A7 00 04 2C 4B 2A 57 B1 at 6 local = [S p/M # an array beside a class
+([[Lp/M;)V 2 1 2A 03 32 03 32 57 B1 at 3 top = [Lp/M;
+([[Lp/M;)V 2 1 2A 03 32 03 32 57 B1 at 5 top = p/M
+([SLp/N;Lp/M;)V 2 3 2B 4B 00 00 2C 4B 00 B1 57 B1 catch 2 8 8 at 8 local = p/M p/N # what the covered ones knew
+()V 2 0 B1 B1 at 0 frame = there
+()V 2 0 B1 B1 at 1 frame = none";
 
 /// Whether the cell is a reference of these types.
-fn is_refs(cell: Option<&Cell>, names: &[&[u8]]) -> bool {
-    match cell {
-        Some(Cell::Refs(types)) => {
-            types.items().len() == names.len()
-                && types
-                    .items()
-                    .iter()
-                    .zip(names)
-                    .all(|(name, wanted)| name.items() == *wanted)
+fn is_refs(cell: Option<&Cell>, names: &str) -> bool {
+    let types = match cell {
+        Some(Cell::Refs(types)) => types.items(),
+        _ => return false,
+    };
+    let mut rest = names;
+    for name in types {
+        let (wanted, more) = cut(rest, " ");
+        if name.items() != wanted.as_bytes() {
+            return false;
         }
-        _ => false,
+        rest = more;
     }
+    rest.is_empty()
 }
 
-/// What is looked for in a frame.
-#[derive(Clone, Copy)]
-enum Where {
-    /// The first local.
-    Local,
-    /// The top of the stack.
-    Top,
-    /// The frame itself.
-    Frame,
-}
-
-/// Whether a cell of a frame is a reference of these types; of the frame itself, whether there is one.
-fn frame_has(frame: &Option<Frame>, at: Where, names: &[&[u8]]) -> bool {
-    match frame {
-        Some(frame) => match at {
-            Where::Local => is_refs(frame.locals.items().first(), names),
-            Where::Top => is_refs(frame.stack.get(0), names),
-            Where::Frame => true,
-        },
-        None => false,
+/// Whether a frame has what is wanted.
+fn is_known(frame: &Option<Frame>, of: &str, wanted: &str) -> bool {
+    let frame = match frame {
+        Some(frame) => frame,
+        None => return of == "frame" && wanted == "none",
+    };
+    match of {
+        "local" => is_refs(frame.locals.items().first(), wanted),
+        "top" => is_refs(frame.stack.get(0), wanted),
+        "frame" => wanted == "there",
+        _ => false,
     }
 }
 
@@ -415,89 +480,42 @@ fn go_on(alloc: Global, walk: &mut TypeWalk<'_>, count: u32) -> Result<(), NoMem
     Ok(())
 }
 
-/// Whether a cell before an instruction of a method is a reference of these types, or whether the frame before it is there.
-fn has(
-    alloc: Global,
-    draft: Draft<'_>,
-    place: u32,
-    at: Where,
-    names: &[&[u8]],
-) -> Result<bool, Fault> {
+/// Whether the frame before an instruction of a method has what is wanted.
+fn has(alloc: Global, draft: Draft<'_>, spot: &str, wanted: &str) -> Result<bool, Fault> {
+    let (at, of) = cut(spot, " ");
     let world = package(alloc, draft)?;
     let code = first_code(alloc, &world)?;
     let types = infer(alloc, b"T.class", &world, &code)?;
     let method = Method::new(&world, &code);
     let mut walk = TypeWalk::new(&method, &types);
-    go_on(alloc, &mut walk, place)?;
+    go_on(alloc, &mut walk, number(at)?)?;
     match walk.place() {
-        Some(_) => Ok(frame_has(walk.frame(), at, names)),
+        Some(_) => Ok(is_known(walk.frame(), of, wanted)),
         None => Ok(false),
     }
 }
 
-/// The same, where no rule is broken.
-fn gives(alloc: Global, draft: Draft<'_>, place: u32, at: Where, names: &[&[u8]]) -> bool {
-    match has(alloc, draft, place, at, names) {
-        Ok(given) => given,
-        Err(_) => false,
+fn is_had(alloc: Global, case: &str) -> Result<bool, Fault> {
+    let (question, wanted) = question_and_answer(case);
+    let (method, spot) = cut(question, " at ");
+    let (words, _) = code_and_catch(method);
+    let code = bytes_of(alloc, words)?;
+    let draft = draft_of(method, code.as_slice())?;
+    has(alloc, draft, spot, wanted)
+}
+
+/// The first case whose frame has something else; nothing where there is none.
+fn first_other(alloc: Global, cases: &str) -> &str {
+    for case in cases.lines() {
+        match is_had(alloc, case) {
+            Ok(true) => {}
+            _ => return case,
+        }
     }
-}
-
-/// A method with at most two operands on its stack and at most one handler.
-fn small<'t>(
-    desc: &'t [u8],
-    max_locals: u16,
-    code: &'t [u8],
-    catch: Option<(u16, u16, u16)>,
-) -> Draft<'t> {
-    Draft {
-        desc,
-        max_stack: 2,
-        max_locals,
-        code,
-        catch,
-    }
-}
-
-/// Two classes that share an interface alone.
-#[test]
-fn a_local_of_two_classes_has_both(rt: HostRuntime) {
-    let code = b"\x1A\x99\x00\x07\x2B\xA7\x00\x04\x2C\x4B\x2A\xB9\x00\x08\x01\x00\xB1";
-    let method = small(b"(ZLp/N;Lp/M;)V", 3, code, None);
-    assert!(rt; gives(rt.alloc(), method, 6, Where::Local, &[b"p/M", b"p/N"]));
-}
-
-/// An array beside a class.
-#[test]
-fn a_local_of_an_array_and_a_class_has_both(rt: HostRuntime) {
-    let code = b"\x1A\x99\x00\x07\x2B\xA7\x00\x04\x2C\x4B\x2A\x57\xB1";
-    let method = small(b"(ZLp/M;[S)V", 3, code, None);
-    assert!(rt; gives(rt.alloc(), method, 6, Where::Local, &[b"[S", b"p/M"]));
+    ""
 }
 
 #[test]
-fn an_array_of_arrays_holds_arrays(rt: HostRuntime) {
-    let method = small(b"([[Lp/M;)V", 1, b"\x2A\x03\x32\x03\x32\x57\xB1", None);
-    assert!(rt; gives(rt.alloc(), method, 3, Where::Top, &[b"[Lp/M;"]));
-}
-
-#[test]
-fn an_array_of_a_class_holds_the_class(rt: HostRuntime) {
-    let method = small(b"([[Lp/M;)V", 1, b"\x2A\x03\x32\x03\x32\x57\xB1", None);
-    assert!(rt; gives(rt.alloc(), method, 5, Where::Top, &[b"p/M"]));
-}
-
-/// The handler of a method that stores one class, then another, with nops between and behind.
-#[test]
-fn a_handler_has_what_each_covered_instruction_knew(rt: HostRuntime) {
-    let code = b"\x2B\x4B\x00\x00\x2C\x4B\x00\xB1\x57\xB1";
-    let method = small(b"([SLp/N;Lp/M;)V", 3, code, Some((2, 8, 8)));
-    assert!(rt; gives(rt.alloc(), method, 8, Where::Local, &[b"p/M", b"p/N"]));
-}
-
-#[test]
-fn nothing_goes_on_behind_a_return(rt: HostRuntime) {
-    let method = small(b"()V", 0, b"\xB1\xB1", None);
-    assert!(rt; gives(rt.alloc(), method, 0, Where::Frame, &[]));
-    assert!(rt; !gives(rt.alloc(), method, 1, Where::Frame, &[]));
+fn frames_are_known(rt: HostRuntime) {
+    assert_eq!(rt; first_other(rt.alloc(), FRAMES), "");
 }

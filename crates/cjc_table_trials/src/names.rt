@@ -4,10 +4,11 @@ ghost use Rattle.std.specs.Prelude.{◌≡◌, ◌<◌, ◌^◌, [], ◌∷◌, 
 ghost use Rattle.cjc_table_trials.specs.Names.{name_flow, union, edge, Goes, AllGo};
 ghost use Rattle.cjc_fixpoint.specs.Kept.{StandsForLeast};
 
+use crate::words::{cut, number};
 use cjc_bytes::{NoMemory, Row};
 use cjc_fixpoint::{Edge, Flow, Repeating, Table, Walk, all_marks, marks_of, moved_on, solve};
 use std::alloc::Global;
-use std::test::Fail;
+use std::test::*;
 
 /// A place has a name and two targets; a target past the last place leaves the code.
 #[derive(Drop)]
@@ -260,80 +261,130 @@ fn agrees(
 }
 
 /// Whether a row has these names, or is not reached.
-fn has_names(row: &Option<Row<u8>>, wanted: Option<&str>) -> bool {
-    match (row, wanted) {
-        (Some(set), Some(text)) => set.items() == text.as_bytes(),
-        (None, None) => true,
-        _ => false,
+fn has_names(row: &Option<Row<u8>>, wanted: &str) -> bool {
+    match row {
+        Some(set) => set.items() == wanted.as_bytes(),
+        None => wanted == "unreached",
     }
 }
 
-/// How many of the rows from the first on are as wanted.
-fn as_wanted(rows: &[Option<Row<u8>>], wanted: &[Option<&str>]) -> usize {
-    for (i, (row, names)) in rows.iter().zip(wanted.iter()).enumerate() {
-        if !has_names(row, *names) {
-            return i;
+/// A place has a name and two targets, and then the names that the ways to it have met. Place 0 branches, 3 joins its
+/// two ways and goes back to 2, and nothing goes to 4.
+const PLACES: &str = "\
+a 1 2 =
+b 3 9 = a
+c 3 9 = abcd
+d 2 5 = abcd
+e 5 9 = unreached
+f 9 9 = abcd";
+
+fn place_of(line: &str) -> Result<(u8, u32, u32), NoMemory> {
+    let (place, _) = cut(line, " =");
+    let (name, targets) = cut(place, " ");
+    let (left, right) = cut(targets, " ");
+    match name.as_bytes() {
+        [name] => Ok((*name, number(left)?, number(right)?)),
+        _ => Err(NoMemory),
+    }
+}
+
+fn code_of(alloc: Global, lines: &str) -> Result<Vec<(u8, u32, u32)>, NoMemory> {
+    let mut code = Vec::new(alloc);
+    for line in lines.lines() {
+        code.push(place_of(line)?)?;
+    }
+    Ok(code)
+}
+
+/// Whether the rows have the names of these lines, and no row is left.
+fn are_rows(rows: &[Option<Row<u8>>], lines: &str) -> bool {
+    let mut rest = lines;
+    for row in rows {
+        let (line, more) = cut(rest, "\n");
+        let (_, names) = cut(line, " = ");
+        if !has_names(row, names) {
+            return false;
         }
+        rest = more;
     }
-    rows.len()
+    rest.is_empty()
 }
 
-/// Place 0 branches, 3 joins its two ways and goes back to 2, and nothing goes to 4.
+fn are_solved(alloc: Global, lines: &str) -> Result<bool, NoMemory> {
+    let code = code_of(alloc, lines)?;
+    if code.len() > 6 {
+        return Ok(false);
+    }
+    let rows = all_rows(alloc, b"abcdef", code.as_slice())?;
+    Ok(are_rows(rows.items(), lines))
+}
+
 #[test]
-fn joins_loops_and_leaves_unreached_places_out(rt: HostRuntime) -> Result<(), Fail> {
-    let code = [
-        (b'a', 1, 2),
-        (b'b', 3, 9),
-        (b'c', 3, 9),
-        (b'd', 2, 5),
-        (b'e', 5, 9),
-        (b'f', 9, 9),
-    ];
-    let wanted = [
-        Some(""),
-        Some("a"),
-        Some("abcd"),
-        Some("abcd"),
-        None,
-        Some("abcd"),
-    ];
-    let rows = all_rows(rt.alloc(), b"abcdef", &code)?;
-    assert_eq!(rt; as_wanted(rows.items(), &wanted), 6);
-    Ok(())
+fn joins_loops_and_leaves_unreached_places_out(rt: HostRuntime) {
+    assert!(rt; matches!(are_solved(rt.alloc(), PLACES), Ok(true)));
 }
 
-/// Random places, of which most go on to the next.
-#[test]
-fn walks_give_the_rows_of_the_solver(rt: HostRuntime) -> Result<(), Fail> {
-    let mut seed: u64 = 12345;
-    let mut agreeing: u32 = 0;
-    for _ in 0..300 {
-        let mut code = [(b'a', 0u32, 0u32); 12];
-        let mut marked = [false; 12];
-        marked[0] = true;
-        for at in 0..12u32 {
-            seed = seed
-                .wrapping_mul(6364136223846793005)
-                .wrapping_add(1442695040888963407);
-            let name = b'a' + ((seed >> 20) % 10) as u8;
-            let far = ((seed >> 33) % 14) as u32;
-            let next = at + 1;
-            let (left, right) = match (seed >> 50) % 8 {
-                0 => (far, far),
-                1 => (far, next),
-                2 => (next, next),
-                3 => (99, 99),
-                _ => (next, 99),
-            };
-            if far < 12 && left == far && far != next {
-                marked[far as usize] = true;
-            }
-            code[at as usize] = (name, left, right);
-        }
-        if agrees(rt.alloc(), b"abcdefghij", &code, &marked)? {
-            agreeing = agreeing.saturating_add(1);
-        }
+/// The number behind another, in an order that looks random.
+fn behind(seed: u64) -> u64 {
+    seed.wrapping_mul(6364136223846793005)
+        .wrapping_add(1442695040888963407)
+}
+
+/// A random place, which mostly goes on to the next.
+fn random_place(seed: u64, at: u32) -> (u8, u32, u32)
+    requires { at < 12 }
+{
+    let name = b'a' + ((seed >> 20) % 10) as u8;
+    let far = ((seed >> 33) % 14) as u32;
+    let next = at + 1;
+    match (seed >> 50) % 8 {
+        0 => (name, far, far),
+        1 => (name, far, next),
+        2 => (name, next, next),
+        3 => (name, 99, 99),
+        _ => (name, next, 99),
     }
-    assert_eq!(rt; agreeing, 300);
-    Ok(())
+}
+
+/// Marks a target that is not the next place.
+fn mark(marked: &mut [bool; 12], at: u32, to: u32)
+    requires { at < 12 }
+{
+    if to < 12 && to != at + 1 {
+        marked[to as usize] = true;
+    }
+}
+
+/// Whether walks of both kinds agree over twelve random places from a number on; the number behind them.
+fn agrees_from(alloc: Global, from: u64) -> Result<(bool, u64), NoMemory> {
+    let mut seed = from;
+    let mut code = [(b'a', 0u32, 0u32); 12];
+    let mut marked = [false; 12];
+    marked[0] = true;
+    for at in 0..12u32 {
+        seed = behind(seed);
+        let place = random_place(seed, at);
+        mark(&mut marked, at, place.1);
+        code[at as usize] = place;
+    }
+    Ok((agrees(alloc, b"abcdefghij", &code, &marked)?, seed))
+}
+
+/// How many of so many random flows agree.
+fn agreeing(alloc: Global, flows: u32) -> Result<u32, NoMemory> {
+    let mut seed = 12345;
+    let mut count: u32 = 0;
+    for _ in 0..flows {
+        let (is_so, next) = agrees_from(alloc, seed)?;
+        if is_so {
+            count = count.saturating_add(1);
+        }
+        seed = next;
+    }
+    Ok(count)
+}
+
+#[test]
+fn walks_give_the_rows_of_the_solver(rt: HostRuntime) {
+    assert!(rt; matches!(agreeing(rt.alloc(), 300), Ok(300)));
 }
