@@ -1,7 +1,5 @@
 -- The methods of a package that was tested keep the rules that selection rests on.
-use Rattle.std.proofs.Common.{◌≡◌, ℕ, zero, suc, ◌<◌, ◌≤◌, ◌^◌, refl, sym, ap, subst, ◌∙◌, false, List, [], ◌∷◌, length, slice_get, Some}
-use Rattle.std.specs.Prelude.{Option}
-use Rattle.std.specs.List.{AllByRecursion, Contains}
+use Rattle.std.proofs.Common.{◌≡◌, ℕ, zero, suc, refl, sym, ap, subst, ◌∙◌, List, [], ◌∷◌, slice_get, Some}
 use Rattle.std.proofs.lemmas.Option.{get_or_from_slice_get, slice_get_within}
 use Rattle.cjc_bytes.specs.Breaks.{Among, Break, foremost}
 use Rattle.cjc_bytes.specs.Format.{FileSpells}
@@ -13,31 +11,28 @@ use Rattle.cjc_classfile.specs.declared.tree.ClassTree.{ClassTree}
 use Rattle.cjc_classfile.specs.declared.tree.MethodTree.{MethodTree}
 use Rattle.cjc_code.specs.PackageCodes.{all_codes}
 use Rattle.cjc_code.specs.declared.method_code.MethodCode.{MethodCode}
-use Rattle.cjc_judge.specs.declared.groups.Group.{Group}
 use Rattle.cjc_judge.specs.declared.groups.Group.TheVariants as groups
 use Rattle.cjc_judge.specs.declared.judged.Judged.{Judged}
-use Rattle.cjc_judge.specs.Judged.{IsJudged}
-use Rattle.cjc_judge.specs.Rules.{AreWorld, Breach, files_spelt, of_group, of_world, settings_of, world_files}
-use Rattle.cjc_judge.specs.Spelt.{FileTree, SpellTrees, classes_of, exports_of, of_class, of_export}
-use Rattle.cjc_judge.specs.Trees.{AllSpelt, FileIs}
+use Rattle.cjc_judge.specs.Rules.{AreWorld, files_spelt, of_group, of_world, settings_of, world_files}
+use Rattle.cjc_judge.specs.Spelt.{FileTree, SpellTrees, classes_of, of_class, of_export}
+use Rattle.cjc_judge.specs.Trees.{AllSpelt}
 use Rattle.cjc_judge.specs.Types.{AreTables, IsTableOf}
 use Rattle.cjc_layout.specs.Layouts.{IsWhole}
 use Rattle.cjc_list.specs.Listed.{ListTree}
 use Rattle.cjc_narrow.specs.Selected.{selected_code}
 use Rattle.cjc_select.specs.Select.{IsSelectable}
-use Rattle.cjc_select_laws.specs.Keeps.{IsSpelt, KeepsRules}
+use Rattle.cjc_select_laws.specs.Keeps.{KeepsRules}
 use Rattle.cjc_select_laws.proofs.Selectable.{selectable}
 use Rattle.cjc_select_laws.proofs.Whole.{selected_whole}
 use Rattle.cjc_subset.specs.Checks.{check_breaks}
-use Rattle.cjc_types.specs.declared.state.State.{State}
 use Rattle.cjc_types.specs.declared.table.TypeTable.{TypeTable}
-use Rattle.cjc_types.specs.Flow.{Body, body_of}
-use Rattle.cjc_types.specs.Tables.{IsLeastTable, IsMethodOf, IsTypeTable, rows_of}
+use Rattle.cjc_types.specs.Flow.{body_of}
+use Rattle.cjc_types.specs.Tables.{IsLeastTable, IsTypeTable}
 use Rattle.cjc_world.specs.Classes.{all_classes}
 use Rattle.cjc_world.specs.Files.{Files}
 use Rattle.cjc_world.specs.Rules.{breaks}
 use Rattle.cjc_written.specs.Rows.{has_rows, rows_by}
-use Rattle.cjc_judge_laws.specs.Tested.{AreFiles, IsOne, IsTested, states}
+use Rattle.cjc_judge_laws.specs.Tested.{IsOne, IsTested, states}
 
 -- ---- lists
 

@@ -12,7 +12,7 @@ use Rattle.cjc_judge.specs.Judged.{IsJudged}
 use Rattle.cjc_list.specs.Listed.{ListTree}
 use Rattle.cjc_types.specs.declared.state.State.{State}
 use Rattle.cjc_types.specs.declared.table.TypeTable.{TypeTable}
-use Rattle.cjc_types.specs.Flow.{Body, body_of}
+use Rattle.cjc_types.specs.Flow.{body_of}
 use Rattle.cjc_types.specs.Tables.{IsMethodOf, rows_of}
 
 -- each file is of 512 MiB at most
