@@ -1,5 +1,5 @@
-//! What comes to a place where ways may meet: intervals rounded, and full where a word is no number. Called by ranging.rt.
-//! Knows no instruction.
+//! What comes to a place where ways may meet: intervals rounded, and full where a word is no number. Called by
+//! ranging.rt. Knows no instruction.
 
 ghost use Rattle.std.specs.Prelude.{◌≡◌, if◌then◌else◌, option_map, IfOk};
 ghost use Rattle.cjc_types.specs.Rules.{is_number as is_number_cell};

@@ -1,4 +1,5 @@
-//! A method with its instructions, as intervals read it. Called by ranging.rt. Knows no interval but those of arguments.
+//! A method with its instructions, as intervals read it. Called by ranging.rt. Knows no interval but those of
+//! arguments.
 
 ghost use Rattle.std.specs.Prelude.{◌≡◌, ◌<◌, ◌+◌, ◌^◌, ◌++◌, filter_map, length, slice_get, option_map, option_to_list, replicate, take, IfOk, OnOk};
 ghost use Rattle.cjc_classfile.specs.Code.{CodeTree};

@@ -1,5 +1,5 @@
-//! What is known of an instruction by itself: how many operands it takes, and where it may go. Called by code.rt, steps.rt
-//! and arrays.rt. Knows no interval.
+//! What is known of an instruction by itself: how many operands it takes, and where it may go. Called by code.rt,
+//! steps.rt and arrays.rt. Knows no interval.
 
 ghost use Rattle.std.specs.Prelude.{◌≡◌, ◌+◌, ◌<◌, ◌^◌, ◌∷◌, map, length, if◌then◌else◌, IfOk};
 ghost use Rattle.cjc_types.specs.Flow.{place_at as place_by};

@@ -1,5 +1,5 @@
-//! The least intervals of a method's numbers over its type table, by the solver of dataflow problems, with rows where ways
-//! meet. It knows no token, no component, and nothing of narrow code.
+//! The least intervals of a method's numbers over its type table, by the solver of dataflow problems, with rows where
+//! ways meet. It knows no token, no component, and nothing of narrow code.
 #![tactic(auto)]
 
 mod arrival;

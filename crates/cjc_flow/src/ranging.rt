@@ -35,8 +35,8 @@ use cjc_world::World;
 use std::alloc::Global;
 use std::marker::Model;
 
-/// The intervals at the marked places of a method: the first instruction, and each to which a jump, a switch or a handler
-/// leads. It stands for the intervals before all instructions.
+/// The intervals at the marked places of a method: the first instruction, and each to which a jump, a switch or a
+/// handler leads. It stands for the intervals before all instructions.
 pub type RangeTable = Table<Ranges>;
 
 /// Which mark a place is.
@@ -92,8 +92,8 @@ fn put_edges(edges: &mut Row<Edge<Ranges>>, more: Row<Edge<Ranges>>) -> Result<(
     Ok(())
 }
 
-/// A method with its types, as its intervals are found. Contracts see its body, the constant that each instruction gets, and
-/// the types before all instructions.
+/// A method with its types, as its intervals are found. Contracts see its body, the constant that each instruction
+/// gets, and the types before all instructions.
 pub struct Ranging<'a> {
     method: Method<'a>,
     types: &'a TypeTable,
@@ -129,8 +129,8 @@ impl<'a> Model for Ranging<'a> {
 }
 
 impl<'a> Ranging<'a> {
-    /// A method with the types that `infer` gave for it, and for each instruction the constant that it gets: the value of the
-    /// field that a getstatic names, where that is a constant.
+    /// A method with the types that `infer` gave for it, and for each instruction the constant that it gets: the
+    /// value of the field that a getstatic names, where that is a constant.
     pub fn new(
         alloc: Global,
         world: &'a World<'_>,
@@ -338,8 +338,8 @@ impl<'a> Ranging<'a> {
         }
     }
 
-    /// The range table of the method: it stands for the least table of intervals that is closed under the instructions, over the
-    /// least type table.
+    /// The range table of the method: it stands for the least table of intervals that is closed under the
+    /// instructions, over the least type table.
     pub fn ranges(&self, alloc: Global) -> Result<RangeTable, NoMemory>
         ensures { (constant : Field → Option ℤ) → AreNumbers constant → self.now.values ≡ values_of constant self.now.body.insns
             → IfOk result (λ table. IsRangeTable self.now.body constant self.now.types table.marks table.rows) }

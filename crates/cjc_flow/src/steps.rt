@@ -1,5 +1,5 @@
-//! What an instruction does to the intervals of a frame, where it is known which constant it gets and what the elements of
-//! its array are. Called by ranging.rt.
+//! What an instruction does to the intervals of a frame, where it is known which constant it gets and what the
+//! elements of its array are. Called by ranging.rt.
 
 ghost use Rattle.std.specs.Prelude.{◌≡◌, [], ◌∷◌, ◌++◌, map, drop, slice_set, option_to_list, if◌then◌else◌, IfOk, OnOk};
 ghost use Rattle.cjc_range.specs.Rows.{and_row, or_row};

@@ -74,11 +74,11 @@ fn first_found(
     Ok(None)
 }
 
-/// The first number of a method that may not lie where its instruction needs it, by the instructions' order and then by the
-/// rule: 601 to 609, with the offset of the instruction in bytes. Nothing where each lies there.
+/// The first number of a method that may not lie where its instruction needs it, by the instructions' order and then
+/// by the rule: 601 to 609, with the offset of the instruction in bytes. Nothing where each lies there.
 ///
-/// The code is that of a method of the world, and its instructions are those that `decode` gives for it; the types are those that
-/// `infer` gave for it, and the intervals those that `ranges` gave.
+/// The code is that of a method of the world, and its instructions are those that `decode` gives for it; the types
+/// are those that `infer` gave for it, and the intervals those that `ranges` gave.
 pub fn passes(
     alloc: Global,
     world: &World<'_>,
