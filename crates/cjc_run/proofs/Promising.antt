@@ -31,11 +31,12 @@ use Rattle.cjc_command.specs.declared.status.Status.{Status}
 use Rattle.cjc_command.specs.declared.status.Status.TheVariants as status
 use Rattle.cjc_command.specs.declared.status.Todo.{Todo}
 use Rattle.cjc_list.proofs.Decided.{listed_spelt}
-use Rattle.cjc_run.specs.Request.{Request, check, convert}
+use Rattle.cjc_run.specs.Request.{Request, check, convert, jvm}
 use Rattle.cjc_run.specs.Command.{command_of}
 use Rattle.cjc_run.specs.Convert.{names_of, plan_of_files, plan_of_list, plan_of_convert, files_made, below}
 use Rattle.cjc_run.specs.Promise.{SpellStep, SpellClasses, ExportStep, SpellExports, Converts, Promised}
 use Rattle.cjc_run.proofs.Standing.{stand_made}
+use Rattle.cjc_run.proofs.Ran.{keeps_run}
 use Rattle.cjc_run.proofs.Tested.{keeps_tested}
 use Rattle.cjc_run.proofs.OwnTokens.{exports_own}
 
@@ -232,6 +233,7 @@ keeps_told name dir (Some files) new todo ready written = keeps name dir files n
 promised_done : (r : Request) (old new : Shelved) (from to : Sunk) → Answers (command_of r) old new from to status.Done → Promised r old new from to
 promised_done (convert name dir) old new from to t = keeps_told name dir old.files new t.0 t.1 t.2
 promised_done (check name dir) old new from to t = keeps_tested name dir old new from to t.0 t.1 t.2 t.3
+promised_done (jvm name script n) old new from to t = keeps_run name script n old new from to t.0 t.1 t.2 t.3
 
 pub promised : (r : Request) (old new : Shelved) (from to : Sunk) (answer : Status) → Acts (command_of r) old new from to answer → answer ≡ status.Done
     → Promised r old new from to

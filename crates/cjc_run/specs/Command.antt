@@ -1,9 +1,11 @@
 -- The command that a request stands for.
 use Rattle.cjc_command.specs.Answer.{Command}
 use Rattle.cjc_checking.specs.Check.{Checks, plan_of_check}
-use Rattle.cjc_run.specs.Request.{Request, check, convert}
+use Rattle.cjc_jvm_report.specs.Runs.{Runs, plan_of_jvm}
+use Rattle.cjc_run.specs.Request.{Request, check, convert, jvm}
 use Rattle.cjc_run.specs.Convert.{plan_of_convert, Makes}
 
 abbrev pub command_of : Request → Command
 command_of (convert list dir) = record { Inputs = _; plan = plan_of_convert list; Makes = Makes dir }
 command_of (check list dir) = record { Inputs = _; plan = plan_of_check list dir; Makes = Checks }
+command_of (jvm list script n) = record { Inputs = _; plan = plan_of_jvm list script; Makes = Runs n script }

@@ -22,7 +22,13 @@ use Rattle.cjc_run.specs.Convert.{files_made, below}
 use Rattle.cjc_checking.specs.Check.{AreConsistent, check_breaks, ok_line, plan_of_check}
 use Rattle.cjc_command.specs.Plan.{complete, verdict}
 use Rattle.cjc_folder.specs.declared.folder.Folder.{Folder}
-use Rattle.cjc_run.specs.Request.{Request, check, convert}
+use Rattle.cjc_running.specs.Ready.{IsReady}
+use Rattle.cjc_running.specs.declared.input.Input.{Input}
+use Rattle.cjc_running.specs.declared.ready.Ready.{Ready}
+use Rattle.cjc_script.specs.declared.report.Report.{Report}
+use Rattle.cjc_script_text.specs.Printed.{report_text}
+use Rattle.cjc_jvm_report.specs.Runs.{IsReport, plan_of_jvm}
+use Rattle.cjc_run.specs.Request.{Request, check, convert, jvm}
 
 abbrev pub SpellStep : Bool → Option (List ℕ) → (List ClassTree → Type 0) → List ClassTree → Type 0
 SpellStep true file rest [] = ⊥
@@ -79,7 +85,24 @@ pub record Checked (name dir : List ℕ) (old new : Shelved) (from to : Sunk) : 
   pub tested : IfSome old.files (IsTested name dir)
   pub printed : IfSome from.written (λ before. to.written ≡ Some (before ++ ok_line))
 
+-- The list of this name, its files and the script were read, and break no rule of the first three hundreds. The report of the run of n
+-- instructions of the class files by name is printed.
+pub record IsReported (name script : List ℕ) (n : ℕ) (files : Files) (from to : Sunk) : Type 0 where
+  pub input : Input
+  pub read : verdict files (plan_of_jvm name script) ≡ complete input
+  pub ready : Ready
+  pub is_ready : IsReady input.list input.files script input.script ready
+  pub report : Report
+  pub is_report : IsReport ready n report
+  pub printed : IfSome from.written (λ before. to.written ≡ Some (before ++ report_text report))
+
+-- Nothing is written, and the report is printed.
+pub record Reported (name script : List ℕ) (n : ℕ) (old new : Shelved) (from to : Sunk) : Type 0 where
+  pub kept : IfSome old.files (λ files. new.files ≡ Some files)
+  pub reported : IfSome old.files (λ files. IsReported name script n files from to)
+
 -- what the request that is done promises of the shelf and the sink before and after
 abbrev pub Promised : Request → Shelved → Shelved → Sunk → Sunk → Type 0
 Promised (convert name dir) old new from to = IfSome old.files (λ before. IsSomeAnd new.files (Converts name dir before))
 Promised (check name dir) old new from to = Checked name dir old new from to
+Promised (jvm name script n) old new from to = Reported name script n old new from to

@@ -4,15 +4,27 @@ ghost use Rattle.std.specs.Prelude.{◌≡◌, option_map};
 ghost use Rattle.cjc_run.specs.Request.{request};
 ghost use Rattle.cjc_run.specs.Asked.{asked};
 
-use cjc_bytes::Bytes;
+use cjc_bytes::{Bytes, short_decimal};
 
 /// What is asked for.
 #[derive(Clone, Copy)]
 pub(crate) enum Asked<'a> {
     /// `convert LIST DIR`
-    Convert { list: &'a [u8], dir: &'a [u8] },
+    Convert {
+        list: &'a [u8],
+        dir: &'a [u8],
+    },
     /// `check LIST DIR`
-    Check { list: &'a [u8], dir: &'a [u8] },
+    Check {
+        list: &'a [u8],
+        dir: &'a [u8],
+    },
+    /// `jvm LIST SCRIPT N`
+    Jvm {
+        list: &'a [u8],
+        script: &'a [u8],
+        n: u32,
+    },
 }
 
 /// What the words ask for, where they are of a form.
@@ -28,6 +40,16 @@ pub(crate) fn asked_by(words: &[Bytes]) -> Option<Asked<'_>>
             list: list.items(),
             dir: dir.items(),
         }),
+        [verb, list, script, n] if verb.items() == b"jvm".as_slice() => {
+            match short_decimal(n.items(), 10, 3_000_000_000) {
+                Some(n) => Some(Asked::Jvm {
+                    list: list.items(),
+                    script: script.items(),
+                    n,
+                }),
+                None => None,
+            }
+        }
         _ => None,
     }
 }

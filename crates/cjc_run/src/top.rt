@@ -15,6 +15,7 @@ use crate::converting::gather_convert;
 use cjc_bytes::Bytes;
 use cjc_checking::gather_check;
 use cjc_command::{Status, Todo, publish};
+use cjc_jvm_report::gather_run;
 use cjc_shelf::{Shelf, Sink};
 use std::alloc::Global;
 
@@ -25,6 +26,7 @@ fn gather<S: Shelf>(alloc: Global, command: Asked<'_>, shelf: &mut S) -> Result<
     match command {
         Asked::Convert { list, dir } => gather_convert(alloc, list, dir, shelf),
         Asked::Check { list, dir } => gather_check(alloc, list, dir, shelf),
+        Asked::Jvm { list, script, n } => gather_run(alloc, list, script, n, shelf),
     }
 }
 

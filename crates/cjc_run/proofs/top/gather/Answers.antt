@@ -3,5 +3,8 @@ use Rattle.cjc_run.proofs.top.gather.Goals as goal
 pub returns-in-Convert : goal.returns-in-Convert
 returns-in-Convert g c = rw c.in-Convert.is c.gather_convert.ensures
 
+pub returns-in-Jvm : goal.returns-in-Jvm
+returns-in-Jvm g c = rw c.in-Jvm.is c.gather_run.ensures
+
 pub returns-in-Check : goal.returns-in-Check
 returns-in-Check g c = rw c.in-Check.is c.gather_check.ensures
