@@ -3,6 +3,8 @@
 #![tactic(auto)]
 
 #[cfg(test)]
+mod by_name;
+#[cfg(test)]
 mod lists;
 #[cfg(test)]
 mod packages;

@@ -1,0 +1,120 @@
+//! Whole runs of `jvm list script N` over files in memory. A case is the class file of the example with some bytes changed, as
+//! packages.rt says, then N, the lines of the script, and the lines that are printed or the line at the end, with ` : ` between and
+//! `, ` between lines.
+
+use crate::packages::bytes_of;
+use crate::words::cut;
+use cjc_bytes::{Bytes, NoMemory, Out, Row};
+use cjc_run::{run, status_line};
+use cjc_shelf::{MemShelf, MemSink};
+use std::alloc::Global;
+use std::test::*;
+
+/// What is printed, or why nothing is.
+const RUNS: &str = "\
+sum : 100 : call p/T f(S)S 5 : result 6, done
+sum : 100 : call p/T f(S)S 32767 : result -32768, done
+sum : 100 : call p/T f(S)S 1, call p/T f(S)S 2 : result 2, result 3, done
+sum : 4 : call p/T f(S)S 5 : running
+sum : 5 : call p/T f(S)S 5 : result 6, done
+sum : 5 : call p/T f(S)S 5, call p/T f(S)S 6 : result 6, running
+sum : 100 : call p/T f(S)S 40000 : unfit 0
+sum : 100 : call p/T g(S)S 5 : unfit 0
+sum : 100 : call p/T f(S)S 1, call p/T f(S)S : result 2, unfit 1
+sum : 100 : array [S 2, put @0 1 7, call p/T f(S)S 1 : result 2, array @0 [S 0 7, done
+sum : 100 : object java/lang/Object, call p/T f(S)S 1 : result 2, object @0 java/lang/Object, done
+sum : 100 : array [S 2, put @0 2 7, call p/T f(S)S 1 : array @0 [S 0 0, unfit 0
+sum 94:03 95:6c : 100 : call p/T f(S)S 5 : thrown java/lang/ArithmeticException @0, object @0 java/lang/ArithmeticException, done
+sum 93:a7 94:00 95:00 96:00 : 100000 : call p/T f(S)S 5 : running
+sum : 100 : jump : refused 105 script - - 0
+sum : 100 : call p/T f(S)S 5, jump : refused 105 script - - 17
+sum 95:61 : 100 : jump : refused 105 script - - 0
+sum 97:00 : 100 : jump : refused 103 T.class p/T f(S)S 4
+sum 95:61 : 100 : call p/T f(S)S 5 : refused 303 T.class p/T f(S)S 2
+sum 85:01 : 100 : call p/T f(S)S 5 : result 6, done
+sum : 3000000001 : call p/T f(S)S 5 : usage: jcconv convert LIST DIR, check LIST DIR, jvm LIST SCRIPT N, card LIST DIR SCRIPT N, make NUMBER SIZE
+sum : 1e3 : call p/T f(S)S 5 : usage: jcconv convert LIST DIR, check LIST DIR, jvm LIST SCRIPT N, card LIST DIR SCRIPT N, make NUMBER SIZE
+sum : 3000000000 : call p/T f(S)S 5 : result 6, done";
+
+/// The lines of a part of a case, each with its line feed.
+fn lines_of(alloc: Global, part: &str) -> Result<Bytes, NoMemory> {
+    let mut text = Out::new(alloc);
+    for line in part.split(", ") {
+        text.put_slice(line.as_bytes())?;
+        text.put_slice(b"\n")?;
+    }
+    Ok(text.finish())
+}
+
+/// The example, with this class file and script.
+fn shelf_of(alloc: Global, class: &str, script: &str) -> Result<MemShelf, NoMemory> {
+    let mut shelf = MemShelf::new(alloc, Row::new(alloc));
+    let bytes = bytes_of(alloc, class)?;
+    shelf.add(b"T.class", bytes.as_slice())?;
+    let bytes = bytes_of(alloc, "list")?;
+    shelf.add(b"list", bytes.as_slice())?;
+    let bytes = bytes_of(alloc, "lang")?;
+    shelf.add(b"lang.exp", bytes.as_slice())?;
+    let bytes = lines_of(alloc, script)?;
+    shelf.add(b"script", bytes.items())?;
+    Ok(shelf)
+}
+
+fn words_of(alloc: Global, n: &str) -> Result<Row<Bytes>, NoMemory> {
+    let mut words = Row::new(alloc);
+    words.push(Bytes::copy_of(alloc, b"jvm")?)?;
+    words.push(Bytes::copy_of(alloc, b"list")?)?;
+    words.push(Bytes::copy_of(alloc, b"script")?)?;
+    words.push(Bytes::copy_of(alloc, n.as_bytes())?)?;
+    Ok(words)
+}
+
+fn sink_of(alloc: Global) -> Result<MemSink, NoMemory> {
+    let mut sink = MemSink::new(alloc, Row::new(alloc));
+    sink.reserve()?;
+    Ok(sink)
+}
+
+/// Whether these bytes are this line, whose commas are its own.
+fn is_line(bytes: &[u8], line: &str) -> bool {
+    match bytes {
+        [front @ .., b'\n'] => front == line.as_bytes(),
+        _ => false,
+    }
+}
+
+/// Whether a case prints and ends as wanted.
+fn is_so(alloc: Global, case: &str) -> Result<bool, NoMemory> {
+    let (class, rest) = cut(case, " : ");
+    let (n, rest) = cut(rest, " : ");
+    let (script, wanted) = cut(rest, " : ");
+    let mut shelf = shelf_of(alloc, class, script)?;
+    let words = words_of(alloc, n)?;
+    let mut out = sink_of(alloc)?;
+    let mut errors = sink_of(alloc)?;
+    let status = run(alloc, words.items(), &mut shelf, &mut out);
+    if status_line(&status, &mut errors).is_err() {
+        return Ok(false);
+    }
+    let text = lines_of(alloc, wanted)?;
+    if errors.bytes().is_empty() {
+        return Ok(out.bytes() == text.items());
+    }
+    Ok(out.bytes().is_empty() && is_line(errors.bytes(), wanted))
+}
+
+/// The first case that goes otherwise; nothing where there is none.
+fn first_wrong(alloc: Global) -> &'static str {
+    for case in RUNS.lines() {
+        match is_so(alloc, case) {
+            Ok(true) => {}
+            _ => return case,
+        }
+    }
+    ""
+}
+
+#[test]
+fn prints_reports_by_name(rt: HostRuntime) {
+    assert_eq!(rt; first_wrong(rt.alloc()), "");
+}
