@@ -2,7 +2,7 @@
 
 use crate::folders::{
     CLASS, Change, DESCRIPTOR, DIRECTORY, EXPORT, FILES, HEADER, IMPORT, LANG, LIST, LOCATIONS,
-    METHOD, STATICS, handled,
+    METHOD, STATICS, handled, implementing, installed, pooled, tabled,
 };
 use cjc_bytes::{Bytes, NoMemory, Row};
 use cjc_run::{run, status_line};
@@ -160,6 +160,83 @@ fn several_files_are_altered(rt: HostRuntime) -> Result<(), Fail> {
         (
             &[(LANG, 0, b"\x01"), (DIRECTORY, 0, b"\x00")],
             "refused 104 lang.exp - - 0\n",
+        ),
+    ];
+    for (changes, want) in cases {
+        assert!(rt; ends_so(rt.alloc(), changes, "", want)?, "{want}");
+    }
+    Ok(())
+}
+
+#[test]
+fn tables_maps_pools_and_applets(rt: HostRuntime) -> Result<(), Fail> {
+    let fit: [&[Change]; 7] = [
+        &tabled(b"\x01\x00\x00\x00\x01"),
+        // a token whose method the imported superclass has
+        &tabled(b"\x01\x00\x00\xFF\xFF"),
+        &implementing(b"\x12", b"\x01\x01"),
+        // equals of the superclass, as a method of the class and as one of its superclass; a constructor of an imported class
+        &pooled(b"\x03\x00\x02\x00"),
+        &pooled(b"\x04\x00\x02\x00"),
+        &pooled(b"\x06\x80\x00\x00"),
+        &installed(b"\x00\x01"),
+    ];
+    for changes in fit {
+        assert!(rt; ends_so(rt.alloc(), changes, "ok\n", "")?);
+    }
+    let cases: [(&[Change], &str); 12] = [
+        (
+            &tabled(b"\x01\x00\x00\x00\x05"),
+            "refused 706 Class.cap - - 15\n",
+        ),
+        (
+            &tabled(b"\x00\x00\x01\xFF\xFF"),
+            "refused 706 Class.cap - - 15\n",
+        ),
+        // the map is too short, and its index is a token that the class has not
+        (
+            &implementing(b"\x11", b"\x00"),
+            "refused 707 Class.cap - - 19\n",
+        ),
+        (
+            &implementing(b"\x12", b"\x01\x02"),
+            "refused 707 Class.cap - - 20\n",
+        ),
+        // no instance field, virtual method, method of the superclass, cell, method start or static method of an imported class
+        (
+            &pooled(b"\x02\x00\x02\x00"),
+            "refused 708 ConstantPool.cap - - 5\n",
+        ),
+        (
+            &pooled(b"\x03\x00\x02\x01"),
+            "refused 708 ConstantPool.cap - - 5\n",
+        ),
+        (
+            &pooled(b"\x04\x00\x02\x01"),
+            "refused 708 ConstantPool.cap - - 5\n",
+        ),
+        (
+            &pooled(b"\x05\x00\x00\x00"),
+            "refused 708 ConstantPool.cap - - 5\n",
+        ),
+        (
+            &pooled(b"\x06\x00\x00\x02"),
+            "refused 708 ConstantPool.cap - - 5\n",
+        ),
+        (
+            &pooled(b"\x06\x80\x00\x05"),
+            "refused 708 ConstantPool.cap - - 5\n",
+        ),
+        (&installed(b"\x00\x02"), "refused 715 Applet.cap - - 11\n"),
+        // a method that is not static
+        (
+            &[
+                (DIRECTORY, 8, b"\x0A"),
+                (HEADER, 9, b"\x06"),
+                (DIRECTORY, 34, b"\x01"),
+                (DESCRIPTOR, 14, b"\x01"),
+            ],
+            "refused 715 Applet.cap - - 11\n",
         ),
     ];
     for (changes, want) in cases {
