@@ -1,4 +1,4 @@
-//! Whole runs of `jvm list script N` over files in memory. A case is the class file of the example with some bytes changed, as
+//! Whole runs of `jvm list script N` over files in memory. A case is a class file with some bytes changed, as
 //! packages.rt says, then N, the lines of the script, and the lines that are printed or the line at the end, with ` : ` between and
 //! `, ` between lines.
 
@@ -34,7 +34,44 @@ sum 95:61 : 100 : call p/T f(S)S 5 : refused 303 T.class p/T f(S)S 2
 sum 85:01 : 100 : call p/T f(S)S 5 : result 6, done
 sum : 3000000001 : call p/T f(S)S 5 : usage: jcconv convert LIST DIR, check LIST DIR, jvm LIST SCRIPT N, card LIST DIR SCRIPT N, make NUMBER SIZE
 sum : 1e3 : call p/T f(S)S 5 : usage: jcconv convert LIST DIR, check LIST DIR, jvm LIST SCRIPT N, card LIST DIR SCRIPT N, make NUMBER SIZE
-sum : 3000000000 : call p/T f(S)S 5 : result 6, done";
+sum : 3000000000 : call p/T f(S)S 5 : result 6, done
+sum 93:04 94:be : 100 : call p/T f(S)S 5 : stuck 1
+broad : 100 : call p/T f(S)S 0 : thrown java/lang/NullPointerException @0, static p/T.c:S 0, object @0 java/lang/NullPointerException, done
+broad : 100 : call p/T f(S)S 1 : thrown java/lang/ArrayIndexOutOfBoundsException @1, static p/T.c:S 0, array @0 [S, object @1 java/lang/ArrayIndexOutOfBoundsException, done
+broad : 100 : call p/T f(S)S 2 : thrown java/lang/NegativeArraySizeException @0, static p/T.c:S 0, object @0 java/lang/NegativeArraySizeException, done
+broad : 100 : call p/T f(S)S 3 : thrown java/lang/ArithmeticException @0, static p/T.c:S 0, object @0 java/lang/ArithmeticException, done
+broad : 100 : call p/T f(S)S 4 : thrown java/lang/ArrayStoreException @2, static p/T.c:S 0, array @0 [Lp/T; null, object @1 java/lang/Object, object @2 java/lang/ArrayStoreException, done
+broad : 100 : call p/T f(S)S 5 : thrown java/lang/ClassCastException @1, static p/T.c:S 0, object @0 java/lang/Object, object @1 java/lang/ClassCastException, done
+broad : 100 : call p/T f(S)S 30, call p/T f(S)S 12 : result 30, result 42, static p/T.c:S 42, done
+broad : 100 : call p/T n()Lp/T; : result @0, static p/T.c:S 0, object @0 p/T p/T.v:S=0, done
+broad : 100 : call p/T n()Lp/T;, send p/T g(S)V @0 7, give 1 : result @0, event java/lang/Object.equals(Ljava/lang/Object;)Z @0 @0, result void, static p/T.c:S 0, object @0 p/T p/T.v:S=7, done
+broad : 100 : call p/T n()Lp/T;, send p/T g(S)V @0 7 : result @0, event java/lang/Object.equals(Ljava/lang/Object;)Z @0 @0, static p/T.c:S 0, object @0 p/T p/T.v:S=7, waiting
+broad : 100 : call p/T n()Lp/T;, send p/T g(S)V @0 7, throw java/lang/ArithmeticException : result @0, event java/lang/Object.equals(Ljava/lang/Object;)Z @0 @0, result void, static p/T.c:S 0, object @0 p/T p/T.v:S=-1, object @1 java/lang/ArithmeticException, done
+broad : 100 : call p/T n()Lp/T;, send p/T g(S)V @0 7, throw java/lang/Exception : result @0, event java/lang/Object.equals(Ljava/lang/Object;)Z @0 @0, thrown java/lang/Exception @1, static p/T.c:S 0, object @0 p/T p/T.v:S=7, object @1 java/lang/Exception, done
+broad : 100 : call p/T n()Lp/T;, send p/T g(S)V @0 7, give 2 : result @0, event java/lang/Object.equals(Ljava/lang/Object;)Z @0 @0, static p/T.c:S 0, object @0 p/T p/T.v:S=7, unfit 2
+broad : 100 : call p/T n()Lp/T;, send p/T g(S)V @0 7, give : result @0, event java/lang/Object.equals(Ljava/lang/Object;)Z @0 @0, static p/T.c:S 0, object @0 p/T p/T.v:S=7, unfit 2
+broad : 100 : call p/T n()Lp/T;, send p/T g(S)V @0 7, throw java/lang/Object : result @0, event java/lang/Object.equals(Ljava/lang/Object;)Z @0 @0, static p/T.c:S 0, object @0 p/T p/T.v:S=7, unfit 2
+broad : 100 : call p/T n()Lp/T;, send p/T g(S)V @1 7 : result @0, static p/T.c:S 0, object @0 p/T p/T.v:S=0, unfit 1
+broad : 100 : call p/T n()Lp/T;, send p/T h(S)V @0 7 : result @0, static p/T.c:S 0, object @0 p/T p/T.v:S=0, unfit 1
+broad : 100 : object java/lang/Object, send p/T g(S)V @0 7 : static p/T.c:S 0, object @0 java/lang/Object, unfit 0
+broad : 100 : array [I -1, call p/T f(S)S 30 : static p/T.c:S 0, unfit 0
+broad : 100 : array [S 32768, call p/T f(S)S 30 : static p/T.c:S 0, unfit 0
+broad : 100 : array [B 1, put @0 0 200, call p/T f(S)S 30 : static p/T.c:S 0, array @0 [B 0, unfit 0
+broad : 100 : array [Z 2, put @0 1 1, array [I 1, put @1 0 2147483647, call p/T f(S)S 30 : result 30, static p/T.c:S 30, array @0 [Z 0 1, array @1 [I 2147483647, done
+broad : 100 : array [Lp/T; 2, array [Ljava/lang/Object; 1, put @1 0 @0, call p/T f(S)S 30 : result 30, static p/T.c:S 30, array @0 [Lp/T; null null, array @1 [Ljava/lang/Object; @0, done
+broad : 100 : array [Lp/T; 1, object java/lang/Object, put @0 0 @1, call p/T f(S)S 30 : static p/T.c:S 0, array @0 [Lp/T; null, object @1 java/lang/Object, unfit 0
+broad : 100 : put @0 0 1, call p/T f(S)S 30 : static p/T.c:S 0, unfit 0
+broad : 100 : object p/T, call p/T f(S)S 30 : static p/T.c:S 0, unfit 0
+broad : 100 : object a/B, call p/T f(S)S 30 : static p/T.c:S 0, unfit 0
+broad : 100 : array [La/B; 1, call p/T f(S)S 30 : static p/T.c:S 0, unfit 0
+broad : 100 : call p/T n()Lp/T;, give 1 : result @0, static p/T.c:S 0, object @0 p/T p/T.v:S=0, done
+broad : 100 : give 1, call p/T f(S)S 30 : result 30, static p/T.c:S 30, done
+broad : 100 : call q/T f(S)S 30 : static p/T.c:S 0, unfit 0
+broad : 100 : call p/T f(S)S null : static p/T.c:S 0, unfit 0
+broad : 100 : call p/T f(S)S 30 30 : static p/T.c:S 0, unfit 0
+broad : 100 : call p/T f(S)S -32769 : static p/T.c:S 0, unfit 0
+broad : 100 : object java/lang/Object, call p/T f(S)S @0 : static p/T.c:S 0, object @0 java/lang/Object, unfit 0
+broad : 100 : object java/lang/Object, put @0 0 1, call p/T f(S)S 3 : static p/T.c:S 0, object @0 java/lang/Object, unfit 0";
 
 /// The lines of a part of a case, each with its line feed.
 fn lines_of(alloc: Global, part: &str) -> Result<Bytes, NoMemory> {
