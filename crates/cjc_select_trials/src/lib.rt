@@ -1,5 +1,5 @@
-//! What is selected for packages made by hand, byte for byte. It shows on examples that the definition of selected code
-//! means what it is to. Nothing here runs.
+//! What is selected for packages made by hand, byte for byte, and calls of `select` on them. It shows on examples that the
+//! definition of selected code means what it is to.
 #![tactic(auto)]
 
 ghost use Rattle.std.specs.Prelude.{◌≡◌, ◌∷◌, [], Some, None, codes};
@@ -9,6 +9,14 @@ ghost use Rattle.cjc_worked.specs.Overriding as Overriding;
 ghost use Rattle.cjc_worked.specs.Sharing as Sharing;
 ghost use Rattle.cjc_select_trials.specs.Fields.{of_argument, or_zero, s, with_method};
 ghost use Rattle.cjc_select_trials.specs.Selected as Selected;
+
+#[cfg(test)]
+mod calls;
+mod fits;
+#[cfg(test)]
+mod package;
+
+pub use fits::can_be_selected;
 
 /// Array elements on either side of an index, divisions, shifts past a word, a mask of 16 bits, switches with cases outside
 /// 16 bits, handlers of which one covers nothing, and calls: what is selected has the bytes that were worked out by hand.
