@@ -71,7 +71,16 @@ broad : 100 : call p/T f(S)S null : static p/T.c:S 0, unfit 0
 broad : 100 : call p/T f(S)S 30 30 : static p/T.c:S 0, unfit 0
 broad : 100 : call p/T f(S)S -32769 : static p/T.c:S 0, unfit 0
 broad : 100 : object java/lang/Object, call p/T f(S)S @0 : static p/T.c:S 0, object @0 java/lang/Object, unfit 0
-broad : 100 : object java/lang/Object, put @0 0 1, call p/T f(S)S 3 : static p/T.c:S 0, object @0 java/lang/Object, unfit 0";
+broad : 100 : object java/lang/Object, put @0 0 1, call p/T f(S)S 3 : static p/T.c:S 0, object @0 java/lang/Object, unfit 0
+broad : 100 : array [B 3, put @0 2 -7, call p/T h([BS)B @0 1, call p/T h([BS)B @0 2 : result -7, thrown java/lang/ArrayIndexOutOfBoundsException @1, static p/T.c:S 0, array @0 [B 0 0 -7, object @1 java/lang/ArrayIndexOutOfBoundsException, done
+broad : 100 : array [B 3, call p/T h([BS)B @0 32767 : thrown java/lang/ArrayIndexOutOfBoundsException @1, static p/T.c:S 0, array @0 [B 0 0 0, object @1 java/lang/ArrayIndexOutOfBoundsException, done
+broad : 100 : call p/T d(SS)S -32768 -1, call p/T d(SS)S 7 -2, call p/T d(SS)S 1 0 : result -32768, result -3, thrown java/lang/ArithmeticException @0, static p/T.c:S 0, object @0 java/lang/ArithmeticException, done
+broad : 100 : call p/T r(S)S -1, call p/T r(S)S 32767, call p/T l(S)S 1, call p/T l(S)S -1 : result 4095, result 0, result 0, result 0, static p/T.c:S 0, done
+asks : 100 : call p/T go()Z : event q/A.z()Z, waiting
+asks : 100 : call p/T go()Z, give 2 : event q/A.z()Z, unfit 1
+asks : 100 : call p/T go()Z, give 1 : event q/A.z()Z, result 1, done
+asks : 0 : call p/T go()Z, give 1 : running
+wallet : 10000 : call p/Wallet install([BSB)V null 0 0, give, give, object javacard/framework/APDU, send p/Wallet process(Ljavacard/framework/APDU;)V @0 @1, array [B 6, put @2 1 48, put @2 5 50, give @2, send p/Wallet process(Ljavacard/framework/APDU;)V @0 @1, put @2 1 64, put @2 5 20, give @2, send p/Wallet process(Ljavacard/framework/APDU;)V @0 @1, put @2 5 100, give @2, throw javacard/framework/ISOException : event javacard/framework/Applet.<init>()V @0, event javacard/framework/Applet.register()V @0, result void, event javacard/framework/APDU.getBuffer()[B @1, result void, event javacard/framework/APDU.getBuffer()[B @1, result void, event javacard/framework/APDU.getBuffer()[B @1, event javacard/framework/ISOException.throwIt(S)V 27269, thrown javacard/framework/ISOException @3, object @0 p/Wallet p/Wallet.balance:S=30, object @1 javacard/framework/APDU, array @2 [B 0 64 0 0 0 100, object @3 javacard/framework/ISOException, done";
 
 /// The lines of a part of a case, each with its line feed.
 fn lines_of(alloc: Global, part: &str) -> Result<Bytes, NoMemory> {
@@ -83,15 +92,28 @@ fn lines_of(alloc: Global, part: &str) -> Result<Bytes, NoMemory> {
     Ok(text.finish())
 }
 
-/// The example, with this class file and script.
+/// The list of a class.
+fn list_of(class: &str) -> &'static str {
+    match class {
+        "asks" => "asks-list",
+        "wallet" => "wallet-list",
+        _ => "list",
+    }
+}
+
+/// A folder with this class file, its list, and this script.
 fn shelf_of(alloc: Global, class: &str, script: &str) -> Result<MemShelf, NoMemory> {
     let mut shelf = MemShelf::new(alloc, Row::new(alloc));
     let bytes = bytes_of(alloc, class)?;
     shelf.add(b"T.class", bytes.as_slice())?;
-    let bytes = bytes_of(alloc, "list")?;
+    let bytes = bytes_of(alloc, list_of(class))?;
     shelf.add(b"list", bytes.as_slice())?;
     let bytes = bytes_of(alloc, "lang")?;
     shelf.add(b"lang.exp", bytes.as_slice())?;
+    let bytes = bytes_of(alloc, "q")?;
+    shelf.add(b"q.exp", bytes.as_slice())?;
+    let bytes = bytes_of(alloc, "framework")?;
+    shelf.add(b"fw.exp", bytes.as_slice())?;
     let bytes = lines_of(alloc, script)?;
     shelf.add(b"script", bytes.items())?;
     Ok(shelf)
