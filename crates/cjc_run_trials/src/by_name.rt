@@ -80,7 +80,20 @@ asks : 100 : call p/T go()Z : event q/A.z()Z, waiting
 asks : 100 : call p/T go()Z, give 2 : event q/A.z()Z, unfit 1
 asks : 100 : call p/T go()Z, give 1 : event q/A.z()Z, result 1, done
 asks : 0 : call p/T go()Z, give 1 : running
-wallet : 10000 : call p/Wallet install([BSB)V null 0 0, give, give, object javacard/framework/APDU, send p/Wallet process(Ljavacard/framework/APDU;)V @0 @1, array [B 6, put @2 1 48, put @2 5 50, give @2, send p/Wallet process(Ljavacard/framework/APDU;)V @0 @1, put @2 1 64, put @2 5 20, give @2, send p/Wallet process(Ljavacard/framework/APDU;)V @0 @1, put @2 5 100, give @2, throw javacard/framework/ISOException : event javacard/framework/Applet.<init>()V @0, event javacard/framework/Applet.register()V @0, result void, event javacard/framework/APDU.getBuffer()[B @1, result void, event javacard/framework/APDU.getBuffer()[B @1, result void, event javacard/framework/APDU.getBuffer()[B @1, event javacard/framework/ISOException.throwIt(S)V 27269, thrown javacard/framework/ISOException @3, object @0 p/Wallet p/Wallet.balance:S=30, object @1 javacard/framework/APDU, array @2 [B 0 64 0 0 0 100, object @3 javacard/framework/ISOException, done";
+wallet : 10000 : call p/Wallet install([BSB)V null 0 0, give, give, object javacard/framework/APDU, send p/Wallet process(Ljavacard/framework/APDU;)V @0 @1, array [B 6, put @2 1 48, put @2 5 50, give @2, send p/Wallet process(Ljavacard/framework/APDU;)V @0 @1, put @2 1 64, put @2 5 20, give @2, send p/Wallet process(Ljavacard/framework/APDU;)V @0 @1, put @2 5 100, give @2, throw javacard/framework/ISOException : event javacard/framework/Applet.<init>()V @0, event javacard/framework/Applet.register()V @0, result void, event javacard/framework/APDU.getBuffer()[B @1, result void, event javacard/framework/APDU.getBuffer()[B @1, result void, event javacard/framework/APDU.getBuffer()[B @1, event javacard/framework/ISOException.throwIt(S)V 27269, thrown javacard/framework/ISOException @3, object @0 p/Wallet p/Wallet.balance:S=30, object @1 javacard/framework/APDU, array @2 [B 0 64 0 0 0 100, object @3 javacard/framework/ISOException, done
+broad : 100 : call p/T g(S)V 7 : static p/T.c:S 0, unfit 0
+broad : 100 : call p/T n()Lp/T;, send p/T f(S)S @0 7 : result @0, static p/T.c:S 0, object @0 p/T p/T.v:S=0, unfit 1
+broad : 100 : call p/T n()Lp/T;, send p/T equals(Ljava/lang/Object;)Z @0 @0 : result @0, static p/T.c:S 0, object @0 p/T p/T.v:S=0, unfit 1
+broad : 100 : call p/T n()Lp/T;, send java/lang/Object equals(Ljava/lang/Object;)Z @0 @0 : result @0, static p/T.c:S 0, object @0 p/T p/T.v:S=0, unfit 1
+broad : 100 : call p/T n()Lp/T;, send p/T g(S)V @0 7, throw p/T : result @0, event java/lang/Object.equals(Ljava/lang/Object;)Z @0 @0, static p/T.c:S 0, object @0 p/T p/T.v:S=7, unfit 2
+broad : 100 : call p/T n()Lp/T;, send p/T g(S)V @0 7, throw a/B : result @0, event java/lang/Object.equals(Ljava/lang/Object;)Z @0 @0, static p/T.c:S 0, object @0 p/T p/T.v:S=7, unfit 2
+broad : 100 : call p/T n()Lp/T;, send p/T g(S)V @0 7, call p/T n()Lp/T; : result @0, event java/lang/Object.equals(Ljava/lang/Object;)Z @0 @0, static p/T.c:S 0, object @0 p/T p/T.v:S=7, waiting
+broad : 100 : call p/T h([BS)B null 0 : thrown java/lang/NullPointerException @0, static p/T.c:S 0, object @0 java/lang/NullPointerException, done
+broad : 100 : array [S 1, call p/T h([BS)B @0 0 : static p/T.c:S 0, array @0 [S 0, unfit 0
+broad : 100 : call p/T h([BS)B @0 0 : static p/T.c:S 0, unfit 0
+broad : 100 : call p/T h([BS)B 1 0 : static p/T.c:S 0, unfit 0
+wallet : 100 : call p/Wallet install([BSB)V null 0 0, give 1 : event javacard/framework/Applet.<init>()V @0, object @0 p/Wallet p/Wallet.balance:S=0, unfit 1
+wallet : 100 : call p/Wallet install([BSB)V null 0 0, give, give, object javacard/framework/APDU, send p/Wallet process(Ljavacard/framework/APDU;)V @0 @1, give @0 : event javacard/framework/Applet.<init>()V @0, event javacard/framework/Applet.register()V @0, result void, event javacard/framework/APDU.getBuffer()[B @1, object @0 p/Wallet p/Wallet.balance:S=0, object @1 javacard/framework/APDU, unfit 4";
 
 /// The lines of a part of a case, each with its line feed.
 fn lines_of(alloc: Global, part: &str) -> Result<Bytes, NoMemory> {
