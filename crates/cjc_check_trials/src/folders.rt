@@ -53,7 +53,8 @@ pub(crate) const FILES: [(&[u8], &[u8]); 13] = [
     ),
 ];
 
-/// A file by its name, an offset, and the bytes from there on; what stood behind is kept where there are fewer.
+/// A file by its name, an offset, and the bytes from there on; what stood behind is kept where there are fewer, and cut where there
+/// are none.
 pub(crate) type Change = (&'static [u8], usize, &'static [u8]);
 
 pub(crate) const LIST: &[u8] = b"list";

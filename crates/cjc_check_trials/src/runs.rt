@@ -18,8 +18,11 @@ fn words_of(alloc: Global, words: &[&[u8]]) -> Result<Row<Bytes>, NoMemory> {
     Ok(row)
 }
 
-/// A file with the bytes from an offset on put in place of its own, and what is over put at its end.
+/// A file with the bytes from an offset on put in place of its own, and what is over put at its end; cut there where there are none.
 fn with_bytes(mut file: Vec<u8>, at: usize, bytes: &[u8]) -> Result<Vec<u8>, Fail> {
+    if bytes.is_empty() {
+        file.truncate(at);
+    }
     for (i, byte) in bytes.iter().enumerate() {
         let place = at.saturating_add(i);
         if place < file.len() {
@@ -118,7 +121,13 @@ fn one_sentence_is_false(rt: HostRuntime) -> Result<(), Fail> {
 
 #[test]
 fn several_files_are_altered(rt: HostRuntime) -> Result<(), Fail> {
-    let cases: [(&[Change], &str); 9] = [
+    let cases: [(&[Change], &str); 11] = [
+        // a method's last byte is not there
+        (
+            &[(METHOD, 2, b"\x06"), (METHOD, 9, b"")],
+            "refused 701 Directory.cap - - 15\n",
+        ),
+        (&[(HEADER, 6, b"\xEE")], "refused 106 Header.cap - - 3\n"),
         // the handler's target is no instruction; its stop bit is 0
         (
             &handled(b"\x00\x0F\x01\x00\x0B\x80\x01\x00\x10\x00\x00\x02\x10\x1C\x04\x41\x78"),
