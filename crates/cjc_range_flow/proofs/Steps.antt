@@ -1,10 +1,10 @@
 -- What an instruction makes of intervals of 32 bits has 32 bits, and grows with them.
-use Rattle.std.proofs.Common.{ℕ, zero, suc, Bool, true, false, ◌==◌, cond, List, [], ◌∷◌, ◌++◌, map, drop, slice_set, All, sym, subst, ◌∙◌, ℤ, inl, inr, arith}
+use Rattle.std.proofs.Common.{ℕ, Bool, true, false, ◌==◌, cond, List, [], ◌∷◌, drop, slice_set, All, sym, subst, ◌∙◌, ℤ, inl, inr, arith}
 use Rattle.std.proofs.lemmas.Int.{ints}
 use Rattle.std.specs.Prelude.{Option, Some, None}
 use Rattle.std.specs.List.{AllZip, list_all}
 use Rattle.std.proofs.lemmas.List.{length-set}
-use Rattle.std.proofs.lemmas.List.Elements.{All-nil, All-cons, All-head, All-tail, All-append, All-drop, All-set}
+use Rattle.std.proofs.lemmas.List.Elements.{All-nil, All-append, All-drop, All-set}
 use Rattle.cjc_bytes.specs.Descriptor.{Part}
 use Rattle.cjc_bytes.specs.declared.fault.MemberId.{MemberId}
 use Rattle.cjc_bytes.specs.declared.names.Kind.{Kind}
@@ -25,7 +25,9 @@ use Rattle.cjc_types.specs.Steps as typed
 use Rattle.cjc_range_flow.specs.Frames.{StackOf, Cells, Clash, IsStack, IsStackBelow, spans, RangeState, states}
 use Rattle.cjc_range_flow.specs.Values.{exactly, boolean_range, length_range, range_of, range_of_kind, result_ranges, is_boolean_array, byte_element_range, element_range}
 use Rattle.cjc_range_flow.specs.Steps.{operand, two_operands, arithmetic, narrowed, loaded, field_range, gives, stack_behind, stack_after, stored, locals_after, after}
-use Rattle.cjc_range_flow.proofs.Stacks.{span_lattice, own_stack_of, stack_of_up}
+use Rattle.cjc_types.specs.Working.OperandLaws.{one_own, read_own, all_read_own, below_same, below_append, below_drop, read_up, all_read_up}
+use Rattle.cjc_types.specs.Working.StackLaws.{own_stack_of, stack_of_up}
+use Rattle.cjc_range_flow.proofs.Stacks.{span_lattice}
 
 -- ---- lists of intervals
 
@@ -33,41 +35,13 @@ abbrev pub AreBelow : List Span → List Span → Type 0
 AreBelow xs ys = AllZip Within xs ys
 
 below_itself : (xs : List Span) → AreBelow xs xs
-below_itself [] = tt
-below_itself (x ∷ xs) = (within_refl x, below_itself xs)
-
-below_append : (xs ys us vs : List Span) → AreBelow xs ys → AreBelow us vs → AreBelow (xs ++ us) (ys ++ vs)
-below_append [] [] us vs h k = k
-below_append [] (y ∷ ys) us vs h k = absurd h
-below_append (x ∷ xs) [] us vs h k = absurd h
-below_append (x ∷ xs) (y ∷ ys) us vs h k = (h.0, below_append xs ys us vs h.1 k)
-
-below_drop : (n : ℕ) (xs ys : List Span) → AreBelow xs ys → AreBelow (drop n xs) (drop n ys)
-below_drop zero xs ys h = h
-below_drop (suc n) [] [] h = tt
-below_drop (suc n) [] (y ∷ ys) h = absurd h
-below_drop (suc n) (x ∷ xs) [] h = absurd h
-below_drop (suc n) (x ∷ xs) (y ∷ ys) h = below_drop n xs ys h.1
+below_itself xs = below_same Within within_refl xs
 
 pub own_operand : (xs : List Span) (k : ℕ) → All IsWord xs → IsWord (operand xs k)
-own_operand [] k h = word_full
-own_operand (x ∷ xs) zero h = All-head IsWord x xs h
-own_operand (x ∷ xs) (suc k) h = own_operand xs k (All-tail IsWord x xs h)
+own_operand xs k h = read_own IsWord full word_full xs k h
 
 pub operand_up : (xs ys : List Span) (k : ℕ) → AreBelow xs ys → Within (operand xs k) (operand ys k)
-operand_up [] [] k h = within_refl full
-operand_up [] (y ∷ ys) k h = absurd h
-operand_up (x ∷ xs) [] k h = absurd h
-operand_up (x ∷ xs) (y ∷ ys) zero h = h.0
-operand_up (x ∷ xs) (y ∷ ys) (suc k) h = operand_up xs ys k h.1
-
-own_shuffled : (ks : List ℕ) (s : List Span) → All IsWord s → All IsWord (map (operand s) ks)
-own_shuffled [] s h = All-nil IsWord
-own_shuffled (k ∷ ks) s h = All-cons IsWord (operand s k) (map (operand s) ks) (own_operand s k h) (own_shuffled ks s h)
-
-shuffled_up : (ks : List ℕ) (s t : List Span) → AreBelow s t → AreBelow (map (operand s) ks) (map (operand t) ks)
-shuffled_up [] s t h = tt
-shuffled_up (k ∷ ks) s t h = (operand_up s t k h, shuffled_up ks s t h)
+operand_up xs ys k h = read_up Within full (within_refl full) xs ys k h
 
 -- ---- either of two
 
@@ -111,18 +85,15 @@ kind_word kinds.Void = word_full
 pub range_word : (p : Part) → IsWord (range_of p)
 range_word p = kind_word p.kind
 
-one_own : (x : Span) → IsWord x → All IsWord (x ∷ [])
-one_own x own = All-cons IsWord x [] own (All-nil IsWord)
-
 own_result : (p : Part) → All IsWord (result_ranges p)
 own_result p = go (is_void p.kind)
   where
     go : (b : Bool) → All IsWord (cond b [] (range_of p ∷ []))
     go true = All-nil IsWord
-    go false = one_own (range_of p) (range_word p)
+    go false = one_own IsWord (range_of p) (range_word p)
 
 own_field : (constant : Option ℤ) (p : Part) → All IsWord (field_range constant p)
-own_field (Some z) p = one_own (exactly z) (exactly_word z)
+own_field (Some z) p = one_own IsWord (exactly z) (exactly_word z)
 own_field None p = own_result p
 
 own_got : (put : Bool) (xs : List Span) → All IsWord xs → All IsWord (cond put [] xs)
@@ -194,16 +165,16 @@ loaded_up false s t h = h
 module _ (constant : MemberId → Option ℤ) where
   own_gives : (op : JOp) (cells : List Cell) (locals s : List Span) → All IsWord locals → All IsWord s → All IsWord (gives constant op cells locals s)
   own_gives jop.Nop cells locals s own_l own_s = All-nil IsWord
-  own_gives jop.Null cells locals s own_l own_s = one_own full word_full
-  own_gives (jop.Number z) cells locals s own_l own_s = one_own (exactly z) (exactly_word z)
-  own_gives (jop.Load refs k) cells locals s own_l own_s = one_own _ (own_loaded refs (operand locals k) (own_operand locals k own_l))
+  own_gives jop.Null cells locals s own_l own_s = one_own IsWord full word_full
+  own_gives (jop.Number z) cells locals s own_l own_s = one_own IsWord (exactly z) (exactly_word z)
+  own_gives (jop.Load refs k) cells locals s own_l own_s = one_own IsWord _ (own_loaded refs (operand locals k) (own_operand locals k own_l))
   own_gives (jop.Store refs k) cells locals s own_l own_s = All-nil IsWord
-  own_gives (jop.ArrayLoad opcode) cells locals s own_l own_s = one_own _ (own_element opcode (typed.operand cells 1))
+  own_gives (jop.ArrayLoad opcode) cells locals s own_l own_s = one_own IsWord _ (own_element opcode (typed.operand cells 1))
   own_gives (jop.ArrayStore opcode) cells locals s own_l own_s = All-nil IsWord
-  own_gives (jop.Stack opcode) cells locals s own_l own_s = own_shuffled (shuffled opcode) s own_s
-  own_gives (jop.Arith opcode) cells locals s own_l own_s = one_own _ (own_arithmetic opcode s own_s)
+  own_gives (jop.Stack opcode) cells locals s own_l own_s = all_read_own IsWord full word_full (shuffled opcode) s own_s
+  own_gives (jop.Arith opcode) cells locals s own_l own_s = one_own IsWord _ (own_arithmetic opcode s own_s)
   own_gives (jop.Inc k by) cells locals s own_l own_s = All-nil IsWord
-  own_gives (jop.Narrow opcode) cells locals s own_l own_s = one_own _ (own_narrowed opcode (operand s 0) (own_operand s 0 own_s))
+  own_gives (jop.Narrow opcode) cells locals s own_l own_s = one_own IsWord _ (own_narrowed opcode (operand s 0) (own_operand s 0 own_s))
   own_gives (jop.If opcode target) cells locals s own_l own_s = All-nil IsWord
   own_gives (jop.Goto target) cells locals s own_l own_s = All-nil IsWord
   own_gives (jop.TableSwitch other low targets) cells locals s own_l own_s = All-nil IsWord
@@ -212,17 +183,17 @@ module _ (constant : MemberId → Option ℤ) where
   own_gives (jop.Static put field) cells locals s own_l own_s = own_got put _ (own_field (constant field) (parts field.desc).result)
   own_gives (jop.Field put field) cells locals s own_l own_s = own_got put _ (own_result (parts field.desc).result)
   own_gives (jop.Call opcode method) cells locals s own_l own_s = own_result (parts method.desc).result
-  own_gives (jop.New class) cells locals s own_l own_s = one_own full word_full
-  own_gives (jop.NewArray number) cells locals s own_l own_s = one_own full word_full
-  own_gives (jop.ANewArray class) cells locals s own_l own_s = one_own full word_full
-  own_gives jop.ArrayLength cells locals s own_l own_s = one_own length_range length_word
+  own_gives (jop.New class) cells locals s own_l own_s = one_own IsWord full word_full
+  own_gives (jop.NewArray number) cells locals s own_l own_s = one_own IsWord full word_full
+  own_gives (jop.ANewArray class) cells locals s own_l own_s = one_own IsWord full word_full
+  own_gives jop.ArrayLength cells locals s own_l own_s = one_own IsWord length_range length_word
   own_gives jop.Throw cells locals s own_l own_s = All-nil IsWord
-  own_gives (jop.CheckCast class) cells locals s own_l own_s = one_own full word_full
-  own_gives (jop.InstanceOf class) cells locals s own_l own_s = one_own boolean_range boolean_word
+  own_gives (jop.CheckCast class) cells locals s own_l own_s = one_own IsWord full word_full
+  own_gives (jop.InstanceOf class) cells locals s own_l own_s = one_own IsWord boolean_range boolean_word
 
   gives_up : (op : JOp) (cells : List Cell) (locals more s t : List Span) → All IsWord s → All IsWord t → AreBelow locals more → AreBelow s t → AreBelow (gives constant op cells locals s) (gives constant op cells more t)
   gives_up (jop.Load refs k) cells locals more s t own_s own_t h k' = (loaded_up refs (operand locals k) (operand more k) (operand_up locals more k h), tt)
-  gives_up (jop.Stack opcode) cells locals more s t own_s own_t h k = shuffled_up (shuffled opcode) s t k
+  gives_up (jop.Stack opcode) cells locals more s t own_s own_t h k = all_read_up Within full (within_refl full) (shuffled opcode) s t k
   gives_up (jop.Arith opcode) cells locals more s t own_s own_t h k = (arithmetic_up opcode s t own_s own_t k, tt)
   gives_up (jop.Narrow opcode) cells locals more s t own_s own_t h k = (narrowed_up opcode (operand s 0) (operand t 0) (own_operand s 0 own_s) (own_operand t 0 own_t) (operand_up s t 0 k), tt)
   gives_up jop.Nop cells locals more s t own_s own_t h k = tt
@@ -254,7 +225,7 @@ module _ (constant : MemberId → Option ℤ) where
   own_behind op cells locals s own_l own_s = All-append IsWord (gives constant op cells locals s) (drop (takes op) s) (own_gives op cells locals s own_l own_s) (All-drop IsWord (takes op) s own_s)
 
   behind_up : (op : JOp) (cells : List Cell) (locals more s t : List Span) → All IsWord s → All IsWord t → AreBelow locals more → AreBelow s t → AreBelow (stack_behind constant op cells locals s) (stack_behind constant op cells more t)
-  behind_up op cells locals more s t own_s own_t h k = below_append (gives constant op cells locals s) (gives constant op cells more t) (drop (takes op) s) (drop (takes op) t) (gives_up op cells locals more s t own_s own_t h k) (below_drop (takes op) s t k)
+  behind_up op cells locals more s t own_s own_t h k = below_append Within (gives constant op cells locals s) (gives constant op cells more t) (drop (takes op) s) (drop (takes op) t) (gives_up op cells locals more s t own_s own_t h k) (below_drop Within (takes op) s t k)
 
   own_stack : (op : JOp) (cells : List Cell) (locals : List Span) (s : StackOf Span) → All IsWord locals → IsStack spans s → IsStack spans (stack_after constant op cells locals s)
   own_stack op cells locals Clash own_l own_s = tt

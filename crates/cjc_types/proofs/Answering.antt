@@ -1,6 +1,5 @@
 -- What the first rule that is found says of the rows of a table, and that a method has one least table.
-use Rattle.std.proofs.Common.{◌≡◌, ◌⊎◌, ◌≤◌, ◌<◌, ◌+◌, ℕ, zero, suc, Bool, true, false, cond, nat_lt, List, [], ◌∷◌, length, drop, slice_get, get_or, Option, Some, None, refl, sym, ◌∙◌, ap, subst, inl, inr, add-zero, zero-add, arith}
-use Rattle.std.proofs.lemmas.Bool.{ltb-true, ltb-false}
+use Rattle.std.proofs.Common.{◌≡◌, ◌⊎◌, ◌≤◌, ◌<◌, ◌+◌, ℕ, zero, suc, Bool, true, false, cond, List, [], ◌∷◌, length, drop, slice_get, get_or, Option, Some, None, refl, sym, ◌∙◌, ap, subst, add-zero, zero-add, arith}
 use Rattle.std.proofs.lemmas.List.{drop_more}
 use Rattle.std.proofs.lemmas.Option.{slice_get_within, slice_get-get_or, slice_get_read, get_or_from_slice_get}
 use Rattle.cjc_code.specs.declared.insn.JInsn.{JInsn}
@@ -17,6 +16,7 @@ use Rattle.cjc_types.specs.Flow.{Body}
 use Rattle.cjc_types.specs.Rules.{is_wrong, is_off, Breaks, clash, wrong, off, rule_of_stack, first_rule}
 use Rattle.cjc_types.specs.Search.{row_rule, or_later, first_from, cells_of, frame_of, frames_of}
 use Rattle.cjc_types.specs.Tables.{state_of, states_of, Breach, FirstBreach}
+use Rattle.cjc_types.proofs.Firsts.{is_first}
 
 -- ---- the first rule of a state
 
@@ -174,18 +174,7 @@ first_breach w b rows f e = subst (λ (k : ℕ). FirstBreach w b rows k f.rule) 
     earlier k r h lt = let other = breach_at w b rows k r h in found.before k other.0 lt other.1
 
     first : (k r : ℕ) → Breach w b rows k r → (found.index < k) ⊎ ((found.index ≡ k) × (f.rule ≤ r))
-    first k r h = go (nat_lt found.index k) refl
-      where
-        go : (is : Bool) → nat_lt found.index k ≡ is → (found.index < k) ⊎ ((found.index ≡ k) × (f.rule ≤ r))
-        go true e = inl (ltb-true found.index k e)
-        go false e =
-            let le = ltb-false found.index k e in
-            let same : found.index ≡ k = at_most (nat_lt k found.index) refl le in
-            inr (same, level k r same h)
-          where
-            at_most : (is : Bool) → nat_lt k found.index ≡ is → k ≤ found.index → found.index ≡ k
-            at_most true e le = absurd (earlier k r h (ltb-true k found.index e))
-            at_most false e le = let ge = ltb-false k found.index e in omega (arith, le, ge)
+    first = is_first (λ (k r : ℕ). Breach w b rows k r) found.index f.rule earlier level
 
 -- ---- frames
 

@@ -4,21 +4,45 @@ use Rattle.std.proofs.lemmas.List.{take_more, drop_more, take_all, drop_all, set
 use Rattle.cjc_fixpoint.specs.Lattice.{joined}
 use Rattle.cjc_fixpoint.proofs.Lattices.{joined_more, length-joined}
 
-pub joined_set : {X : Type 0} (join : X → X → X) (xs ys : List X) (i : ℕ) (x y z u : X) (cells : List X) → i < length xs → length xs ≡ length ys → cells ≡ take i (joined join xs ys) ++ drop i xs
-    → x ≡ get_or cells i x → y ≡ get_or ys i y → z ≡ join x y → slice_set (slice_set cells i u) i z ≡ take (i + 1) (joined join xs ys) ++ drop (i + 1) xs
-joined_set {X} join xs ys i x y z u cells lt same is is_x is_y is_z =
+-- The cells at one place of the loop: those before it are joined, and what is read there is still the first's.
+record IsAtPlace {X : Type 0} (join : X → X → X) (xs ys : List X) (i : ℕ) (z : X) (cells : List X) : Type 0 where
+  front : List X
+  sized : length front ≡ i
+  here : X
+  split : cells ≡ front ++ here ∷ drop (i + 1) xs
+  more : front ++ z ∷ [] ≡ take (i + 1) (joined join xs ys)
+
+at_place : {X : Type 0} (join : X → X → X) (xs ys : List X) (i : ℕ) (x y z : X) (cells : List X) → i < length xs → length xs ≡ length ys → cells ≡ take i (joined join xs ys) ++ drop i xs
+    → x ≡ get_or cells i x → y ≡ get_or ys i y → z ≡ join x y → IsAtPlace join xs ys i z cells
+at_place {X} join xs ys i x y z cells lt same is is_x is_y is_z =
     let front : List X = take i (joined join xs ys) in
     let all = length-joined join xs ys same in
     let sized : length front ≡ i = length-take-le i (joined join xs ys) (omega (arith, all, lt)) in
     let here : X = get_or xs i x in
     let split : cells ≡ front ++ here ∷ drop (i + 1) xs = is ∙ ap (λ (zs : List X). front ++ zs) (drop_more xs i x lt) in
     let read : x ≡ get_or xs i x = is_x ∙ ap (λ (zs : List X). get_or zs i x) split ∙ get_or_at front here (drop (i + 1) xs) x i sized in
-    let more : front ++ z ∷ [] ≡ take (i + 1) (joined join xs ys) = joined_more join xs ys i x y z front lt same read is_y is_z refl in
-    ap (λ (zs : List X). slice_set (slice_set zs i u) i z) split
-    ∙ ap (λ (zs : List X). slice_set zs i z) (set_at front here (drop (i + 1) xs) u i sized)
-    ∙ set_at front u (drop (i + 1) xs) z i sized
-    ∙ sym (append_assoc front (z ∷ []) (drop (i + 1) xs))
-    ∙ ap (λ (zs : List X). zs ++ drop (i + 1) xs) more
+    record { front = front; sized = sized; here = here; split = split; more = joined_more join xs ys i x y z front lt same read is_y is_z refl }
+
+-- what is joined is put there
+pub joined_put : {X : Type 0} (join : X → X → X) (xs ys : List X) (i : ℕ) (x y z : X) (cells : List X) → i < length xs → length xs ≡ length ys → cells ≡ take i (joined join xs ys) ++ drop i xs
+    → x ≡ get_or cells i x → y ≡ get_or ys i y → z ≡ join x y → slice_set cells i z ≡ take (i + 1) (joined join xs ys) ++ drop (i + 1) xs
+joined_put {X} join xs ys i x y z cells lt same is is_x is_y is_z =
+    let at = at_place join xs ys i x y z cells lt same is is_x is_y is_z in
+    ap (λ (zs : List X). slice_set zs i z) at.split
+    ∙ set_at at.front at.here (drop (i + 1) xs) z i at.sized
+    ∙ sym (append_assoc at.front (z ∷ []) (drop (i + 1) xs))
+    ∙ ap (λ (zs : List X). zs ++ drop (i + 1) xs) at.more
+
+-- the same, where another cell is put there first
+pub joined_set : {X : Type 0} (join : X → X → X) (xs ys : List X) (i : ℕ) (x y z u : X) (cells : List X) → i < length xs → length xs ≡ length ys → cells ≡ take i (joined join xs ys) ++ drop i xs
+    → x ≡ get_or cells i x → y ≡ get_or ys i y → z ≡ join x y → slice_set (slice_set cells i u) i z ≡ take (i + 1) (joined join xs ys) ++ drop (i + 1) xs
+joined_set {X} join xs ys i x y z u cells lt same is is_x is_y is_z =
+    let at = at_place join xs ys i x y z cells lt same is is_x is_y is_z in
+    ap (λ (zs : List X). slice_set (slice_set zs i u) i z) at.split
+    ∙ ap (λ (zs : List X). slice_set zs i z) (set_at at.front at.here (drop (i + 1) xs) u i at.sized)
+    ∙ set_at at.front u (drop (i + 1) xs) z i at.sized
+    ∙ sym (append_assoc at.front (z ∷ []) (drop (i + 1) xs))
+    ∙ ap (λ (zs : List X). zs ++ drop (i + 1) xs) at.more
 
 pub joined_end : {X : Type 0} (join : X → X → X) (xs ys : List X) (i : ℕ) (cells : List X) → length xs ≡ length ys → length ys ≡ i → cells ≡ take i (joined join xs ys) ++ drop i xs → cells ≡ joined join xs ys
 joined_end {X} join xs ys i cells same end is =

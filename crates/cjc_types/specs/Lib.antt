@@ -2,6 +2,7 @@ pub mod Names
 pub mod Working
 pub mod Cells
 pub mod States
+pub mod Stacks
 pub mod Types
 pub mod Steps
 pub mod Flow

@@ -2,8 +2,10 @@
 pub mod NameLaws
 pub mod Merging
 pub mod CellLaws
+pub mod StackLaws
 pub mod StateLaws
 pub mod TypeLaws
+pub mod OperandLaws
 pub mod StepLaws
 pub mod FlowLaws
 pub mod Marking

@@ -20,7 +20,7 @@ ghost use Rattle.cjc_types.specs.declared.table.TypeTable.{TypeTable as Types};
 
 use crate::marks::marks_of;
 use crate::method::Method;
-use crate::repeats::{MarkedMethod, bounds};
+use crate::repeats::{MarkedMethod, bounds_of};
 use crate::rules;
 use crate::state::State;
 use crate::table::{Frame, TypeTable, frame_in};
@@ -172,7 +172,7 @@ fn types_of(alloc: Global, world: &World<'_>, method: &Method<'_>) -> Result<Typ
     ensures { Answers (all_classes world.now) method.now result }
 {
     let marks = marks_of(alloc, method)?;
-    let bounds = bounds(alloc, method.insns, method.catches)?;
+    let bounds = bounds_of(alloc, method)?;
     let marked = MarkedMethod {
         method,
         marks: &marks,

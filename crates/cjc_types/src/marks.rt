@@ -4,8 +4,8 @@ ghost use Rattle.std.specs.Prelude.{◌≡◌, false, replicate, length, IfOk, O
 ghost use Rattle.cjc_types.specs.Marks.{marks_of as marks_by};
 ghost use Rattle.cjc_types.specs.Working.Marking.{with_mark, with_offsets, with_jumps, with_handlers, with_all};
 
+use crate::insns;
 use crate::method::Method;
-use crate::steps;
 use cjc_bytes::{NoMemory, Row};
 use std::alloc::Global;
 
@@ -35,7 +35,7 @@ fn mark_jumps(alloc: Global, method: &Method<'_>, marked: &mut Vec<bool>) -> Res
     ensures { OnOk result (marked.new.items ≡ with_jumps method.now.insns marked.old.items method.now.insns) }
 {
     for insn in method.insns {
-        let offsets = steps::targets(alloc, &insn.op)?;
+        let offsets = insns::targets(alloc, &insn.op)?;
         mark_offsets(method, marked, offsets.items());
     }
     Ok(())

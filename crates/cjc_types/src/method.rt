@@ -1,6 +1,6 @@
 //! A method as a dataflow problem, whose places are its instructions.
 
-ghost use Rattle.std.specs.Prelude.{◌≡◌, ◌<◌, ◌≤◌, ◌+◌, ◌^◌, [], ◌∷◌, ◌++◌, map, filter_map, length, slice_get, option_to_list, IfOk, OnOk};
+ghost use Rattle.std.specs.Prelude.{◌≡◌, ◌<◌, ◌≤◌, ◌+◌, ◌^◌, [], ◌∷◌, ◌++◌, map, filter_map, length, slice_get, option_map, IfOk, OnOk};
 ghost use Rattle.cjc_types.specs.Flow.{Body, body_of, arguments as arguments_of, entry as entry_of, place_at as place_by, next_place as next_by, successors as successors_of, edge, covers as covers_offset, caught_type as type_caught, caught as caught_by, handler_edge as handler_edge_of, insn_edges as insn_edges_of, place_edges as edges_of_place};
 ghost use Rattle.cjc_types.specs.Index.{AreInOrder};
 ghost use Rattle.cjc_types.specs.Tables.{IsMethodOf, IsOfPackage};
@@ -12,8 +12,9 @@ ghost use Rattle.cjc_classfile.specs.declared.tree.MethodTree.{MethodTree as Cla
 
 use crate::cell::Cell;
 use crate::operands::Operands;
+use crate::rows::{put_all, put_some};
 use crate::state::{self, Stack, State};
-use crate::{index, names, steps, types};
+use crate::{index, insns, names, steps, types};
 use cjc_bytes::{Bytes, NoMemory, Row, is_static};
 use cjc_classfile::{Catch, ClassTree, Code, MethodTree};
 use cjc_code::{JInsn, JOp, MethodCode};
@@ -58,7 +59,7 @@ fn caught_type(class: &Option<Bytes>) -> &[u8]
 }
 
 /// Whether a handler is that of the instruction at an offset.
-fn covers(catch: &Catch, offset: u32) -> bool
+pub fn covers(catch: &Catch, offset: u32) -> bool
     ensures { result ≡ covers_offset catch.now offset }
 {
     u32::from(catch.start) <= offset && offset < u32::from(catch.end)
@@ -92,26 +93,6 @@ fn edges_to(alloc: Global, state: State, places: &[u32]) -> Result<Row<Edge<Stat
         edges.push(Edge { to: *last, state })?;
     }
     Ok(edges)
-}
-
-/// Puts the item at the end, where there is one.
-fn put_some<T: Drop>(row: &mut Row<T>, item: Option<T>) -> Result<(), NoMemory>
-    ensures { OnOk result (row.new ≡ row.old ++ option_to_list item) }
-{
-    match item {
-        Some(item) => row.push(item),
-        None => Ok(()),
-    }
-}
-
-/// Puts edges at the end.
-fn put_edges(edges: &mut Row<Edge<State>>, more: Row<Edge<State>>) -> Result<(), NoMemory>
-    ensures { OnOk result (edges.new ≡ edges.old ++ more) }
-{
-    for edge in more.into_vec() {
-        edges.push(edge)?;
-    }
-    Ok(())
 }
 
 /// Puts what values of the parameters are at the end.
@@ -162,8 +143,50 @@ impl<'a> Method<'a> {
         }
     }
 
+    /// The instructions, in order.
+    pub fn insns(&self) -> &'a [JInsn]
+        ensures { result.now ≡ self.now.insns }
+    {
+        self.insns
+    }
+
+    /// The handlers, in the order of the class file.
+    pub fn catches(&self) -> &'a [Catch]
+        ensures { result.now ≡ self.now.catches }
+    {
+        self.catches
+    }
+
+    /// The method's access flags.
+    pub fn flags(&self) -> u16
+        ensures { result ≡ self.now.flags }
+    {
+        self.flags
+    }
+
+    /// The method's descriptor.
+    pub fn desc(&self) -> &'a [u8]
+        ensures { result.now ≡ self.now.desc }
+    {
+        self.desc
+    }
+
+    /// The number of locals.
+    pub fn max_locals(&self) -> u16
+        ensures { result ≡ self.now.max_locals }
+    {
+        self.max_locals
+    }
+
+    /// The instruction at a place.
+    pub fn insn_at(&self, at: u32) -> Option<&'a JInsn>
+        ensures { option_map (λ insn. insn.now) result ≡ slice_get self.now.insns at }
+    {
+        self.insns.get(at as usize)
+    }
+
     /// The number of instructions.
-    pub(crate) fn places(&self) -> u32
+    pub fn places(&self) -> u32
         ensures { result ≡ length self.now.insns }
     {
         self.insns.len() as u32
@@ -183,7 +206,7 @@ impl<'a> Method<'a> {
     }
 
     /// The place of the instruction at an offset.
-    pub(crate) fn place_at(&self, offset: u32) -> Option<u32>
+    pub fn place_at(&self, offset: u32) -> Option<u32>
         ensures { result ≡ place_by self.now.insns offset }
     {
         index::place_at(self.insns, offset)
@@ -212,13 +235,13 @@ impl<'a> Method<'a> {
     }
 
     /// The places of the instructions that may follow.
-    fn successors(&self, alloc: Global, at: u32, op: &JOp) -> Result<Row<u32>, NoMemory>
+    pub fn successors(&self, alloc: Global, at: u32, op: &JOp) -> Result<Row<u32>, NoMemory>
         requires { at < length self.now.insns }
         ensures { IfOk result (λ places. places ≡ successors_of self.now.insns at op.now) }
     {
         let mut places = Row::new(alloc);
-        self.put_next(&mut places, steps::goes_on(op), at)?;
-        let offsets = steps::targets(alloc, op)?;
+        self.put_next(&mut places, insns::goes_on(op), at)?;
+        let offsets = insns::targets(alloc, op)?;
         self.put_places(&mut places, offsets.items())?;
         Ok(places)
     }
@@ -278,7 +301,7 @@ impl<'a> Method<'a> {
         let places = self.successors(alloc, at, &insn.op)?;
         let after = steps::after(alloc, &insn.op, before)?;
         let mut edges = edges_to(alloc, after, places.items())?;
-        put_edges(&mut edges, handled)?;
+        put_all(&mut edges, handled)?;
         Ok(edges)
     }
 
@@ -311,7 +334,7 @@ impl<'a> Method<'a> {
             return Ok(None);
         }
         let op = &self.insns[at as usize].op;
-        if !steps::goes_on(op) {
+        if !insns::goes_on(op) {
             return Ok(None);
         }
         Ok(Some(steps::after(alloc, op, before)?))

@@ -1,15 +1,16 @@
 //! Methods with their marked places: which of the others hand nothing to handlers but what the place before hands to them,
-//! so that they need not be asked for it again. Called by inference.rt. Knows no solver but as the flow that is asked.
+//! so that they need not be asked for it again. Called by inference.rt, and by the flows of crates above that hand to handlers
+//! by the same locals. Knows no solver but as the flow that is asked.
 
 ghost use Rattle.std.specs.Prelude.{◌≡◌, ◌<◌, true, false, slice_get, slice_set, IfOk};
 ghost use Rattle.cjc_types.specs.Flow.{type_flow};
 ghost use Rattle.cjc_types.specs.Index.{AreInOrder};
 ghost use Rattle.cjc_types.specs.Marks.{marks_of};
-ghost use Rattle.cjc_types.specs.Repeats.{IsFrom, CoverAlike, keeps_locals as is_keeping_locals, repeats_by};
+ghost use Rattle.cjc_types.specs.Repeats.{IsFrom, CoverAlike, keeps_locals as is_keeping_locals, repeats_at as repeats_here, repeats_by};
 
+use crate::insns;
 use crate::method::Method;
 use crate::state::State;
-use crate::steps;
 use cjc_bytes::{NoMemory, Row};
 use cjc_classfile::Catch;
 use cjc_code::{JInsn, JOp};
@@ -44,11 +45,7 @@ fn put_bound(bounds: &mut Vec<bool>, place: usize)
 }
 
 /// The places at which ranges of handlers begin or end: where an instruction is the first one from there on.
-pub(crate) fn bounds(
-    alloc: Global,
-    insns: &[JInsn],
-    catches: &[Catch],
-) -> Result<Row<bool>, NoMemory>
+fn bounds(alloc: Global, insns: &[JInsn], catches: &[Catch]) -> Result<Row<bool>, NoMemory>
     requires { AreInOrder insns.now }
     ensures { IfOk result (λ bounds. CoverAlike insns.now bounds catches.now) }
 {
@@ -78,8 +75,34 @@ fn repeats_behind(insns: &[JInsn], before: usize, here: usize) -> bool
     ensures { result ≡ repeats_by false (slice_get insns.now before) (slice_get insns.now here) }
 {
     match (insns.get(before), insns.get(here)) {
-        (Some(before), Some(here)) => !steps::jumps(&here.op) && keeps_locals(&before.op),
+        (Some(before), Some(here)) => !insns::jumps(&here.op) && keeps_locals(&before.op),
         _ => false,
+    }
+}
+
+/// The places at which ranges of a method's handlers begin or end.
+pub fn bounds_of(alloc: Global, method: &Method<'_>) -> Result<Row<bool>, NoMemory>
+    ensures { IfOk result (λ bounds. CoverAlike method.now.insns bounds method.now.catches) }
+{
+    bounds(alloc, method.insns, method.catches)
+}
+
+/// Whether a place is neither marked nor at a bound, does not jump, and stands behind an instruction that keeps the locals:
+/// then it hands its handlers nothing that the place before does not hand them.
+pub fn repeats_at(method: &Method<'_>, marks: &[u32], bounds: &[bool], at: u32) -> bool
+    requires { marks.now ≡ marks_of method.now }
+    ensures { result ≡ repeats_here method.now bounds.now at }
+{
+    let here = at as usize;
+    if here == 0 {
+        return false;
+    }
+    if is_marked(marks, at) {
+        return false;
+    }
+    match bounds.get(here) {
+        Some(true) => false,
+        _ => repeats_behind(method.insns, here - 1, here),
     }
 }
 
@@ -146,26 +169,15 @@ impl Flow for MarkedMethod<'_> {
 }
 
 impl Repeating for MarkedMethod<'_> {
-    ghost use Rattle.cjc_types.specs.Repeats.{repeats_at};
+    ghost use Rattle.cjc_types.specs.Repeats.{repeats_at as repeats_here};
     ghost use Rattle.cjc_types.specs.Working.RepeatLaws.{repeats_are};
 
-    ghost again = { λ m at. repeats_at m.method.now m.bounds.now at };
+    ghost again = { λ m at. repeats_here m.method.now m.bounds.now at };
 
     ghost repeated = { λ m. repeats_are m.method.now m.bounds.now m.alike };
 
     fn repeats(&self, at: u32) -> bool {
-        let here = at as usize;
-        if here == 0 {
-            return false;
-        }
-        if is_marked(self.marks.items(), at) {
-            return false;
-        }
-        let method = self.method;
-        match self.bounds.get(here) {
-            Some(true) => false,
-            _ => repeats_behind(method.insns, here - 1, here),
-        }
+        repeats_at(self.method, self.marks.items(), self.bounds, at)
     }
 
     fn pass(&self, alloc: Global, at: u32, before: State) -> Result<Option<State>, NoMemory> {

@@ -14,7 +14,7 @@ use crate::cell::Cell;
 use crate::method::Method;
 use crate::operands::Operands;
 use crate::state::{Stack, State};
-use crate::{steps, types};
+use crate::{insns, steps, types};
 use cjc_bytes::{Bytes, Kind, MemberId, is_private};
 use cjc_code::JOp;
 use cjc_world::{Found, Known, World};
@@ -378,7 +378,7 @@ fn is_wrong(
 ) -> bool
     ensures { result ≡ is_stack_wrong (all_classes world.now) method.now op.now locals.now stack.now }
 {
-    has_wrong_operand(world, method, op, steps::takes(op), stack)
+    has_wrong_operand(world, method, op, insns::takes(op), stack)
         || has_wrong_local(op, locals)
         || is_wrong_return(method, op)
 }
@@ -388,7 +388,7 @@ fn is_off(method: &Method<'_>, op: &JOp, height: usize) -> bool
     ensures { (locals stack : List Word) → height ≡ length stack → result ≡ is_stack_off method.now op.now locals stack }
 {
     let max_stack = method.max_stack as usize;
-    let taken = steps::takes(op);
+    let taken = insns::takes(op);
     height < taken || max_stack < height || max_stack < height - taken + steps::gives_count(op)
 }
 

@@ -1,8 +1,7 @@
-//! What an instruction takes from the stack, gives to it, and does to the locals.
+//! What an instruction gives to the stack, and does to the locals.
 
-ghost use Rattle.std.specs.Prelude.{◌≡◌, ◌+◌, ◌≤◌, List, [], ◌∷◌, ◌++◌, map, length, drop, slice_set, if◌then◌else◌, IfOk};
-ghost use Rattle.cjc_types.specs.Steps.{operand, stack_takes as stack_takes_of, compares as compares_by, receivers as receivers_of, takes as takes_of, shuffled, local_value as value_of_local, gives, stack_behind, stack_after, stored as stored_by, locals_after, after as state_after, goes_on as goes_on_past, targets as targets_of, case_target};
-ghost use Rattle.cjc_types.specs.Repeats.{jumps as is_jump};
+ghost use Rattle.std.specs.Prelude.{◌≡◌, ◌≤◌, List, [], ◌∷◌, ◌++◌, map, length, drop, slice_set, if◌then◌else◌, IfOk};
+ghost use Rattle.cjc_types.specs.Steps.{operand, local_value as value_of_local, gives, stack_behind, stack_after, stored as stored_by, locals_after, after as state_after};
 ghost use Rattle.cjc_types.specs.Types.{parts, result_of, element_of, as_reference, array_of as array_of_name};
 ghost use Rattle.cjc_types.specs.declared.cell.Cell.{Cell as Known};
 ghost use Rattle.cjc_types.specs.declared.cell.Cell.TheVariants as cells_of;
@@ -10,72 +9,10 @@ ghost use Rattle.cjc_types.specs.declared.cell.Cell.TheVariants as cells_of;
 use crate::cell::{self, Cell};
 use crate::operands::{Operands, put_on};
 use crate::state::{self, Stack, State};
-use crate::{names, types};
+use crate::{insns, names, types};
 use cjc_bytes::{Bytes, MemberId, NoMemory, Row};
-use cjc_code::{JCase, JOp};
+use cjc_code::JOp;
 use std::alloc::Global;
-
-fn stack_takes(opcode: u8) -> usize
-    ensures { result ≡ stack_takes_of opcode }
-{
-    match opcode {
-        0x57 | 0x59 => 1,
-        0x58 | 0x5A | 0x5C | 0x5F => 2,
-        0x5B | 0x5D => 3,
-        0x5E => 4,
-        _ => 0,
-    }
-}
-
-fn compares(opcode: u8) -> bool
-    ensures { result ≡ compares_by opcode }
-{
-    0x9F <= opcode && opcode <= 0xA6
-}
-
-/// How many receivers a call by this opcode has.
-pub(crate) fn receivers(opcode: u8) -> usize
-    ensures count { result ≡ receivers_of opcode }
-    ensures small { result ≤ 1 }
-{
-    if opcode == 0xB8 { 0 } else { 1 }
-}
-
-/// How many operands a call takes.
-fn call_takes(opcode: u8, method: &MemberId) -> usize
-    ensures { result ≡ length (parts method.now.desc).params + receivers_of opcode }
-{
-    types::parameters(method.desc.items()) + receivers(opcode)
-}
-
-fn either(test: bool, yes: usize, no: usize) -> usize
-    ensures { result ≡ (if test then yes else no) }
-{
-    if test { yes } else { no }
-}
-
-/// How many operands an instruction takes from the stack.
-pub(crate) fn takes(op: &JOp) -> usize
-    ensures { result ≡ takes_of op.now }
-{
-    match op {
-        JOp::Store { .. } | JOp::Narrow(_) | JOp::TableSwitch { .. } | JOp::LookupSwitch { .. } => {
-            1
-        }
-        JOp::NewArray(_) | JOp::ANewArray(_) | JOp::ArrayLength | JOp::Throw => 1,
-        JOp::CheckCast(_) | JOp::InstanceOf(_) => 1,
-        JOp::ArrayLoad(_) => 2,
-        JOp::ArrayStore(_) => 3,
-        JOp::Stack(opcode) => stack_takes(*opcode),
-        JOp::Arith(opcode) => either(*opcode == 0x74, 1, 2),
-        JOp::If { op: opcode, .. } => either(compares(*opcode), 2, 1),
-        JOp::Return(opcode) => either(*opcode == 0xB1, 0, 1),
-        JOp::Static { put, .. } => either(*put, 1, 0),
-        JOp::Field { put, .. } => either(*put, 2, 1),
-        JOp::Call { op: opcode, method } => call_takes(*opcode, method),
-        _ => 0,
-    }
-}
 
 /// The k-th operand from the top, once more.
 fn copied_operand(alloc: Global, stack: &Operands, k: usize) -> Result<Cell, NoMemory>
@@ -115,22 +52,6 @@ fn local_value(alloc: Global, refs: bool, locals: &[Cell], local: u16) -> Result
         Some(cell) if refs => types::as_reference(alloc, cell),
         None if refs => Ok(Cell::Unusable),
         _ => Ok(Cell::Number),
-    }
-}
-
-/// Which operands a stack instruction puts back.
-fn shuffle(opcode: u8) -> &'static [u8]
-    ensures { result.now ≡ shuffled opcode }
-{
-    match opcode {
-        0x59 => &[0, 0],
-        0x5A => &[0, 1, 0],
-        0x5B => &[0, 1, 2, 0],
-        0x5C => &[0, 1, 0, 1],
-        0x5D => &[0, 1, 2, 0, 1],
-        0x5E => &[0, 1, 2, 3, 0, 1],
-        0x5F => &[1, 0],
-        _ => &[],
     }
 }
 
@@ -190,7 +111,7 @@ fn given(alloc: Global, op: &JOp, locals: &[Cell], stack: &Operands) -> Result<R
         JOp::ArrayLength | JOp::InstanceOf(_) => one(alloc, Cell::Number),
         JOp::Load { refs, local } => one(alloc, local_value(alloc, *refs, locals, *local)?),
         JOp::ArrayLoad(opcode) => one(alloc, element(alloc, *opcode, stack)?),
-        JOp::Stack(opcode) => operands(alloc, stack, shuffle(*opcode)),
+        JOp::Stack(opcode) => operands(alloc, stack, insns::shuffle(*opcode)),
         JOp::Static { put, field } => got(alloc, *put, field),
         JOp::Field { put, field } => got(alloc, *put, field),
         JOp::Call { method, .. } => types::given_by(alloc, method.desc.items()),
@@ -205,7 +126,7 @@ fn given(alloc: Global, op: &JOp, locals: &[Cell], stack: &Operands) -> Result<R
 fn result_gives(desc: &[u8]) -> usize
     ensures { result ≡ length (result_of (parts desc.now).result) }
 {
-    either(types::has_result(desc), 1, 0)
+    insns::either(types::has_result(desc), 1, 0)
 }
 
 /// How many cells an instruction puts on the stack.
@@ -217,9 +138,9 @@ pub(crate) fn gives_count(op: &JOp) -> usize
         JOp::Null | JOp::Number(_) | JOp::Arith(_) | JOp::Narrow(_) | JOp::Load { .. } => 1,
         JOp::ArrayLoad(_) | JOp::ArrayLength | JOp::InstanceOf(_) => 1,
         JOp::New(_) | JOp::CheckCast(_) | JOp::NewArray(_) | JOp::ANewArray(_) => 1,
-        JOp::Stack(opcode) => shuffle(*opcode).len(),
+        JOp::Stack(opcode) => insns::shuffle(*opcode).len(),
         JOp::Static { put, field } | JOp::Field { put, field } => {
-            either(*put, 0, result_gives(field.desc.items()))
+            insns::either(*put, 0, result_gives(field.desc.items()))
         }
         JOp::Call { method, .. } => result_gives(method.desc.items()),
         _ => 0,
@@ -232,7 +153,7 @@ fn behind(alloc: Global, op: &JOp, locals: &[Cell], stack: Operands) -> Result<O
 {
     let mut stack = stack;
     let given = given(alloc, op, locals, &stack)?;
-    stack.take_off(takes(op));
+    stack.take_off(insns::takes(op));
     put_on(&mut stack, given)?;
     Ok(stack)
 }
@@ -295,58 +216,4 @@ pub(crate) fn after(alloc: Global, op: &JOp, before: State) -> Result<State, NoM
     let locals = after_locals(alloc, op, locals, &stack)?;
     let stack = after_stack(alloc, op, locals.items(), stack)?;
     Ok(State { stack, locals })
-}
-
-/// Whether the next instruction may follow.
-pub(crate) fn goes_on(op: &JOp) -> bool
-    ensures { result ≡ goes_on_past op.now }
-{
-    match op {
-        JOp::Goto(_) | JOp::TableSwitch { .. } | JOp::LookupSwitch { .. } => false,
-        JOp::Return(_) | JOp::Throw => false,
-        _ => true,
-    }
-}
-
-/// Whether an instruction may go elsewhere than to the next.
-pub(crate) fn jumps(op: &JOp) -> bool
-    ensures { result ≡ is_jump op.now }
-{
-    match op {
-        JOp::If { .. } | JOp::Goto(_) | JOp::TableSwitch { .. } | JOp::LookupSwitch { .. } => true,
-        _ => false,
-    }
-}
-
-fn offsets(alloc: Global, first: u32, more: &[u32]) -> Result<Row<u32>, NoMemory>
-    ensures { IfOk result (λ offsets. offsets ≡ first ∷ more.now) }
-{
-    let mut offsets = Vec::new(alloc);
-    offsets.push(first)?;
-    offsets.extend_from_slice(more)?;
-    Ok(Row::of(offsets))
-}
-
-fn case_offsets(alloc: Global, first: u32, cases: &[JCase]) -> Result<Row<u32>, NoMemory>
-    ensures { IfOk result (λ offsets. offsets ≡ first ∷ map case_target cases.now) }
-{
-    let mut offsets = Row::new(alloc);
-    offsets.push(first)?;
-    for case in cases {
-        offsets.push(case.target)?;
-    }
-    Ok(offsets)
-}
-
-/// The offsets that an instruction may jump to.
-pub(crate) fn targets(alloc: Global, op: &JOp) -> Result<Row<u32>, NoMemory>
-    ensures { IfOk result (λ offsets. offsets ≡ targets_of op.now) }
-{
-    match op {
-        JOp::If { target, .. } => offsets(alloc, *target, &[]),
-        JOp::Goto(target) => offsets(alloc, *target, &[]),
-        JOp::TableSwitch { other, targets, .. } => offsets(alloc, *other, targets.items()),
-        JOp::LookupSwitch { other, cases } => case_offsets(alloc, *other, cases.items()),
-        _ => Ok(Row::new(alloc)),
-    }
 }

@@ -13,7 +13,7 @@ use std::alloc::Global;
 
 /// The parts of a descriptor, or nothing where the bytes are none.
 #[tactic(auto, unfolding(crate::specs::Types::parts))]
-pub(crate) fn parsed(desc: &[u8]) -> Option<Desc<'_>>
+pub fn parsed(desc: &[u8]) -> Option<Desc<'_>>
     ensures { parts_or_none result ≡ parts desc.now }
 {
     if desc.len() >= 1 << 32 {

@@ -16,7 +16,7 @@ use Rattle.cjc_fixpoint.specs.Marked.{marks_in}
 use Rattle.cjc_fixpoint.specs.Working.Edges.{contains_head, contains_tail, contains_cons}
 use Rattle.cjc_fixpoint.specs.Working.SegmentLaws.{contains_none, kept_from}
 use Rattle.cjc_fixpoint.proofs.Marked.{kept_are, kept_has}
-use Rattle.cjc_fixpoint.proofs.Runs.{no_mark}
+use Rattle.cjc_fixpoint.proofs.Runs.{mark_is, no_mark}
 use Rattle.cjc_fixpoint.proofs.Listing.{more_append}
 use Rattle.cjc_types.specs.declared.state.State.{State}
 use Rattle.cjc_types.specs.Steps.{after, goes_on, targets}
@@ -33,11 +33,11 @@ or_false : (a : Bool) → a ≡ (a || false)
 or_false true = refl
 or_false false = refl
 
-or_true : (a : Bool) → (a || true) ≡ true
+pub or_true : (a : Bool) → (a || true) ≡ true
 or_true true = refl
 or_true false = refl
 
-same_self : (n : ℕ) → (n == n) ≡ true
+pub same_self : (n : ℕ) → (n == n) ≡ true
 same_self n = go (n == n) refl
   where
     go : (b : Bool) → (n == n) ≡ b → b ≡ true
@@ -150,14 +150,14 @@ marks_same b =
 
 -- ---- where edges go
 
-any_has : {X : Type 0} (p : X → Bool) (xs : List X) (x : X) → Contains xs x → p x ≡ true → list_any p xs ≡ true
+pub any_has : {X : Type 0} (p : X → Bool) (xs : List X) (x : X) → Contains xs x → p x ≡ true → list_any p xs ≡ true
 any_has p [] x has e = absurd (contains_none x has)
 any_has p (y ∷ ys) x has e = elim (contains_cons y ys x has) [
   | inl same ↦ ap (λ (b : Bool). b || list_any p ys) (ap p same ∙ e)
   | inr later ↦ ap (λ (b : Bool). p y || b) (any_has p ys x later e) ∙ or_true (p y)
 ]
 
-contains_at : {X : Type 0} (xs : List X) (k : ℕ) (x : X) → slice_get xs k ≡ Some x → Contains xs x
+pub contains_at : {X : Type 0} (xs : List X) (k : ℕ) (x : X) → slice_get xs k ≡ Some x → Contains xs x
 contains_at xs k x e = (k, slice_get_within xs k x e, get_or_from_slice_get xs k x x e)
 
 pub map_from : {X Y : Type 0} (f : X → Y) (xs : List X) (y : Y) → Contains (map f xs) y → (x : X) × Contains xs x × (f x ≡ y)
@@ -174,11 +174,11 @@ place_within : (insns : List JInsn) (offset to : ℕ) → place_at insns offset 
 place_within insns offset to e = (position-Some (λ (i : JInsn). i.at == offset) insns to (record { at = 0; op = jop.Nop }) e).0
 
 -- the place is marked
-record IsMark (b : Body) (to : ℕ) : Type 0 where
-  inside : to < length b.insns
-  marked : is_marked b to ≡ true
+pub record IsMark (b : Body) (to : ℕ) : Type 0 where
+  pub inside : to < length b.insns
+  pub marked : is_marked b to ≡ true
 
-jump_marked : (b : Body) (at : ℕ) (insn : JInsn) (to : ℕ) → slice_get b.insns at ≡ Some insn → Contains (filter_map (place_at b.insns) (targets insn.op)) to → IsMark b to
+pub jump_marked : (b : Body) (at : ℕ) (insn : JInsn) (to : ℕ) → slice_get b.insns at ≡ Some insn → Contains (filter_map (place_at b.insns) (targets insn.op)) to → IsMark b to
 jump_marked b at insn to is has =
     let from = kept_from (place_at b.insns) (targets insn.op) to has in
     let jumps : is_jumped_to b to ≡ true = any_has (λ (i : JInsn). leads_to b.insns (targets i.op) to) b.insns insn (contains_at b.insns at insn is)
@@ -196,15 +196,18 @@ handler_to insns offset x c e is = go (covers c offset) (place_at insns c.target
     go true (Some to) h = let same : edge (caught c x) to ≡ e = cc in ap (λ (f : Edge State). Some f.to) same
     go false o h = absurd cc
 
+pub handles_marked : (b : Body) (c : Catch) (to : ℕ) → Contains b.catches c → place_at b.insns c.target ≡ Some to → IsMark b to
+handles_marked b c to has found =
+    let handles : is_handler b to ≡ true = any_has (λ (d : Catch). is_place (place_at b.insns d.target) to) b.catches c has (placed_at b c.target to found) in
+    record {
+      inside = place_within b.insns c.target to found;
+      marked = ap (λ (h : Bool). (to == 0) || (is_jumped_to b to || h)) handles ∙ ap (λ (j : Bool). (to == 0) || j) (or_true (is_jumped_to b to)) ∙ or_true (to == 0);
+    }
+
 handler_marked : (b : Body) (offset : ℕ) (x : State) (e : Edge State) → Contains (filter_map (handler_edge b.insns offset x) b.catches) e → IsMark b e.to
 handler_marked b offset x e has =
     let from = kept_from (handler_edge b.insns offset x) b.catches e has in
-    let found = handler_to b.insns offset x from.0 e from.2 in
-    let handles : is_handler b e.to ≡ true = any_has (λ (c : Catch). is_place (place_at b.insns c.target) e.to) b.catches from.0 from.1 (placed_at b from.0.target e.to found) in
-    record {
-      inside = place_within b.insns from.0.target e.to found;
-      marked = ap (λ (h : Bool). (e.to == 0) || (is_jumped_to b e.to || h)) handles ∙ ap (λ (j : Bool). (e.to == 0) || j) (or_true (is_jumped_to b e.to)) ∙ or_true (e.to == 0);
-    }
+    handles_marked b from.0 e.to from.1 (handler_to b.insns offset x from.0 e from.2)
 
 mark_in : (b : Body) (to : ℕ) → IsMark b to → Contains (marks_of b) to
 mark_in b to h = let lt = h.inside in kept_has (is_marked b) 0 (length b.insns) to (omega arith) (omega (arith, lt)) h.marked
@@ -248,40 +251,57 @@ marks_are b = kept_are (is_marked b) (length b.insns) (λ some. refl)
 
 -- ---- what goes on to a place without a mark
 
-merged_none : (flow : Dataflow State) (row : Option State) → merged flow row None ≡ row
+merged_none : {S : Type 0} (flow : Dataflow S) (row : Option S) → merged flow row None ≡ row
 merged_none flow None = refl
 merged_none flow (Some x) = refl
 
-none_handed : (flow : Dataflow State) (to : ℕ) (row : Option State) (es : List (Edge State)) → ((e : Edge State) → Contains es e → e.to ≢ to) → handed_more flow to row es ≡ row
+none_handed : {S : Type 0} (flow : Dataflow S) (to : ℕ) (row : Option S) (es : List (Edge S)) → ((e : Edge S) → Contains es e → e.to ≢ to) → handed_more flow to row es ≡ row
 none_handed flow to row [] h = refl
-none_handed flow to row (e ∷ es) h = go (none_handed flow to row es (λ f has. h f (contains_tail e es f has))) (e.to == to) refl
+none_handed {S} flow to row (e ∷ es) h = go (none_handed flow to row es (λ f has. h f (contains_tail e es f has))) (e.to == to) refl
   where
     go : handed_more flow to row es ≡ row → (is : Bool) → (e.to == to) ≡ is → handed_more flow to (merged flow row (cond is (Some e.state) None)) es ≡ row
     go rest true is = absurd (h e (contains_head e es) (eqb-true e.to to is))
-    go rest false is = ap (λ (r : Option State). handed_more flow to r es) (merged_none flow row) ∙ rest
+    go rest false is = ap (λ (r : Option S). handed_more flow to r es) (merged_none flow row) ∙ rest
 
-not_marked : (b : Body) (to : ℕ) → mark_of (marks_of b) to ≡ None → IsMark b to → ⊥
-not_marked b to none h =
-    let has = mark_in b to h in
-    no_mark (marks_of b) (marks_are b).ascending has.0 to none (slice_get-get_or (marks_of b) has.0 to has.1 ∙ ap Some has.2)
+pub either_way : {S : Type 0} (x : S) (b : Bool) → x ≡ cond b x x
+either_way x true = refl
+either_way x false = refl
 
-abbrev nothing : Option State
-nothing = None
+abbrev arriving : {S : Type 0} → Dataflow S → (to : ℕ) → Edge S → Option S
+arriving flow to e = merged flow None (cond (e.to == to) (Some e.state) None)
 
-never : (lt : Bool) → nothing ≡ cond lt nothing nothing
-never true = refl
-never false = refl
-
-handed_next : (flow : Dataflow State) (on : Bool) (places at : ℕ) (y : State) → handed_more flow (suc at) None (map (edge y) (next_place on places at)) ≡ cond (nat_lt (at + 1) places) (cond on (Some y) None) None
-handed_next flow false places at y = never (nat_lt (at + 1) places)
-handed_next flow true places at y = go (nat_lt (at + 1) places)
+handed_next : {S : Type 0} (flow : Dataflow S) (edge_to : ℕ → Edge S) (on : Bool) (places at : ℕ) (y : S) → edge_to (suc at) ≡ record { to = suc at; state = y } → handed_more flow (suc at) None (map edge_to (next_place on places at)) ≡ cond (nat_lt (at + 1) places) (cond on (Some y) None) None
+handed_next flow edge_to false places at y is = either_way None (nat_lt (at + 1) places)
+handed_next {S} flow edge_to true places at y is = go (nat_lt (at + 1) places)
   where
-    same : (at + 1 == suc at) ≡ true
-    same = let e : at + 1 ≡ suc at = omega arith in rw e (same_self (suc at))
+    arrives : (n : ℕ) → n ≡ suc at → arriving flow (suc at) (edge_to n) ≡ Some y
+    arrives n same =
+        ap (λ (k : ℕ). arriving flow (suc at) (edge_to k)) same
+        ∙ ap (arriving flow (suc at)) is
+        ∙ ap (λ (here : Bool). merged flow None (cond here (Some y) None)) (same_self (suc at))
 
-    go : (lt : Bool) → handed_more flow (suc at) None (map (edge y) (cond lt ((at + 1) ∷ []) [])) ≡ cond lt (Some y) None
-    go true = ap (λ (is : Bool). merged flow None (cond is (Some y) None)) same
+    go : (lt : Bool) → handed_more flow (suc at) None (map edge_to (cond lt ((at + 1) ∷ []) [])) ≡ cond lt (Some y) None
+    go true = arrives (at + 1) (omega arith)
     go false = refl
+
+-- of an instruction that hands one state to those that may follow, where neither its jumps nor its handlers lead to the place behind
+pub handed_behind : {S : Type 0} (flow : Dataflow S) (b : Body) (at : ℕ) (insn : JInsn) (edge_to : ℕ → Edge S) (handlers : List (Edge S)) (y : S) → ((to : ℕ) → (edge_to to).to ≡ to) → edge_to (suc at) ≡ record { to = suc at; state = y }
+    → ((to : ℕ) → Contains (filter_map (place_at b.insns) (targets insn.op)) to → to ≢ suc at) → ((e : Edge S) → Contains handlers e → e.to ≢ suc at)
+    → handed flow (suc at) (map edge_to (successors b.insns at insn.op) ++ handlers) ≡ cond (nat_lt (at + 1) (length b.insns)) (cond (goes_on insn.op) (Some y) None) None
+handed_behind {S} flow b at insn edge_to handlers y goes is jumped handled =
+    let next = next_place (goes_on insn.op) (length b.insns) at in
+    let jumps = filter_map (place_at b.insns) (targets insn.op) in
+    let no_handler = none_handed flow (suc at) (handed_more flow (suc at) None (map edge_to (next ++ jumps))) handlers handled in
+    let no_jump = none_handed flow (suc at) (handed_more flow (suc at) None (map edge_to next)) (map edge_to jumps)
+    (λ e has same.
+    let from = map_from edge_to jumps e has in
+    jumped from.0 from.1 (sym (goes from.0) ∙ ap (λ (f : Edge S). f.to) from.2 ∙ same)) in
+    more_append flow (suc at) None (map edge_to (next ++ jumps)) handlers
+    ∙ no_handler
+    ∙ ap (λ (es : List (Edge S)). handed_more flow (suc at) None es) (map-append edge_to next jumps)
+    ∙ more_append flow (suc at) None (map edge_to next) (map edge_to jumps)
+    ∙ no_jump
+    ∙ handed_next flow edge_to (goes_on insn.op) (length b.insns) at y is
 
 -- no jump of the instruction and no handler leads to the place behind
 pub record LeadsOn (b : Body) (at : ℕ) : Type 0 where
@@ -292,27 +312,86 @@ pub leads_on : (b : Body) (at : ℕ) (x : State) → LeadsOn b at → handed_on 
 leads_on b at x free = go (slice_get b.insns at) refl
   where
     go : (o : Option JInsn) → slice_get b.insns at ≡ o → handed (type_flow b) (suc at) (place_edges b at o x) ≡ cond (nat_lt (at + 1) (length b.insns)) (gone_on_by o x) None
-    go None is = never (nat_lt (at + 1) (length b.insns))
+    go None is = either_way None (nat_lt (at + 1) (length b.insns))
     go (Some insn) is =
-        let flow = type_flow b in
-        let y = after insn.op x in
-        let next = next_place (goes_on insn.op) (length b.insns) at in
-        let jumps = filter_map (place_at b.insns) (targets insn.op) in
-        let handlers = filter_map (handler_edge b.insns insn.at x) b.catches in
-        let no_handler = none_handed flow (suc at) (handed_more flow (suc at) None (map (edge y) (next ++ jumps))) handlers (λ e has. free.handlers insn.at x e has) in
-        let no_jump = none_handed flow (suc at) (handed_more flow (suc at) None (map (edge y) next)) (map (edge y) jumps)
-        (λ e has same.
-        let from = map_from (edge y) jumps e has in
-        free.jumps insn is from.0 from.1 (ap (λ (f : Edge State). f.to) from.2 ∙ same)) in
-        more_append flow (suc at) None (map (edge y) (next ++ jumps)) handlers
-        ∙ no_handler
-        ∙ ap (λ (es : List (Edge State)). handed_more flow (suc at) None es) (map-append (edge y) next jumps)
-        ∙ more_append flow (suc at) None (map (edge y) next) (map (edge y) jumps)
-        ∙ no_jump
-        ∙ handed_next flow (goes_on insn.op) (length b.insns) at y
+        handed_behind (type_flow b) b at insn (edge (after insn.op x)) (filter_map (handler_edge b.insns insn.at x) b.catches) (after insn.op x) (λ to. refl) refl
+        (λ to has. free.jumps insn is to has) (λ e has. free.handlers insn.at x e has)
 
-pub passed : (b : Body) (at : ℕ) (x : State) → mark_of (marks_of b) (suc at) ≡ None → handed_on (type_flow b) at (Some x) ≡ gone_on b at x
-passed b at x none = leads_on b at x (record {
+not_marked : (b : Body) (to : ℕ) → mark_of (marks_of b) to ≡ None → IsMark b to → ⊥
+not_marked b to none h =
+    let has = mark_in b to h in
+    no_mark (marks_of b) (marks_are b).ascending has.0 to none (slice_get-get_or (marks_of b) has.0 to has.1 ∙ ap Some has.2)
+
+pub leads_unmarked : (b : Body) (at : ℕ) → mark_of (marks_of b) (suc at) ≡ None → LeadsOn b at
+leads_unmarked b at none = record {
   jumps = λ insn is to has same. not_marked b (suc at) none (subst (IsMark b) same (jump_marked b at insn to is has));
   handlers = λ offset y e has same. not_marked b (suc at) none (subst (IsMark b) same (handler_marked b offset y e has));
-})
+}
+
+pub passed : (b : Body) (at : ℕ) (x : State) → mark_of (marks_of b) (suc at) ≡ None → handed_on (type_flow b) at (Some x) ≡ gone_on b at x
+passed b at x none = leads_on b at x (leads_unmarked b at none)
+
+-- ---- a place is marked where it is among the marks
+
+any_from : {X : Type 0} (p : X → Bool) (xs : List X) → list_any p xs ≡ true → (x : X) × Contains xs x × (p x ≡ true)
+any_from p [] e = absurd cc
+any_from {X} p (y ∷ ys) e = go (p y) refl e (any_from p ys)
+  where
+    go : (b : Bool) → p y ≡ b → (b || list_any p ys) ≡ true → (list_any p ys ≡ true → (x : X) × Contains ys x × (p x ≡ true)) → (x : X) × Contains (y ∷ ys) x × (p x ≡ true)
+    go true is h rest = (y, contains_head y ys, is)
+    go false is h rest = let from = rest h in (from.0, contains_tail y ys from.0 from.1, from.2)
+
+filter_only : {X : Type 0} (p : X → Bool) (xs : List X) (x : X) → Contains (filter p xs) x → p x ≡ true
+filter_only p [] x has = absurd (contains_none x has)
+filter_only p (y ∷ ys) x has = go (p y) refl has (filter_only p ys x)
+  where
+    go : (b : Bool) → p y ≡ b → Contains (cond b (y ∷ filter p ys) (filter p ys)) x → (Contains (filter p ys) x → p x ≡ true) → p x ≡ true
+    go false e has rest = rest has
+    go true e has rest = elim (contains_cons y (filter p ys) x has) [
+      | inl one ↦ ap p (sym one) ∙ e
+      | inr more ↦ rest more
+    ]
+
+placed_within : (b : Body) (offset to : ℕ) → is_place (place_at b.insns offset) to ≡ true → to < length b.insns
+placed_within b offset to e = go (place_at b.insns offset) refl e
+  where
+    go : (o : Option ℕ) → place_at b.insns offset ≡ o → is_place o to ≡ true → to < length b.insns
+    go None is h = absurd cc
+    go (Some place) is h = let same = eqb-true place to h in let lt = place_within b.insns offset place is in omega (arith, same, lt)
+
+-- where a jump, a switch or a handler leads there is an instruction
+pub target_within : (b : Body) (to : ℕ) → (is_jumped_to b to || is_handler b to) ≡ true → to < length b.insns
+target_within b to h = go (is_jumped_to b to) refl h
+  where
+    go : (j : Bool) → is_jumped_to b to ≡ j → (j || is_handler b to) ≡ true → to < length b.insns
+    go true is e =
+        let insn = any_from (λ (i : JInsn). leads_to b.insns (targets i.op) to) b.insns is in
+        let offset = any_from (λ offset. is_place (place_at b.insns offset) to) (targets (insn.0).op) insn.2 in
+        placed_within b offset.0 to offset.2
+    go false is e =
+        let c = any_from (λ (c : Catch). is_place (place_at b.insns c.target) to) b.catches e in
+        placed_within b (c.0).target to c.2
+
+pub mark_some : (b : Body) (to k : ℕ) → mark_of (marks_of b) to ≡ Some k → is_marked b to ≡ true
+mark_some b to k is = filter_only (is_marked b) (range_with_len 0 (length b.insns)) to (contains_at (marks_of b) k to (mark_is (marks_of b) to k is))
+
+pub mark_none : (b : Body) (to : ℕ) → (to ≡ 0 → 0 < length b.insns) → mark_of (marks_of b) to ≡ None → is_marked b to ≡ false
+mark_none b to some none = go (is_marked b to) refl
+  where
+    inside : is_marked b to ≡ true → to < length b.insns
+    inside e = by_place (to == 0) refl e
+      where
+        by_place : (z : Bool) → (to == 0) ≡ z → (z || (is_jumped_to b to || is_handler b to)) ≡ true → to < length b.insns
+        by_place true is h = let zero_is = eqb-true to 0 is in let lt = some zero_is in omega (arith, zero_is, lt)
+        by_place false is h = target_within b to h
+
+    go : (m : Bool) → is_marked b to ≡ m → m ≡ false
+    go false e = refl
+    go true e = absurd (not_marked b to none (record { inside = inside e; marked = e }))
+
+pub unmarked_none : (b : Body) (to : ℕ) → is_marked b to ≡ false → mark_of (marks_of b) to ≡ None
+unmarked_none b to e = go (mark_of (marks_of b) to) refl
+  where
+    go : (m : Option ℕ) → mark_of (marks_of b) to ≡ m → m ≡ None
+    go None is = refl
+    go (Some k) is = let yes = mark_some b to k is in absurd cc

@@ -9,7 +9,8 @@ use Rattle.cjc_code.specs.declared.insn.JInsn.{JInsn}
 use Rattle.cjc_code.specs.declared.insn.JOp.{JOp}
 use Rattle.cjc_code.specs.declared.insn.JOp.TheVariants as jop
 use Rattle.cjc_fixpoint.specs.declared.flow.Edge.{Edge}
-use Rattle.cjc_fixpoint.specs.Kept.{mark_of}
+use Rattle.cjc_fixpoint.specs.Dataflow.{Dataflow}
+use Rattle.cjc_fixpoint.specs.Kept.{handed, mark_of}
 use Rattle.cjc_fixpoint.specs.Shortened.{IsRepeated, AreRepeats}
 use Rattle.cjc_fixpoint.specs.Working.Edges.{contains_cons}
 use Rattle.cjc_fixpoint.specs.Working.SegmentLaws.{contains_none, contains_kept, kept_from}
@@ -19,7 +20,7 @@ use Rattle.cjc_types.specs.declared.state.Stack.{Stack}
 use Rattle.cjc_types.specs.declared.state.Stack.TheVariants.{Cells}
 use Rattle.cjc_types.specs.declared.state.State.{State}
 use Rattle.cjc_types.specs.Steps.{locals_after, after, goes_on, targets}
-use Rattle.cjc_types.specs.Flow.{Body, place_at, next_place, successors, edge, covers, caught_type, caught, handler_edge, insn_edges, place_edges, type_flow}
+use Rattle.cjc_types.specs.Flow.{Body, place_at, next_place, successors, edge, covers, caught_type, caught, handler_edge, place_edges, type_flow}
 use Rattle.cjc_types.specs.Marks.{marks_of}
 use Rattle.cjc_types.specs.Working.Onward.{gone_on_by, gone_on}
 use Rattle.cjc_types.specs.Repeats.{IsFrom, CoverAlike, keeps_locals, jumps, repeats_by, repeats_at}
@@ -121,49 +122,73 @@ past_zero at = go (suc at == 0) refl
     go true e = let same = eqb-true (suc at) 0 e in absurd (omega (arith, same))
     go false e = refl
 
-module _ (b : Body) (bounds : List Bool) (cover : CoverAlike b.insns bounds b.catches) where
-  same_handler : (at : ℕ) (i j : JInsn) (x y : State) (c : Catch) → slice_get b.insns at ≡ Some i → slice_get b.insns (suc at) ≡ Some j → get_or bounds (suc at) false ≡ false → x.locals ≡ y.locals → Contains b.catches c → handler_edge b.insns i.at x c ≡ handler_edge b.insns j.at y c
-  same_handler at i j x y c is_i is_j off locals has =
-      ap (λ (is : Bool). cond is (option_map (edge (caught c x)) (place_at b.insns c.target)) None) (cover c has at i j is_i is_j off)
-      ∙ ap (λ (l : List Cell). cond (covers c j.at) (option_map (edge (record { stack = Cells (Refs (caught_type c.class ∷ []) ∷ []); locals = l })) (place_at b.insns c.target)) None) locals
+-- A flow over the instructions of a method, with what is handed to a handler of an instruction at an offset.
+module _ {S : Type 0} (b : Body) (flow : Dataflow S) (to_handler : (offset : ℕ) → S → Catch → Option (Edge S)) where
+  pub record GoesByInsns : Type 0 where
+    -- each edge is one to a place that may follow, or one to a handler
+    pub edges : (at : ℕ) (j : JInsn) (y : S) (e : Edge S) → slice_get b.insns at ≡ Some j → Contains (flow.edges at y) e → Contains (successors b.insns at j.op) e.to ⊎ Contains (filter_map (to_handler j.at y) b.catches) e
+    -- where an instruction keeps the locals and goes on to a place without a mark, a handler gets from that place what it got from this one
+    pub again : (at : ℕ) (i : JInsn) (x y : S) → slice_get b.insns at ≡ Some i → mark_of (marks_of b) (suc at) ≡ None → keeps_locals i.op ≡ true → handed flow (suc at) (flow.edges at x) ≡ Some y
+        → (offset : ℕ) (c : Catch) (e : Edge S) → Contains b.catches c → covers c i.at ≡ covers c offset → to_handler offset y c ≡ Some e → Contains (flow.edges at x) e
 
-  repeated : (at : ℕ) (i j : JInsn) → slice_get b.insns at ≡ Some i → slice_get b.insns (suc at) ≡ Some j → mark_of (marks_of b) (suc at) ≡ None → get_or bounds (suc at) false ≡ false → jumps j.op ≡ false → keeps_locals i.op ≡ true → IsRepeated (type_flow b) at
-  repeated at i j is_i is_j none off straight keeps x y own is_row e has =
+  module _ (by : GoesByInsns) (bounds : List Bool) (cover : CoverAlike b.insns bounds b.catches) where
+    repeated : (at : ℕ) (i j : JInsn) → slice_get b.insns at ≡ Some i → slice_get b.insns (suc at) ≡ Some j → mark_of (marks_of b) (suc at) ≡ None → get_or bounds (suc at) false ≡ false → jumps j.op ≡ false → keeps_locals i.op ≡ true → IsRepeated flow at
+    repeated at i j is_i is_j none off straight keeps x y own is_row e has =
+        elim (by.edges (suc at) j y e is_j has) [
+          | inl follows ↦
+              let there : Contains (next_place (goes_on j.op) (length b.insns) (suc at) ++ []) e.to = subst (λ (os : List ℕ). Contains (next_place (goes_on j.op) (length b.insns) (suc at) ++ filter_map (place_at b.insns) os) e.to) (no_targets j.op straight) follows in
+              elim (Contains-append_cases (next_place (goes_on j.op) (length b.insns) (suc at)) [] e.to there) [
+                | inl next ↦ inl (next_to (goes_on j.op) (length b.insns) (suc at) e.to next)
+                | inr jumped ↦ absurd (contains_none e.to jumped)
+              ]
+          | inr handled ↦
+              let from = kept_from (to_handler j.at y) b.catches e handled in
+              inr (by.again at i x y is_i none keeps is_row j.at from.0 e from.1 (cover from.0 from.1 at i j is_i is_j off) from.2)
+        ]
+
+    pub repeats_by_insns : AreRepeats flow (λ at. repeats_at b bounds at)
+    repeats_by_insns at h =
+        let before : suc at - 1 ≡ at = omega arith in
+        let h1 = subst (λ (z : Bool). cond z false (repeats_by (is_some (mark_of (marks_of b) (suc at)) || get_or bounds (suc at) false) (slice_get b.insns (suc at - 1)) (slice_get b.insns (suc at))) ≡ true) (past_zero at) h in
+        let h' = subst (λ (k : ℕ). repeats_by (is_some (mark_of (marks_of b) (suc at)) || get_or bounds (suc at) false) (slice_get b.insns k) (slice_get b.insns (suc at)) ≡ true) before h1 in
+        go (mark_of (marks_of b) (suc at)) (get_or bounds (suc at) false) (slice_get b.insns at) (slice_get b.insns (suc at)) refl refl refl refl h'
+      where
+        both : (i j : JInsn) → slice_get b.insns at ≡ Some i → slice_get b.insns (suc at) ≡ Some j → mark_of (marks_of b) (suc at) ≡ None → get_or bounds (suc at) false ≡ false → (straight keeps : Bool) → jumps j.op ≡ straight → keeps_locals i.op ≡ keeps → cond straight false keeps ≡ true → IsRepeated flow at
+        both i j is_i is_j none off true keeps s k h = absurd cc
+        both i j is_i is_j none off false true s k h = repeated at i j is_i is_j none off s k
+        both i j is_i is_j none off false false s k h = absurd cc
+
+        go : (mark : Option ℕ) (bound : Bool) (before here : Option JInsn) → mark_of (marks_of b) (suc at) ≡ mark → get_or bounds (suc at) false ≡ bound → slice_get b.insns at ≡ before → slice_get b.insns (suc at) ≡ here → repeats_by (is_some mark || bound) before here ≡ true → IsRepeated flow at
+        go (Some k) bound before here m o p q h = absurd cc
+        go None true before here m o p q h = absurd cc
+        go None false None here m o p q h = absurd cc
+        go None false (Some i) None m o p q h = absurd cc
+        go None false (Some i) (Some j) m o p q h = both i j p q m o (jumps j.op) (keeps_locals i.op) refl refl h
+
+-- ---- the flow of types
+
+module _ (b : Body) where
+  edge_cases : (at : ℕ) (j : JInsn) (y : State) (e : Edge State) → slice_get b.insns at ≡ Some j → Contains (place_edges b at (slice_get b.insns at) y) e → Contains (successors b.insns at j.op) e.to ⊎ Contains (filter_map (handler_edge b.insns j.at y) b.catches) e
+  edge_cases at j y e is_j has =
+      elim (Contains-append_cases (map (edge (after j.op y)) (successors b.insns at j.op)) (filter_map (handler_edge b.insns j.at y) b.catches) e (subst (λ (o : Option JInsn). Contains (place_edges b at o y) e) is_j has)) [
+        | inl follows ↦ let from = map_from (edge (after j.op y)) (successors b.insns at j.op) e follows in inl (subst (λ (n : ℕ). Contains (successors b.insns at j.op) n) (ap (λ (f : Edge State). f.to) from.2) from.1)
+        | inr handled ↦ inr handled
+      ]
+
+  same_handler : (offset here : ℕ) (x y : State) (c : Catch) → covers c offset ≡ covers c here → x.locals ≡ y.locals → handler_edge b.insns offset x c ≡ handler_edge b.insns here y c
+  same_handler offset here x y c covered locals =
+      ap (λ (is : Bool). cond is (option_map (edge (caught c x)) (place_at b.insns c.target)) None) covered
+      ∙ ap (λ (l : List Cell). cond (covers c here) (option_map (edge (record { stack = Cells (Refs (caught_type c.class ∷ []) ∷ []); locals = l })) (place_at b.insns c.target)) None) locals
+
+  handled_again : (at : ℕ) (i : JInsn) (x y : State) → slice_get b.insns at ≡ Some i → mark_of (marks_of b) (suc at) ≡ None → keeps_locals i.op ≡ true → handed (type_flow b) (suc at) (place_edges b at (slice_get b.insns at) x) ≡ Some y
+      → (offset : ℕ) (c : Catch) (e : Edge State) → Contains b.catches c → covers c i.at ≡ covers c offset → handler_edge b.insns offset y c ≡ Some e → Contains (place_edges b at (slice_get b.insns at) x) e
+  handled_again at i x y is_i none keeps is_row offset c e has covered is =
       let gone : gone_on b at x ≡ Some y = sym (passed b at x none) ∙ is_row in
       let is_y : after i.op x ≡ y = gone_is (nat_lt (at + 1) (length b.insns)) i x y (sym (ap (λ (o : Option JInsn). cond (nat_lt (at + 1) (length b.insns)) (gone_on_by o x) None) is_i) ∙ gone) in
       let locals : x.locals ≡ y.locals = sym (same_locals i.op x.locals x.stack keeps) ∙ ap (λ (z : State). z.locals) is_y in
-      let has' : Contains (insn_edges b (suc at) j y) e = subst (λ (o : Option JInsn). Contains (place_edges b (suc at) o y) e) is_j has in
-      elim (Contains-append_cases (map (edge (after j.op y)) (successors b.insns (suc at) j.op)) (filter_map (handler_edge b.insns j.at y) b.catches) e has') [
-        | inl follows ↦
-            let from = map_from (edge (after j.op y)) (successors b.insns (suc at) j.op) e follows in
-            let to : from.0 ≡ e.to = ap (λ (f : Edge State). f.to) from.2 in
-            let there : Contains (next_place (goes_on j.op) (length b.insns) (suc at) ++ []) from.0 = subst (λ (os : List ℕ). Contains (next_place (goes_on j.op) (length b.insns) (suc at) ++ filter_map (place_at b.insns) os) from.0) (no_targets j.op straight) from.1 in
-            elim (Contains-append_cases (next_place (goes_on j.op) (length b.insns) (suc at)) [] from.0 there) [
-              | inl next ↦ inl (sym to ∙ next_to (goes_on j.op) (length b.insns) (suc at) from.0 next)
-              | inr jumped ↦ absurd (contains_none from.0 jumped)
-            ]
-        | inr handled ↦
-            let from = kept_from (handler_edge b.insns j.at y) b.catches e handled in
-            let before : handler_edge b.insns i.at x from.0 ≡ Some e = same_handler at i j x y from.0 is_i is_j off locals from.1 ∙ from.2 in
-            inr (subst (λ (o : Option JInsn). Contains (place_edges b at o x) e) (sym is_i)
-            (Contains-append_right (map (edge (after i.op x)) (successors b.insns at i.op)) (filter_map (handler_edge b.insns i.at x) b.catches) e (contains_kept (handler_edge b.insns i.at x) b.catches from.0 e from.1 before)))
-      ]
+      let before : handler_edge b.insns i.at x c ≡ Some e = same_handler i.at offset x y c covered locals ∙ is in
+      subst (λ (o : Option JInsn). Contains (place_edges b at o x) e) (sym is_i)
+      (Contains-append_right (map (edge (after i.op x)) (successors b.insns at i.op)) (filter_map (handler_edge b.insns i.at x) b.catches) e (contains_kept (handler_edge b.insns i.at x) b.catches c e has before))
 
-  pub repeats_are : AreRepeats (type_flow b) (λ at. repeats_at b bounds at)
-  repeats_are at h =
-      let before : suc at - 1 ≡ at = omega arith in
-      let h1 = subst (λ (z : Bool). cond z false (repeats_by (is_some (mark_of (marks_of b) (suc at)) || get_or bounds (suc at) false) (slice_get b.insns (suc at - 1)) (slice_get b.insns (suc at))) ≡ true) (past_zero at) h in
-      let h' = subst (λ (k : ℕ). repeats_by (is_some (mark_of (marks_of b) (suc at)) || get_or bounds (suc at) false) (slice_get b.insns k) (slice_get b.insns (suc at)) ≡ true) before h1 in
-      go (mark_of (marks_of b) (suc at)) (get_or bounds (suc at) false) (slice_get b.insns at) (slice_get b.insns (suc at)) refl refl refl refl h'
-    where
-      by : (i j : JInsn) → slice_get b.insns at ≡ Some i → slice_get b.insns (suc at) ≡ Some j → mark_of (marks_of b) (suc at) ≡ None → get_or bounds (suc at) false ≡ false → (straight keeps : Bool) → jumps j.op ≡ straight → keeps_locals i.op ≡ keeps → cond straight false keeps ≡ true → IsRepeated (type_flow b) at
-      by i j is_i is_j none off true keeps s k h = absurd cc
-      by i j is_i is_j none off false true s k h = repeated at i j is_i is_j none off s k
-      by i j is_i is_j none off false false s k h = absurd cc
-
-      go : (mark : Option ℕ) (bound : Bool) (before here : Option JInsn) → mark_of (marks_of b) (suc at) ≡ mark → get_or bounds (suc at) false ≡ bound → slice_get b.insns at ≡ before → slice_get b.insns (suc at) ≡ here → repeats_by (is_some mark || bound) before here ≡ true → IsRepeated (type_flow b) at
-      go (Some k) bound before here m o p q h = absurd cc
-      go None true before here m o p q h = absurd cc
-      go None false None here m o p q h = absurd cc
-      go None false (Some i) None m o p q h = absurd cc
-      go None false (Some i) (Some j) m o p q h = by i j p q m o (jumps j.op) (keeps_locals i.op) refl refl h
+  pub repeats_are : (bounds : List Bool) → CoverAlike b.insns bounds b.catches → AreRepeats (type_flow b) (λ at. repeats_at b bounds at)
+  repeats_are bounds cover = repeats_by_insns b (type_flow b) (handler_edge b.insns) (record { edges = edge_cases; again = handled_again }) bounds cover

@@ -1,136 +1,101 @@
 -- Stacks and states form orders with joins.
-use Rattle.std.proofs.Common.{◌≡◌, ◌≤◌, ◌*◌, ◌==◌, ℕ, suc, Bool, true, false, cond, leb, List, [], ◌∷◌, length, sum_by, All, refl, sym, ◌∙◌, ap, subst, arith}
+use Rattle.std.proofs.Common.{◌≡◌, ◌≤◌, ◌==◌, ℕ, Bool, true, false, cond, leb, List, [], ◌∷◌, length, All, refl, sym, ◌∙◌, ap, subst}
 use Rattle.std.specs.List.{AllZip}
-use Rattle.std.proofs.lemmas.Bool.{leb-true, eqb-true, eqb-false}
-use Rattle.std.proofs.lemmas.List.Elements.{All-head, All-tail, length_all_zip, All-weaker}
-use Rattle.std.proofs.lemmas.List.Sums.{sum_by-le}
-use Rattle.std.proofs.Math.Nat.{mul-le-mul_left, mul_comm}
-use Rattle.cjc_fixpoint.specs.Lattice.{IsLattice, IsListOf, joined, lists_of}
+use Rattle.std.proofs.lemmas.List.Elements.{All-head, All-tail}
+use Rattle.cjc_fixpoint.specs.Lattice.{IsLattice, joined, lists_of}
 use Rattle.cjc_fixpoint.proofs.Lattices.{lists_lattice, parts_lattice}
 use Rattle.cjc_types.specs.declared.cell.Cell.{Cell}
 use Rattle.cjc_types.specs.declared.state.Stack.{Stack}
 use Rattle.cjc_types.specs.declared.state.Stack.TheVariants.{Cells, Clash}
 use Rattle.cjc_types.specs.declared.state.State.{State}
-use Rattle.cjc_types.specs.Cells.{most_names, IsCell, IsCellBelow, joined_cell, cell_rank, cells}
-use Rattle.cjc_types.specs.Working.CellLaws.{cell_lattice, rank_bounded, same_cell}
-use Rattle.cjc_types.specs.States.{most_cells, stack_of, IsCellStack, IsStack, IsStackBelow, joined_stack, clash_rank, stack_rank, stacks, states}
+use Rattle.cjc_types.specs.Cells.{IsCell, IsCellBelow, joined_cell, cells}
+use Rattle.cjc_types.specs.Working.CellLaws.{cell_lattice, same_cell}
+use Rattle.cjc_types.specs.States.{most_cells, stack_of, IsStack, IsStackBelow, joined_stack, clash_rank, stack_rank, stacks, states}
+use Rattle.cjc_types.specs.Stacks as any
+use Rattle.cjc_types.specs.Stacks.{StackOf}
+use Rattle.cjc_types.specs.Working.StackLaws.{stack_lattice as any_stack_lattice, own_stack_of as any_own_stack_of, stack_of_up as any_stack_of_up}
 
-lists : (n : ℕ) → IsLattice (lists_of cells n)
-lists n = lists_lattice cells cell_lattice n
+-- ---- stacks as stacks of any cells
 
-all_own : (n : ℕ) (xs : List Cell) → length xs ≡ n → All IsCell xs → IsListOf cells n xs
-all_own n xs sized own = record { sized = sized; own = own }
+abbrev stack_by : Stack → StackOf Cell
+stack_by (Cells xs) = any.Cells xs
+stack_by Clash = any.Clash
+
+own_to : (s : Stack) → IsStack s → any.IsStack cells (stack_by s)
+own_to (Cells xs) h = record { few = h.few; own = h.own }
+own_to Clash h = tt
+
+own_from : (s : Stack) → any.IsStack cells (stack_by s) → IsStack s
+own_from (Cells xs) h = record { few = h.few; own = h.own }
+own_from Clash h = tt
+
+below_to : (x y : Stack) → IsStackBelow x y → any.IsStackBelow cells (stack_by x) (stack_by y)
+below_to (Cells xs) (Cells ys) h = h
+below_to Clash (Cells ys) h = h
+below_to (Cells xs) Clash h = tt
+below_to Clash Clash h = tt
+
+below_from : (x y : Stack) → any.IsStackBelow cells (stack_by x) (stack_by y) → IsStackBelow x y
+below_from (Cells xs) (Cells ys) h = h
+below_from Clash (Cells ys) h = h
+below_from (Cells xs) Clash h = tt
+below_from Clash Clash h = tt
+
+joined_is : (x y : Stack) → any.joined_stack cells (stack_by x) (stack_by y) ≡ stack_by (joined_stack x y)
+joined_is (Cells xs) (Cells ys) = go (length xs == length ys)
+  where
+    go : (same : Bool) → cond same (any.Cells (joined joined_cell xs ys)) any.Clash ≡ stack_by (cond same (Cells (joined joined_cell xs ys)) Clash)
+    go true = refl
+    go false = refl
+joined_is (Cells xs) Clash = refl
+joined_is Clash (Cells ys) = refl
+joined_is Clash Clash = refl
+
+rank_is : (x : Stack) → any.stack_rank cells (stack_by x) ≡ stack_rank x
+rank_is (Cells xs) = refl
+rank_is Clash = refl
+
+laws : IsLattice (any.stacks_of cells)
+laws = any_stack_lattice cells cell_lattice
 
 pub stack_refl : (s : Stack) → IsStack s → IsStackBelow s s
-stack_refl (Cells xs) h = (lists (length xs)).reflexive xs (all_own (length xs) xs refl h.own)
-stack_refl Clash h = tt
-
-stack_trans : (x y z : Stack) → IsStack x → IsStack y → IsStack z → IsStackBelow x y → IsStackBelow y z → IsStackBelow x z
-stack_trans x y Clash own_x own_y own_z h k = tt
-stack_trans x Clash (Cells zs) own_x own_y own_z h k = absurd k
-stack_trans Clash (Cells ys) (Cells zs) own_x own_y own_z h k = absurd h
-stack_trans (Cells xs) (Cells ys) (Cells zs) own_x own_y own_z h k =
-    let same = length_all_zip IsCellBelow xs ys h in
-    let same' = length_all_zip IsCellBelow ys zs k in
-    (lists (length ys)).transitive xs ys zs (all_own _ xs same own_x.own) (all_own _ ys refl own_y.own) (all_own _ zs (sym same') own_z.own) h k
-
-own_join : (x y : Stack) → IsStack x → IsStack y → IsStack (joined_stack x y)
-own_join (Cells xs) (Cells ys) h k = go (length xs == length ys) refl
-  where
-    go : (b : Bool) → (length xs == length ys) ≡ b → IsStack (cond b (Cells (joined joined_cell xs ys)) Clash)
-    go true e =
-        let same = eqb-true (length xs) (length ys) e in
-        let own = (lists (length xs)).own_join xs ys (all_own _ xs refl h.own) (all_own _ ys (sym same) k.own) in
-        let sized = own.sized in
-        let few = h.few in
-        record { few = omega (arith, sized, few); own = own.own }
-    go false e = tt
-own_join (Cells xs) Clash h k = tt
-own_join Clash y h k = tt
-
-above_left : (x y : Stack) → IsStack x → IsStack y → IsStackBelow x (joined_stack x y)
-above_left (Cells xs) (Cells ys) h k = go (length xs == length ys) refl
-  where
-    go : (b : Bool) → (length xs == length ys) ≡ b → IsStackBelow (Cells xs) (cond b (Cells (joined joined_cell xs ys)) Clash)
-    go true e = (lists (length xs)).above_left xs ys (all_own _ xs refl h.own) (all_own _ ys (sym (eqb-true (length xs) (length ys) e)) k.own)
-    go false e = tt
-above_left (Cells xs) Clash h k = tt
-above_left Clash y h k = tt
-
-above_right : (x y : Stack) → IsStack x → IsStack y → IsStackBelow y (joined_stack x y)
-above_right (Cells xs) (Cells ys) h k = go (length xs == length ys) refl
-  where
-    go : (b : Bool) → (length xs == length ys) ≡ b → IsStackBelow (Cells ys) (cond b (Cells (joined joined_cell xs ys)) Clash)
-    go true e = (lists (length xs)).above_right xs ys (all_own _ xs refl h.own) (all_own _ ys (sym (eqb-true (length xs) (length ys) e)) k.own)
-    go false e = tt
-above_right (Cells xs) Clash h k = tt
-above_right Clash y h k = tt
-
-least : (x y z : Stack) → IsStack x → IsStack y → IsStack z → IsStackBelow x z → IsStackBelow y z → IsStackBelow (joined_stack x y) z
-least x y Clash own_x own_y own_z h k = tt
-least Clash y (Cells zs) own_x own_y own_z h k = absurd h
-least (Cells xs) Clash (Cells zs) own_x own_y own_z h k = absurd k
-least (Cells xs) (Cells ys) (Cells zs) own_x own_y own_z h k = go (length xs == length ys) refl
-  where
-    same : length xs ≡ length ys
-    same = length_all_zip IsCellBelow xs zs h ∙ sym (length_all_zip IsCellBelow ys zs k)
-
-    go : (b : Bool) → (length xs == length ys) ≡ b → IsStackBelow (cond b (Cells (joined joined_cell xs ys)) Clash) (Cells zs)
-    go true e = (lists (length xs)).least xs ys zs (all_own _ xs refl own_x.own) (all_own _ ys (sym same) own_y.own) (all_own _ zs (sym (length_all_zip IsCellBelow xs zs h)) own_z.own) h k
-    go false e = absurd (eqb-false (length xs) (length ys) e same)
-
-ranks : (xs : List Cell) → IsCellStack xs → sum_by cell_rank xs ≤ most_cells * suc most_names
-ranks xs h =
-    let each = sum_by-le cell_rank (suc most_names) xs (All-weaker IsCell (λ x. cell_rank x ≤ suc most_names) rank_bounded xs h.own) in
-    let few = h.few in
-    let more : suc most_names * length xs ≤ suc most_names * most_cells = mul-le-mul_left (suc most_names) few in
-    omega (arith, each, more, mul_comm (suc most_names) (length xs), mul_comm (suc most_names) most_cells)
+stack_refl s own = below_from s s (laws.reflexive (stack_by s) (own_to s own))
 
 pub stack_bounded : (x : Stack) → IsStack x → stack_rank x ≤ clash_rank
-stack_bounded (Cells xs) h = let r = ranks xs h in omega (arith, r)
-stack_bounded Clash h = omega arith
-
-ranked : (x y : Stack) → IsStack x → IsStack y → IsStackBelow x y → stack_rank x ≤ stack_rank y
-ranked x Clash own_x own_y h = stack_bounded x own_x
-ranked Clash (Cells ys) own_x own_y h = absurd h
-ranked (Cells xs) (Cells ys) own_x own_y h = (lists (length ys)).ranked xs ys (all_own _ xs (length_all_zip IsCellBelow xs ys h) own_x.own) (all_own _ ys refl own_y.own) h
-
-rises : (x y : Stack) → IsStack x → IsStack y → IsStackBelow x y → stack_rank y ≤ stack_rank x → IsStackBelow y x
-rises Clash y own_x own_y h l = tt
-rises (Cells xs) Clash own_x own_y h l = let r = ranks xs own_x in absurd (omega (arith, r, l))
-rises (Cells xs) (Cells ys) own_x own_y h l = (lists (length ys)).rises xs ys (all_own _ xs (length_all_zip IsCellBelow xs ys h) own_x.own) (all_own _ ys refl own_y.own) h l
+stack_bounded x own = subst (λ (n : ℕ). n ≤ clash_rank) (rank_is x) (laws.bounded (stack_by x) (own_to x own))
 
 pub stack_lattice : IsLattice stacks
 stack_lattice = record {
   reflexive = stack_refl;
-  transitive = stack_trans;
-  own_join = own_join;
-  above_left = above_left;
-  above_right = above_right;
-  least = least;
-  ranked = ranked;
-  rises = rises;
+  transitive = λ x y z own_x own_y own_z h k. below_from x z (laws.transitive (stack_by x) (stack_by y) (stack_by z) (own_to x own_x) (own_to y own_y) (own_to z own_z) (below_to x y h) (below_to y z k));
+  own_join = λ x y own_x own_y. own_from (joined_stack x y) (subst (any.IsStack cells) (joined_is x y) (laws.own_join (stack_by x) (stack_by y) (own_to x own_x) (own_to y own_y)));
+  above_left = λ x y own_x own_y. below_from x (joined_stack x y) (subst (any.IsStackBelow cells (stack_by x)) (joined_is x y) (laws.above_left (stack_by x) (stack_by y) (own_to x own_x) (own_to y own_y)));
+  above_right = λ x y own_x own_y. below_from y (joined_stack x y) (subst (any.IsStackBelow cells (stack_by y)) (joined_is x y) (laws.above_right (stack_by x) (stack_by y) (own_to x own_x) (own_to y own_y)));
+  least = λ x y z own_x own_y own_z h k. below_from (joined_stack x y) z (subst (λ (s : StackOf Cell). any.IsStackBelow cells s (stack_by z)) (joined_is x y) (laws.least (stack_by x) (stack_by y) (stack_by z) (own_to x own_x) (own_to y own_y) (own_to z own_z) (below_to x z h) (below_to y z k)));
+  ranked = λ x y own_x own_y h. subst (λ (n : ℕ). stack_rank x ≤ n) (rank_is y) (subst (λ (n : ℕ). n ≤ any.stack_rank cells (stack_by y)) (rank_is x) (laws.ranked (stack_by x) (stack_by y) (own_to x own_x) (own_to y own_y) (below_to x y h)));
+  rises = λ x y own_x own_y h less. below_from y x (laws.rises (stack_by x) (stack_by y) (own_to x own_x) (own_to y own_y) (below_to x y h)
+      (subst (λ (n : ℕ). n ≤ any.stack_rank cells (stack_by x)) (sym (rank_is y)) (subst (λ (n : ℕ). stack_rank y ≤ n) (sym (rank_is x)) less)));
   bounded = stack_bounded;
 }
 
 pub state_lattice : (max_locals : ℕ) → IsLattice (states max_locals)
-state_lattice max_locals = parts_lattice stacks (lists_of cells max_locals) (λ (s : State). s.stack) (λ (s : State). s.locals) (λ stack locals. record { stack = stack; locals = locals }) stack_lattice (lists max_locals) (λ a b. refl) (λ a b. refl)
+state_lattice max_locals = parts_lattice stacks (lists_of cells max_locals) (λ (s : State). s.stack) (λ (s : State). s.locals) (λ stack locals. record { stack = stack; locals = locals }) stack_lattice (lists_lattice cells cell_lattice max_locals) (λ a b. refl) (λ a b. refl)
 
 -- ---- a stack that is cut off
 
-pub own_stack_of : (xs : List Cell) → All IsCell xs → IsStack (stack_of xs)
-own_stack_of xs own = go (leb (length xs) most_cells) refl
+cut_is : (xs : List Cell) → any.stack_of xs ≡ stack_by (stack_of xs)
+cut_is xs = go (leb (length xs) most_cells)
   where
-    go : (b : Bool) → leb (length xs) most_cells ≡ b → IsStack (cond b (Cells xs) Clash)
-    go true e = record { few = leb-true _ _ e; own = own }
-    go false e = tt
+    go : (fits : Bool) → cond fits (any.Cells xs) any.Clash ≡ stack_by (cond fits (Cells xs) Clash)
+    go true = refl
+    go false = refl
+
+pub own_stack_of : (xs : List Cell) → All IsCell xs → IsStack (stack_of xs)
+own_stack_of xs own = own_from (stack_of xs) (subst (any.IsStack cells) (cut_is xs) (any_own_stack_of cells cell_lattice xs own))
 
 pub stack_of_up : (xs ys : List Cell) → AllZip IsCellBelow xs ys → IsStackBelow (stack_of xs) (stack_of ys)
-stack_of_up xs ys h = subst (λ (n : ℕ). IsStackBelow (stack_of xs) (cond (leb n most_cells) (Cells ys) Clash)) (length_all_zip IsCellBelow xs ys h) (go (leb (length xs) most_cells))
-  where
-    go : (b : Bool) → IsStackBelow (cond b (Cells xs) Clash) (cond b (Cells ys) Clash)
-    go true = h
-    go false = tt
+stack_of_up xs ys h = below_from (stack_of xs) (stack_of ys)
+    (subst (any.IsStackBelow cells (stack_by (stack_of xs))) (cut_is ys) (subst (λ (s : StackOf Cell). any.IsStackBelow cells s (any.stack_of ys)) (cut_is xs) (any_stack_of_up cells cell_lattice xs ys h)))
 
 -- ---- states each below the other are the same
 

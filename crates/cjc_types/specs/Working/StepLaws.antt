@@ -1,21 +1,22 @@
 -- What an instruction makes of own states is own, and grows with them.
-use Rattle.std.proofs.Common.{ℕ, zero, suc, Bool, true, false, cond, List, [], ◌∷◌, ◌++◌, map, drop, slice_set, All, ◌∙◌}
+use Rattle.std.proofs.Common.{ℕ, Bool, true, false, cond, List, [], ◌∷◌, drop, slice_set, All, ◌∙◌}
 use Rattle.std.specs.List.{AllZip}
 use Rattle.std.proofs.lemmas.List.{length-set}
-use Rattle.std.proofs.lemmas.List.Elements.{All-nil, All-cons, All-head, All-tail, All-append, All-drop, All-set}
+use Rattle.std.proofs.lemmas.List.Elements.{All-nil, All-append, All-drop, All-set}
 use Rattle.cjc_bytes.specs.Descriptor.{Part}
 use Rattle.cjc_code.specs.declared.insn.JOp.{JOp}
 use Rattle.cjc_code.specs.declared.insn.JOp.TheVariants as jop
 use Rattle.cjc_fixpoint.specs.Lattice.{IsListOf}
 use Rattle.cjc_fixpoint.proofs.Lattices.{zip-slice_set}
 use Rattle.cjc_types.specs.declared.cell.Cell.{Cell}
-use Rattle.cjc_types.specs.declared.cell.Cell.TheVariants.{Number, Refs}
+use Rattle.cjc_types.specs.declared.cell.Cell.TheVariants.{Number, Refs, Unusable}
 use Rattle.cjc_types.specs.declared.state.Stack.{Stack}
 use Rattle.cjc_types.specs.declared.state.Stack.TheVariants.{Cells, Clash}
 use Rattle.cjc_types.specs.declared.state.State.{State}
 use Rattle.cjc_types.specs.Cells.{IsCell, IsCellBelow, cells}
 use Rattle.cjc_types.specs.Working.CellLaws.{below_refl}
 use Rattle.cjc_types.specs.States.{IsStack, IsStackBelow, states}
+use Rattle.cjc_types.specs.Working.OperandLaws.{one_own, read_own, all_read_own, below_same, below_append, below_drop, read_up, all_read_up}
 use Rattle.cjc_types.specs.Working.StateLaws.{own_stack_of, stack_of_up}
 use Rattle.cjc_types.specs.Types.{parts, result_of}
 use Rattle.cjc_types.specs.Working.TypeLaws.{own_one, own_null, own_result, own_element, element_up, own_reference, reference_up}
@@ -27,46 +28,15 @@ abbrev pub AreBelow : List Cell → List Cell → Type 0
 AreBelow xs ys = AllZip IsCellBelow xs ys
 
 below_itself : (xs : List Cell) → AreBelow xs xs
-below_itself [] = tt
-below_itself (x ∷ xs) = (below_refl x, below_itself xs)
-
-below_append : (xs ys us vs : List Cell) → AreBelow xs ys → AreBelow us vs → AreBelow (xs ++ us) (ys ++ vs)
-below_append [] [] us vs h k = k
-below_append [] (y ∷ ys) us vs h k = absurd h
-below_append (x ∷ xs) [] us vs h k = absurd h
-below_append (x ∷ xs) (y ∷ ys) us vs h k = (h.0, below_append xs ys us vs h.1 k)
-
-below_drop : (n : ℕ) (xs ys : List Cell) → AreBelow xs ys → AreBelow (drop n xs) (drop n ys)
-below_drop zero xs ys h = h
-below_drop (suc n) [] [] h = tt
-below_drop (suc n) [] (y ∷ ys) h = absurd h
-below_drop (suc n) (x ∷ xs) [] h = absurd h
-below_drop (suc n) (x ∷ xs) (y ∷ ys) h = below_drop n xs ys h.1
+below_itself xs = below_same IsCellBelow below_refl xs
 
 pub own_operand : (xs : List Cell) (k : ℕ) → All IsCell xs → IsCell (operand xs k)
-own_operand [] k h = tt
-own_operand (x ∷ xs) zero h = All-head IsCell x xs h
-own_operand (x ∷ xs) (suc k) h = own_operand xs k (All-tail IsCell x xs h)
+own_operand xs k h = read_own IsCell Unusable tt xs k h
 
 pub operand_up : (xs ys : List Cell) (k : ℕ) → AreBelow xs ys → IsCellBelow (operand xs k) (operand ys k)
-operand_up [] [] k h = tt
-operand_up [] (y ∷ ys) k h = absurd h
-operand_up (x ∷ xs) [] k h = absurd h
-operand_up (x ∷ xs) (y ∷ ys) zero h = h.0
-operand_up (x ∷ xs) (y ∷ ys) (suc k) h = operand_up xs ys k h.1
-
-own_shuffled : (ks : List ℕ) (s : List Cell) → All IsCell s → All IsCell (map (operand s) ks)
-own_shuffled [] s h = All-nil IsCell
-own_shuffled (k ∷ ks) s h = All-cons IsCell (operand s k) (map (operand s) ks) (own_operand s k h) (own_shuffled ks s h)
-
-shuffled_up : (ks : List ℕ) (s t : List Cell) → AreBelow s t → AreBelow (map (operand s) ks) (map (operand t) ks)
-shuffled_up [] s t h = tt
-shuffled_up (k ∷ ks) s t h = (operand_up s t k h, shuffled_up ks s t h)
+operand_up xs ys k h = read_up IsCellBelow Unusable tt xs ys k h
 
 -- ---- what is given
-
-one_own : (x : Cell) → IsCell x → All IsCell (x ∷ [])
-one_own x own = All-cons IsCell x [] own (All-nil IsCell)
 
 own_local : (refs : Bool) (x : Cell) → IsCell x → IsCell (local_value refs x)
 own_local true x own = own_reference x own
@@ -82,16 +52,16 @@ own_got false p = own_result p
 
 own_gives : (op : JOp) (locals s : List Cell) → All IsCell locals → All IsCell s → All IsCell (gives op locals s)
 own_gives jop.Nop locals s own_l own_s = All-nil IsCell
-own_gives jop.Null locals s own_l own_s = one_own (Refs []) own_null
-own_gives (jop.Number z) locals s own_l own_s = one_own Number tt
-own_gives (jop.Load refs k) locals s own_l own_s = one_own _ (own_local refs (operand locals k) (own_operand locals k own_l))
+own_gives jop.Null locals s own_l own_s = one_own IsCell (Refs []) own_null
+own_gives (jop.Number z) locals s own_l own_s = one_own IsCell Number tt
+own_gives (jop.Load refs k) locals s own_l own_s = one_own IsCell _ (own_local refs (operand locals k) (own_operand locals k own_l))
 own_gives (jop.Store refs k) locals s own_l own_s = All-nil IsCell
-own_gives (jop.ArrayLoad opcode) locals s own_l own_s = one_own _ (own_element opcode (operand s 1) (own_operand s 1 own_s))
+own_gives (jop.ArrayLoad opcode) locals s own_l own_s = one_own IsCell _ (own_element opcode (operand s 1) (own_operand s 1 own_s))
 own_gives (jop.ArrayStore opcode) locals s own_l own_s = All-nil IsCell
-own_gives (jop.Stack opcode) locals s own_l own_s = own_shuffled (shuffled opcode) s own_s
-own_gives (jop.Arith opcode) locals s own_l own_s = one_own Number tt
+own_gives (jop.Stack opcode) locals s own_l own_s = all_read_own IsCell Unusable tt (shuffled opcode) s own_s
+own_gives (jop.Arith opcode) locals s own_l own_s = one_own IsCell Number tt
 own_gives (jop.Inc k by) locals s own_l own_s = All-nil IsCell
-own_gives (jop.Narrow opcode) locals s own_l own_s = one_own Number tt
+own_gives (jop.Narrow opcode) locals s own_l own_s = one_own IsCell Number tt
 own_gives (jop.If opcode target) locals s own_l own_s = All-nil IsCell
 own_gives (jop.Goto target) locals s own_l own_s = All-nil IsCell
 own_gives (jop.TableSwitch other low targets) locals s own_l own_s = All-nil IsCell
@@ -100,18 +70,18 @@ own_gives (jop.Return opcode) locals s own_l own_s = All-nil IsCell
 own_gives (jop.Static put field) locals s own_l own_s = own_got put (parts field.desc).result
 own_gives (jop.Field put field) locals s own_l own_s = own_got put (parts field.desc).result
 own_gives (jop.Call opcode method) locals s own_l own_s = own_result (parts method.desc).result
-own_gives (jop.New class) locals s own_l own_s = one_own _ (own_one class)
-own_gives (jop.NewArray number) locals s own_l own_s = one_own _ (own_one _)
-own_gives (jop.ANewArray class) locals s own_l own_s = one_own _ (own_one _)
-own_gives jop.ArrayLength locals s own_l own_s = one_own Number tt
+own_gives (jop.New class) locals s own_l own_s = one_own IsCell _ (own_one class)
+own_gives (jop.NewArray number) locals s own_l own_s = one_own IsCell _ (own_one _)
+own_gives (jop.ANewArray class) locals s own_l own_s = one_own IsCell _ (own_one _)
+own_gives jop.ArrayLength locals s own_l own_s = one_own IsCell Number tt
 own_gives jop.Throw locals s own_l own_s = All-nil IsCell
-own_gives (jop.CheckCast class) locals s own_l own_s = one_own _ (own_one class)
-own_gives (jop.InstanceOf class) locals s own_l own_s = one_own Number tt
+own_gives (jop.CheckCast class) locals s own_l own_s = one_own IsCell _ (own_one class)
+own_gives (jop.InstanceOf class) locals s own_l own_s = one_own IsCell Number tt
 
 gives_up : (op : JOp) (locals more s t : List Cell) → AreBelow locals more → AreBelow s t → AreBelow (gives op locals s) (gives op more t)
 gives_up (jop.Load refs k) locals more s t h k' = (local_up refs (operand locals k) (operand more k) (operand_up locals more k h), tt)
 gives_up (jop.ArrayLoad opcode) locals more s t h k = (element_up opcode (operand s 1) (operand t 1) (operand_up s t 1 k), tt)
-gives_up (jop.Stack opcode) locals more s t h k = shuffled_up (shuffled opcode) s t k
+gives_up (jop.Stack opcode) locals more s t h k = all_read_up IsCellBelow Unusable tt (shuffled opcode) s t k
 gives_up jop.Nop locals more s t h k = tt
 gives_up jop.Null locals more s t h k = below_itself (Refs [] ∷ [])
 gives_up (jop.Number z) locals more s t h k = (tt, tt)
@@ -142,7 +112,7 @@ own_behind : (op : JOp) (locals s : List Cell) → All IsCell locals → All IsC
 own_behind op locals s own_l own_s = All-append IsCell (gives op locals s) (drop (takes op) s) (own_gives op locals s own_l own_s) (All-drop IsCell (takes op) s own_s)
 
 pub behind_up : (op : JOp) (locals more s t : List Cell) → AreBelow locals more → AreBelow s t → AreBelow (stack_behind op locals s) (stack_behind op more t)
-behind_up op locals more s t h k = below_append (gives op locals s) (gives op more t) (drop (takes op) s) (drop (takes op) t) (gives_up op locals more s t h k) (below_drop (takes op) s t k)
+behind_up op locals more s t h k = below_append IsCellBelow (gives op locals s) (gives op more t) (drop (takes op) s) (drop (takes op) t) (gives_up op locals more s t h k) (below_drop IsCellBelow (takes op) s t k)
 
 own_stack : (op : JOp) (locals : List Cell) (s : Stack) → All IsCell locals → IsStack s → IsStack (stack_after op locals s)
 own_stack op locals Clash own_l own_s = tt

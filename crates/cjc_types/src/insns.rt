@@ -1,0 +1,145 @@
+//! What is known of an instruction by itself: how many operands it takes, which of them a stack instruction puts back, and
+//! where it may go. Called by steps.rt, method.rt, marks.rt, repeats.rt and rules.rt, and by the flows of crates above whose
+//! places are instructions too. Knows no cell and no state.
+
+ghost use Rattle.std.specs.Prelude.{◌≡◌, ◌+◌, ◌≤◌, ◌∷◌, map, length, if◌then◌else◌, IfOk};
+ghost use Rattle.cjc_types.specs.Repeats.{jumps as is_jump};
+ghost use Rattle.cjc_types.specs.Steps.{stack_takes as stack_takes_of, compares as compares_by, receivers as receivers_of, takes as takes_of, shuffled, goes_on as goes_on_past, targets as targets_of, case_target};
+ghost use Rattle.cjc_types.specs.Types.{parts};
+
+use crate::types;
+use cjc_bytes::{MemberId, NoMemory, Row};
+use cjc_code::{JCase, JOp};
+use std::alloc::Global;
+
+fn stack_takes(opcode: u8) -> usize
+    ensures { result ≡ stack_takes_of opcode }
+{
+    match opcode {
+        0x57 | 0x59 => 1,
+        0x58 | 0x5A | 0x5C | 0x5F => 2,
+        0x5B | 0x5D => 3,
+        0x5E => 4,
+        _ => 0,
+    }
+}
+
+fn compares(opcode: u8) -> bool
+    ensures { result ≡ compares_by opcode }
+{
+    0x9F <= opcode && opcode <= 0xA6
+}
+
+/// How many receivers a call by this opcode has.
+fn receivers(opcode: u8) -> usize
+    ensures count { result ≡ receivers_of opcode }
+    ensures small { result ≤ 1 }
+{
+    if opcode == 0xB8 { 0 } else { 1 }
+}
+
+/// How many operands a call takes.
+fn call_takes(opcode: u8, method: &MemberId) -> usize
+    ensures { result ≡ length (parts method.now.desc).params + receivers_of opcode }
+{
+    types::parameters(method.desc.items()) + receivers(opcode)
+}
+
+pub(crate) fn either(test: bool, yes: usize, no: usize) -> usize
+    ensures { result ≡ (if test then yes else no) }
+{
+    if test { yes } else { no }
+}
+
+/// How many operands an instruction takes from the stack.
+pub fn takes(op: &JOp) -> usize
+    ensures { result ≡ takes_of op.now }
+{
+    match op {
+        JOp::Store { .. } | JOp::Narrow(_) | JOp::TableSwitch { .. } | JOp::LookupSwitch { .. } => {
+            1
+        }
+        JOp::NewArray(_) | JOp::ANewArray(_) | JOp::ArrayLength | JOp::Throw => 1,
+        JOp::CheckCast(_) | JOp::InstanceOf(_) => 1,
+        JOp::ArrayLoad(_) => 2,
+        JOp::ArrayStore(_) => 3,
+        JOp::Stack(opcode) => stack_takes(*opcode),
+        JOp::Arith(opcode) => either(*opcode == 0x74, 1, 2),
+        JOp::If { op: opcode, .. } => either(compares(*opcode), 2, 1),
+        JOp::Return(opcode) => either(*opcode == 0xB1, 0, 1),
+        JOp::Static { put, .. } => either(*put, 1, 0),
+        JOp::Field { put, .. } => either(*put, 2, 1),
+        JOp::Call { op: opcode, method } => call_takes(*opcode, method),
+        _ => 0,
+    }
+}
+
+/// Which operands a stack instruction puts back.
+pub fn shuffle(opcode: u8) -> &'static [u8]
+    ensures { result.now ≡ shuffled opcode }
+{
+    match opcode {
+        0x59 => &[0, 0],
+        0x5A => &[0, 1, 0],
+        0x5B => &[0, 1, 2, 0],
+        0x5C => &[0, 1, 0, 1],
+        0x5D => &[0, 1, 2, 0, 1],
+        0x5E => &[0, 1, 2, 3, 0, 1],
+        0x5F => &[1, 0],
+        _ => &[],
+    }
+}
+
+/// Whether the next instruction may follow.
+pub fn goes_on(op: &JOp) -> bool
+    ensures { result ≡ goes_on_past op.now }
+{
+    match op {
+        JOp::Goto(_) | JOp::TableSwitch { .. } | JOp::LookupSwitch { .. } => false,
+        JOp::Return(_) | JOp::Throw => false,
+        _ => true,
+    }
+}
+
+/// Whether an instruction may go elsewhere than to the next.
+pub(crate) fn jumps(op: &JOp) -> bool
+    ensures { result ≡ is_jump op.now }
+{
+    match op {
+        JOp::If { .. } | JOp::Goto(_) | JOp::TableSwitch { .. } | JOp::LookupSwitch { .. } => true,
+        _ => false,
+    }
+}
+
+fn offsets(alloc: Global, first: u32, more: &[u32]) -> Result<Row<u32>, NoMemory>
+    ensures { IfOk result (λ offsets. offsets ≡ first ∷ more.now) }
+{
+    let mut offsets = Vec::new(alloc);
+    offsets.push(first)?;
+    offsets.extend_from_slice(more)?;
+    Ok(Row::of(offsets))
+}
+
+fn case_offsets(alloc: Global, first: u32, cases: &[JCase]) -> Result<Row<u32>, NoMemory>
+    ensures { IfOk result (λ offsets. offsets ≡ first ∷ map case_target cases.now) }
+{
+    let mut offsets = Row::new(alloc);
+    offsets.push(first)?;
+    for case in cases {
+        offsets.push(case.target)?;
+    }
+    Ok(offsets)
+}
+
+/// The offsets that an instruction may jump to.
+pub fn targets(alloc: Global, op: &JOp) -> Result<Row<u32>, NoMemory>
+    ensures { IfOk result (λ offsets. offsets ≡ targets_of op.now) }
+{
+    match op {
+        JOp::If { target, .. } => offsets(alloc, *target, &[]),
+        JOp::Goto(target) => offsets(alloc, *target, &[]),
+        JOp::TableSwitch { other, targets, .. } => offsets(alloc, *other, targets.items()),
+        JOp::LookupSwitch { other, cases } => case_offsets(alloc, *other, cases.items()),
+        _ => Ok(Row::new(alloc)),
+    }
+}
