@@ -3,10 +3,12 @@
 //! writes Class or Descriptor calls it. It knows no token.
 #![tactic(auto)]
 
+mod laws;
 mod listed;
 mod order;
 mod queue;
 mod ready;
 mod subs;
 
+pub use laws::order_laws;
 pub use order::class_order;
