@@ -11,4 +11,9 @@ pub mod Values
 pub mod Returns
 pub mod Resolved
 pub mod Begins
+pub mod Arrays
+pub mod Elements
+pub mod Passed
+pub mod Called
 pub mod Points
+pub mod Package
