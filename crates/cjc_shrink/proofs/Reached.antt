@@ -97,7 +97,7 @@ module _ (by : Linked) (l : Named) (tb : Table) (may_raise : MayRaise l tb) wher
     lands_both answered vs ws = record {
       acts = answered.acts;
       throws = answered.throws;
-      lands = λ class may u v agree keeps otherwise. (let thrown = answered.throws class in raised_both by l tb (waits vs) outer u (waiting_at ws) others v agree (meets_kept by l tb keeps (meets vs ws)) (waiting_kept by l tb keeps waiting) class (thrown.no_fields may) (answered.may_throw class may) otherwise);
+      lands = λ class may u v agree keeps otherwise. (let thrown = answered.throws class in raised_both by l tb (waits vs) outer u (waiting_at ws) others v agree (meets_kept by l tb keeps (meets vs ws)) (waiting_kept by l tb keeps waiting) class (thrown.imported may) (answered.may_throw class may) otherwise);
     }
 
     pub replies_both : (results : List Kind) → MayBeAnswered tb f.method f.at results facts.ks known → (vs ws : List Value) {m : Move State} {u : NTurn} → Replies by l LandsBoth (nheap t) results facts.ks known (waits vs) outer (waiting_at ws) others m u → Both by l tb m u
