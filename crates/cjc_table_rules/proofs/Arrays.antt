@@ -8,7 +8,11 @@ use Rattle.std.specs.Str.{bytes_eq}
 use Rattle.cjc_range.specs.Span.{Span, Within, byte_range, short_range}
 use Rattle.cjc_range.proofs.Order.{within_refl}
 use Rattle.cjc_script.specs.Sorts.{Shape, OfClass, OfNumbers, OfReferences, Element, Booleans, Bytes, Shorts, Ints, array_name, shape_name, shape_named}
-use Rattle.cjc_world.specs.Classes.{Class}
+use Rattle.cjc_bytes.specs.Descriptor.{IsClassName}
+use Rattle.cjc_world.specs.Classes.{Class, class_named}
+use Rattle.cjc_world.specs.Kin.{End, known_as, grown, kin, stands}
+use Rattle.cjc_world.proofs.Subtypes.{reaches}
+use Rattle.cjc_table_rules.proofs.Spelt.{class_read, held_spelt, all_but_last}
 use Rattle.cjc_world.specs.Subtype.{starts, inner, element, array_is, is_subclass, is_element, is_subtype}
 use Rattle.cjc_world.proofs.Settled.{bytes-true, bytes-refl}
 use Rattle.cjc_types.specs.declared.cell.Cell.{Cell}
@@ -26,7 +30,7 @@ use Rattle.cjc_shrink.specs.Elements as of
 use Rattle.cjc_shrink.specs.Replies.{is_of_some}
 use Rattle.cjc_table_rules.specs.Kinds.{is_named, is_one_of, kind_of_cell}
 use Rattle.cjc_table_rules.specs.Analysis.{TypesAreTold}
-use Rattle.cjc_table_rules.specs.Arrays.{IsClassName, ArraysAreNamed}
+use Rattle.cjc_table_rules.specs.Arrays.{ClassesAreNamed}
 use Rattle.cjc_table_rules.proofs.Told.{one_of_in}
 use Rattle.cjc_table_rules.proofs.Values.{all_in, HasName, has_name}
 
@@ -108,26 +112,18 @@ module _ (w : List Class) where
       by_array Ints true e h = spelt Ints bs item e h
 
   -- what an array of references is of holds what its items are of
-  items_below : (class item name : List ℕ) → starts 91 class ≡ false → starts 91 item ≡ false → is_subtype w class class ≡ true → held name ≡ Some item → is_subtype w (shape_name (OfReferences class)) name ≡ true → is_subtype w class item ≡ true
-  unfolding is_subtype is_element
-  items_below class item [] p q itself e h = cc
-  items_below class item (b ∷ bs) p q itself e h = by_array (b == 91) e h
+  subclass_held : (class item name : List ℕ) → held name ≡ Some item → is_subtype w (shape_name (OfReferences class)) name ≡ true → is_subclass w class item ≡ true
+  unfolding is_subtype is_element is_subclass
+  subclass_held class item [] e h = cc
+  subclass_held class item (b ∷ bs) e h = by_array (b == 91) e h
     where
       word : List ℕ
       word = class ++ 59 ∷ []
 
-      all_but_last : take (length word - 1) word ≡ class
-      all_but_last = let long = length-append class (59 ∷ []) in let less : length class ≡ length word - 1 = omega (arith, long) in take_at class (59 ∷ []) (length word - 1) less
+      below : (inner bs ≡ item) → is_subclass w (take (length word - 1) word) (inner bs) ≡ true → is_subclass w class item ≡ true
+      below same is = sym (ap (λ c. is_subclass w c item) (all_but_last class)) ∙ ap (λ i. is_subclass w (take (length word - 1) word) i) (sym same) ∙ is
 
-      below : (inner bs ≡ item) → is_subclass w (take (length word - 1) word) (inner bs) ≡ true → is_subtype w class item ≡ true
-      below same is = go (starts 91 class) (starts 91 item) p q (sym (ap (λ c. is_subclass w c item) all_but_last) ∙ ap (λ i. is_subclass w (take (length word - 1) word) i) (sym same) ∙ is)
-        where
-          go : (x y : Bool) → x ≡ false → y ≡ false → is_subclass w class item ≡ true → (if x then (if y then is_element w (element class) (element item) else array_is w item) else not y && is_subclass w class item) ≡ true
-          go true y p q is = cc
-          go false true p q is = cc
-          go false false p q is = is
-
-      by_start : (g u : Bool) → starts 91 bs ≡ g → starts 76 bs ≡ u → (if g then Some bs else if u then Some (inner bs) else None) ≡ Some item → (bytes_eq (76 ∷ word) bs || (u && is_subclass w (take (length word - 1) word) (inner bs))) ≡ true → is_subtype w class item ≡ true
+      by_start : (g u : Bool) → starts 91 bs ≡ g → starts 76 bs ≡ u → (if g then Some bs else if u then Some (inner bs) else None) ≡ Some item → (bytes_eq (76 ∷ word) bs || (u && is_subclass w (take (length word - 1) word) (inner bs))) ≡ true → is_subclass w class item ≡ true
       by_start true true r v e h = absurd (two bs r v)
         where
           two : (bs : List ℕ) → starts 91 bs ≡ true → starts 76 bs ≡ true → ⊥
@@ -136,16 +132,34 @@ module _ (w : List Class) where
       by_start true false r v e h = ⊎_elim (λ same. (let f : false ≡ true = sym v ∙ ap (starts 76) (sym (bytes-true (76 ∷ word) bs same)) in cc)) (λ no. cc) (either (bytes_eq (76 ∷ word) bs) false h)
       by_start false false r v e h = cc
       by_start false true r v e h = ⊎_elim
-          (λ same. (let is : inner bs ≡ class = ap inner (sym (bytes-true (76 ∷ word) bs same)) ∙ all_but_last in subst (λ i. is_subtype w class i ≡ true) (sym is ∙ told e) itself))
+          (λ same. (let is : inner bs ≡ class = ap inner (sym (bytes-true (76 ∷ word) bs same)) ∙ all_but_last class in subst (λ i. is_subclass w class i ≡ true) (sym is ∙ told e) (reaches w class class (inl refl))))
           (λ is. below (told e) is)
           (either (bytes_eq (76 ∷ word) bs) (is_subclass w (take (length word - 1) word) (inner bs)) h)
         where
           told : Some (inner bs) ≡ Some item → inner bs ≡ item
           told e = cc
 
-      by_array : (g : Bool) → (if g then held_by bs else None) ≡ Some item → (if g then is_element w (76 ∷ word) bs else array_is w (b ∷ bs)) ≡ true → is_subtype w class item ≡ true
+      by_array : (g : Bool) → (if g then held_by bs else None) ≡ Some item → (if g then is_element w (76 ∷ word) bs else array_is w (b ∷ bs)) ≡ true → is_subclass w class item ≡ true
       by_array false e h = cc
       by_array true e h = by_start (starts 91 bs) (starts 76 bs) refl refl e h
+
+  items_below : (class item name : List ℕ) → starts 91 class ≡ false → starts 91 item ≡ false → held name ≡ Some item → is_subtype w (shape_name (OfReferences class)) name ≡ true → is_subtype w class item ≡ true
+  unfolding is_subtype
+  items_below class item name p q e h = go (starts 91 class) (starts 91 item) p q (subclass_held class item name e h)
+    where
+      go : (x y : Bool) → x ≡ false → y ≡ false → is_subclass w class item ≡ true → (if x then (if y then is_element w (element class) (element item) else array_is w item) else not y && is_subclass w class item) ≡ true
+      go true y p q is = cc
+      go false true p q is = cc
+      go false false p q is = is
+
+  -- a subclass of a name is that name, or a class of some file
+  subclass_known : (class item : List ℕ) → is_subclass w class item ≡ true → (class ≡ item) ⊎ ((c : Class) × (class_named w class ≡ Some c))
+  unfolding is_subclass kin grown
+  subclass_known class item h = go (class_named w class) refl h
+    where
+      go : (o : Option Class) → class_named w class ≡ o → stands item (known_as (grown w (length w)) class o End) ≡ true → (class ≡ item) ⊎ ((c : Class) × (class_named w class ≡ Some c))
+      go None none h = ⊎_elim (λ same. inl (bytes-true class item same)) (λ no. cc) (either (bytes_eq class item) false h)
+      go (Some c) is h = inr (c, is)
 
 -- the held types are among those that a cell's arrays hold
 among_elements : (xs more : List (List ℕ)) (n : List ℕ) → In n more → In n (elements xs more)
@@ -172,19 +186,26 @@ item_of name e = go (held name) refl e
 element_is : (a b : Element) → ◌≡◌ {A = Shape (List ℕ)} (OfNumbers a) (OfNumbers b) → a ≡ b
 element_is a b e = cc
 
-module _ (w : List Class) (l : Named) (types : TypesAreTold w l) (named : ArraysAreNamed w l) where
+module _ (w : List Class) (l : Named) (types : TypesAreTold w l) (named : ClassesAreNamed w l) where
   below_name : (names : List (List ℕ)) (kind : Shape (List ℕ)) → (h : HasName l names kind) → is_subtype w (shape_name kind) h.name ≡ true
   below_name names kind h = sym (types.tells h.name h.shape h.is_name kind) ∙ h.is_of
+
+  is_no_array : {class : List ℕ} → IsClassName class → starts 91 class ≡ false
+  is_no_array {class = class} spelt = let h = class_read class spelt in h.no_array
+
+  -- what an array below a named one holds has the name of a class
+  item_named : (class item name : List ℕ) → starts 91 item ≡ false → IsClassName item → held name ≡ Some item → is_subtype w (shape_name (OfReferences class)) name ≡ true → IsClassName class
+  item_named class item name open_name spelt e below = ⊎_elim (λ same. subst IsClassName (sym same) spelt) (λ known. named.classes class known.0 known.1) (subclass_known w class item (subclass_held w class item name e below))
 
   -- no object is of types that are all arrays
   pub arrays_only : (names : List (List ℕ)) → list_all (starts 91) names ≡ true → AreArrays l (is_one_of l names)
   arrays_only names all class e made =
       let h = has_name l names (OfClass class) e in
-      no_class w class h.name (named.objects class made) (all_in (starts 91) names h.name all h.among) (below_name names (OfClass class) h)
+      no_class w class h.name (is_no_array (named.objects class made)) (all_in (starts 91) names h.name all h.among) (below_name names (OfClass class) h)
 
   -- what is of an array of numbers
   of_numbers : (b : Element) (kind : Shape (List ℕ)) → IsMadeOf l kind → is_subtype w (shape_name kind) (array_name b) ≡ true → kind ≡ OfNumbers b
-  of_numbers b (OfClass class) made e = absurd (no_class w class (array_name b) (named.objects class made) (starts_array b) e)
+  of_numbers b (OfClass class) made e = absurd (no_class w class (array_name b) (is_no_array (named.objects class made)) (starts_array b) e)
     where
       starts_array : (b : Element) → starts 91 (array_name b) ≡ true
       starts_array Booleans = refl
@@ -220,7 +241,7 @@ module _ (w : List Class) (l : Named) (types : TypesAreTold w l) (named : Arrays
       go kind refl made h item
     where
       go : (k : Shape (List ℕ)) → kind ≡ k → IsMadeOf l k → (h : HasName l names kind) → (item : List ℕ) × (held h.name ≡ Some item) → IsReferences kind
-      go (OfClass class) same made h item = absurd (no_class w class h.name (named.objects class made) (starts_array h.name item.0 item.1) (ap (λ k. is_subtype w (shape_name k) h.name) (sym same) ∙ below_name names kind h))
+      go (OfClass class) same made h item = absurd (no_class w class h.name (is_no_array (named.objects class made)) (starts_array h.name item.0 item.1) (ap (λ k. is_subtype w (shape_name k) h.name) (sym same) ∙ below_name names kind h))
         where
           starts_array : (name item : List ℕ) → held name ≡ Some item → starts 91 name ≡ true
           starts_array [] item e = cc
@@ -231,7 +252,8 @@ module _ (w : List Class) (l : Named) (types : TypesAreTold w l) (named : Arrays
               by false e = cc
       go (OfNumbers element) same made h item = absurd (no_numbers w element h.name item.0 item.1 (ap (λ k. is_subtype w (shape_name k) h.name) (sym same) ∙ below_name names kind h))
       go (OfReferences class) same made h item =
-          let is = named.items class item.0 h.name h.shape h.is_name item.1 (ap (λ k. is_subtype w (shape_name k) h.name) (sym same) ∙ below_name names kind h) in
+          let holds = class_read item.0 (held_spelt h.name item.0 h.shape h.is_name item.1) in
+          let is = class_read class (item_named class item.0 h.name holds.no_array (held_spelt h.name item.0 h.shape h.is_name item.1) item.1 (ap (λ k. is_subtype w (shape_name k) h.name) (sym same) ∙ below_name names kind h)) in
           subst IsReferences (sym same) (of.references class is.array)
 
   -- what an array holds is of what the cell's arrays hold
@@ -240,10 +262,11 @@ module _ (w : List Class) (l : Named) (types : TypesAreTold w l) (named : Arrays
       let h = has_name l names (OfReferences class) e in
       let item = item_of h.name (all_in (λ name. is_some (held name)) names h.name all h.among) in
       let below = below_name names (OfReferences class) h in
-      let own = named.items class item.0 h.name h.shape h.is_name item.1 below in
-      let holds = named.held_items item.0 h.name h.shape h.is_name item.1 in
+      let spelt = held_spelt h.name item.0 h.shape h.is_name item.1 in
+      let holds = class_read item.0 spelt in
+      let own = class_read class (item_named class item.0 h.name holds.no_array spelt item.1 below) in
       let first : is_subtype w (shape_name kind) class ≡ true = sym (types.tells class (OfClass class) own.class kind) ∙ is in
-      let second = items_below w class item.0 h.name own.no_array holds.no_array (types.itself class) item.1 below in
+      let second = items_below w class item.0 h.name own.no_array holds.no_array item.1 below in
       let through = types.through (shape_name kind) class item.0 first second in
       one_of_in l (elements names []) item.0 kind (held_among names [] h.name item.0 h.among item.1) (ap (is_of_some l kind) holds.class ∙ types.tells item.0 (OfClass item.0) holds.class kind ∙ through)
 

@@ -26,13 +26,13 @@ use Rattle.cjc_shrink.proofs.Elements.{baload, saload, bastore, sastore}
 use Rattle.cjc_shrink.proofs.ReferenceItems.{aaload, aastore}
 use Rattle.cjc_table_rules.specs.Kinds.{is_one_of, kind_of_cell, kinds}
 use Rattle.cjc_table_rules.specs.Analysis.{Analysis, IsDecoded, IsSound, IsRead, CatchesAreTold, TypesAreTold}
-use Rattle.cjc_table_rules.specs.Arrays.{ArraysAreNamed, IsOnArray}
+use Rattle.cjc_table_rules.specs.Arrays.{ClassesAreNamed, IsOnArray}
 use Rattle.cjc_table_rules.specs.Arrays as on
 use Rattle.cjc_table_rules.proofs.Arrays.{of_types, arrays_only, bytes_only, shorts_only, references_only, items_pass, byte_elements, short_elements, may_be_booleans, refs_wider}
 use Rattle.cjc_table_rules.proofs.Rows.{row_by, wider_row_by}
 use Rattle.cjc_table_rules.proofs.Plain.{t, Stands, IsRow, Keeps, typed_here, within, number_is, reference_is, one_reference, taken_two, taken_three}
 
-module _ (by : Linked) (l : Named) (w : List Class) (a : Analysis) (m : Method) (read : IsRead a m) (decoded : IsDecoded (let f = a.found m in f.body)) (sound : IsSound w (let r = a.resolution m in r.constant) (a.found m)) (told : CatchesAreTold by l a m) (types : TypesAreTold w l) (named : ArraysAreNamed w l) (at offset : ℕ) (cells local_cells : List Cell) (x : RangeState) (ranged : HasRow (let f = a.found m in f.ranges) at x)
+module _ (by : Linked) (l : Named) (w : List Class) (a : Analysis) (m : Method) (read : IsRead a m) (decoded : IsDecoded (let f = a.found m in f.body)) (sound : IsSound w (let r = a.resolution m in r.constant) (a.found m)) (told : CatchesAreTold by l a m) (types : TypesAreTold w l) (named : ClassesAreNamed w l) (at offset : ℕ) (cells local_cells : List Cell) (x : RangeState) (ranged : HasRow (let f = a.found m in f.ranges) at x)
     (row : IsRow by l w a m read decoded sound told at offset cells local_cells x ranged) where
   abbrev KeepsHere : JOp → Type 0
   KeepsHere op = Keeps by l w a m read decoded sound told at offset cells local_cells x ranged op

@@ -11,6 +11,7 @@ pub mod Values
 pub mod Returns
 pub mod Resolved
 pub mod Begins
+pub mod Spelt
 pub mod Arrays
 pub mod Elements
 pub mod Passed

@@ -18,7 +18,7 @@ use Rattle.cjc_table_rules.specs.Kinds.{point_of, point_where}
 use Rattle.cjc_table_rules.specs.Analysis.{Analysis, IsDecoded, IsSound, IsRead, CatchesAreTold, TypesAreTold, IsGiven, ThrowablesMay, table_of}
 use Rattle.cjc_table_rules.specs.Supported.{IsPlain, IsReturn, ireturn, areturn, returns}
 use Rattle.cjc_table_rules.specs.Names.{IsResolved}
-use Rattle.cjc_table_rules.specs.Arrays.{ArraysAreNamed, IsOnArray}
+use Rattle.cjc_table_rules.specs.Arrays.{ClassesAreNamed, IsOnArray}
 use Rattle.cjc_table_rules.specs.Calls.{IsCalled}
 use Rattle.cjc_table_rules.specs.Package.{IsSupported, AreSupported}
 use Rattle.cjc_table_rules.specs.Package as supported_by
@@ -79,7 +79,7 @@ module _ (by : Linked) (l : Named) (w : List Class) (a : Analysis) (m : Method) 
   throw_rule types may at offset p there known =
       at_point at _ p known (λ cells local_cells x ranged row. throws_on by l w a m read decoded sound told types may at offset cells local_cells x ranged row there)
 
-  pub array_rule : TypesAreTold w l → ArraysAreNamed w l → (at : ℕ) (i : JInsn) (p : Point) → slice_get (let f = a.found m in let b = f.body in b.insns) at ≡ Some i → (let tb = table_of l a in tb.point m at ≡ Some p) → IsOnArray i.op → Rule by l (table_of l a) m at p i
+  pub array_rule : TypesAreTold w l → ClassesAreNamed w l → (at : ℕ) (i : JInsn) (p : Point) → slice_get (let f = a.found m in let b = f.body in b.insns) at ≡ Some i → (let tb = table_of l a in tb.point m at ≡ Some p) → IsOnArray i.op → Rule by l (table_of l a) m at p i
   array_rule types named at i p there known is =
       at_point at i p known (λ cells local_cells x ranged row. on_array by l w a m read decoded sound told types named at i.at cells local_cells x ranged row i.op is there)
 
@@ -88,7 +88,7 @@ module _ (by : Linked) (l : Named) (w : List Class) (a : Analysis) (m : Method) 
       at_point at i p known (λ cells local_cells x ranged row. called_rule by l w a m read decoded sound told types may_raise answered at i.at cells local_cells x ranged row i.op (is (record { stack = stacks.Cells cells; locals = local_cells }) row) there)
 
   -- each instruction that is supported
-  supported_here : TypesAreTold w l → ArraysAreNamed w l → IsGiven l a m → ThrowablesMay l a → MayRaise l (table_of l a) → IsAnswered by l (table_of l a) → (at offset : ℕ) (cells local_cells : List Cell) (x : RangeState) (ranged : HasRow (let f = a.found m in f.ranges) at x) → HasRow (let f = a.found m in f.types) at (record { stack = stacks.Cells cells; locals = local_cells })
+  supported_here : TypesAreTold w l → ClassesAreNamed w l → IsGiven l a m → ThrowablesMay l a → MayRaise l (table_of l a) → IsAnswered by l (table_of l a) → (at offset : ℕ) (cells local_cells : List Cell) (x : RangeState) (ranged : HasRow (let f = a.found m in f.ranges) at x) → HasRow (let f = a.found m in f.types) at (record { stack = stacks.Cells cells; locals = local_cells })
       → (op : JOp) → IsSupported by l w a m cells op → slice_get (let f = a.found m in let b = f.body in b.insns) at ≡ Some (record { at = offset; op = op }) → Rule by l (table_of l a) m at (point_of l (record { stack = stacks.Cells cells; locals = local_cells }) x) (record { at = offset; op = op })
   supported_here types named given may may_raise answered at offset cells local_cells x ranged row op (supported_by.names_nothing is) there = keeps by l w a m read decoded sound told at offset cells local_cells x ranged row op is there
   supported_here types named given may may_raise answered at offset cells local_cells x ranged row op (supported_by.is_resolved is) there = resolved by l w a m read decoded sound told types at offset cells local_cells x ranged row op is there
@@ -99,6 +99,6 @@ module _ (by : Linked) (l : Named) (w : List Class) (a : Analysis) (m : Method) 
   supported_here types named given may may_raise answered at offset cells local_cells x ranged row _ supported_by.throws there = throws_on by l w a m read decoded sound told types may at offset cells local_cells x ranged row there
   supported_here types named given may may_raise answered at offset cells local_cells x ranged row op (supported_by.calls is) there = called_rule by l w a m read decoded sound told types may_raise answered at offset cells local_cells x ranged row op is there
 
-  pub supported_rule : TypesAreTold w l → ArraysAreNamed w l → IsGiven l a m → ThrowablesMay l a → MayRaise l (table_of l a) → IsAnswered by l (table_of l a) → AreSupported by l w a m → (at : ℕ) (i : JInsn) (p : Point) → slice_get (let f = a.found m in let b = f.body in b.insns) at ≡ Some i → (let tb = table_of l a in tb.point m at ≡ Some p) → Rule by l (table_of l a) m at p i
+  pub supported_rule : TypesAreTold w l → ClassesAreNamed w l → IsGiven l a m → ThrowablesMay l a → MayRaise l (table_of l a) → IsAnswered by l (table_of l a) → AreSupported by l w a m → (at : ℕ) (i : JInsn) (p : Point) → slice_get (let f = a.found m in let b = f.body in b.insns) at ≡ Some i → (let tb = table_of l a in tb.point m at ≡ Some p) → Rule by l (table_of l a) m at p i
   supported_rule types named given may may_raise answered supported at i p there known =
       at_point at i p known (λ cells local_cells x ranged row. supported_here types named given may may_raise answered at i.at cells local_cells x ranged row i.op (supported at i (record { stack = stacks.Cells cells; locals = local_cells }) there row) there)

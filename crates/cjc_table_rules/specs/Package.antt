@@ -20,7 +20,7 @@ use Rattle.cjc_table_rules.specs.Kinds.{is_named}
 use Rattle.cjc_table_rules.specs.Analysis.{Analysis, TypesAreTold, ThrowablesMay, table_of}
 use Rattle.cjc_table_rules.specs.Supported.{IsPlain, IsReturn}
 use Rattle.cjc_table_rules.specs.Names.{IsResolved}
-use Rattle.cjc_table_rules.specs.Arrays.{ArraysAreNamed, IsOnArray}
+use Rattle.cjc_table_rules.specs.Arrays.{ClassesAreNamed, IsOnArray}
 use Rattle.cjc_table_rules.specs.Calls.{IsWordDesc, types_of, IsWhole, IsReachedBy, IsCalled}
 
 -- An instruction in code of m, on a stack of these types, is one that the card has, and what it names is found alike on both sides.
@@ -60,7 +60,7 @@ pub data IsScripted (by : Linked) (l : Named) (w : List Class) (a : Analysis) (i
 -- answers may be thrown, members of scripts are found alike, and both machines start with the same heap and static cells.
 pub record IsPackage (by : Linked) (l : Named) (w : List Class) (a : Analysis) : Type 0 where
   pub types : TypesAreTold w l
-  pub arrays : ArraysAreNamed w l
+  pub arrays : ClassesAreNamed w l
   pub methods : (m : Method) (at : ℕ) (p : Point) → (let tb = table_of l a in tb.point m at ≡ Some p) → IsWhole by l w a m
   pub supported : (m : Method) → IsWhole by l w a m → AreSupported by l w a m
   pub throwables : ThrowablesMay l a
