@@ -55,7 +55,7 @@ frames_begin heap narrowed params plain {callee = callee} {args = args} {words =
           (subst (Locals heap (first_locals callee params) (map (λ v. Some v) args ++ replicate further None)) (sym narrow_ones) (first further plain passed));
     }
 
-module _ (by : Linked) (l : Named) (narrowed : Method → Start NMethod) (may_begin : Method → Type 0) (params ks : List Kind) (next : ℕ) (f : Frame) (outer : List Frame) (s : State) (g : NFrame) (others : List NFrame) (t : NState) (plain : OnBoth params) where
+module _ (by : Linked) (l : Named) (narrowed : Method → Start NMethod) (may_begin : Method → Type 0) (params : Method → List Kind) (ks : List Kind) (next : ℕ) (f : Frame) (outer : List Frame) (s : State) (g : NFrame) (others : List NFrame) (t : NState) where
   abbrev heap : Heap
   heap = let m = t.memory in m.heap
 
@@ -63,16 +63,16 @@ module _ (by : Linked) (l : Named) (narrowed : Method → Start NMethod) (may_be
   Meets = CallAgrees by l narrowed may_begin params ks next f outer s g others t
 
   -- the frames that begin
-  entered_agree : {callee : Method} {args words : List Value} → IsNarrowed narrowed (length params) callee → Stacks (let m = t.memory in m.heap) params args words → Frames (let m = t.memory in m.heap) [] (first_locals callee params) (frame_for_call callee args) (narrow.entered (narrowed callee) words)
-  entered_agree is passed = frames_begin (let m = t.memory in m.heap) narrowed params plain is passed
+  entered_agree : {callee : Method} {args words : List Value} → OnBoth (params callee) → IsNarrowed narrowed (length (params callee)) callee → Stacks (let m = t.memory in m.heap) (params callee) args words → Frames (let m = t.memory in m.heap) [] (first_locals callee (params callee)) (frame_for_call callee args) (narrow.entered (narrowed callee) words)
+  entered_agree {callee = callee} plain is passed = frames_begin (let m = t.memory in m.heap) narrowed (params callee) plain is passed
 
   -- what is reached begins
-  pub reach_both : {callee : Method} {args words vs ws : List Value} (result : Option Sort) (on : Bool) → may_begin callee → IsNarrowed narrowed (length params) callee → Stacks (let m = t.memory in m.heap) params args words → Stacks (let m = t.memory in m.heap) ks vs ws
+  pub reach_both : {callee : Method} {args words vs ws : List Value} (result : Option Sort) (on : Bool) → may_begin callee → OnBoth (params callee) → IsNarrowed narrowed (length (params callee)) callee → Stacks (let m = t.memory in m.heap) (params callee) args words → Stacks (let m = t.memory in m.heap) ks vs ws
       → Meets (at_callee by (Some (Inside callee)) result args (record f { stack = vs }) outer s) (narrow.reaches (by_label l) (Within (narrowed callee)) on words (record g { next = next; stack = ws }) others t)
-  reach_both {callee = callee} {args = args} {words = words} {vs = vs} {ws = ws} result on may is passed low =
+  reach_both {callee = callee} {args = args} {words = words} {vs = vs} {ws = ws} result on may plain is passed low =
       subst (λ b. Meets (if b then stuck_at (offset (record f { stack = vs })) s else On (with_frames (frame_for_call callee args ∷ record f { stack = vs } ∷ outer) s)) (narrow.reaches (by_label l) (Within (narrowed callee)) on words (record g { next = next; stack = ws }) others t)) (sym is.has_code)
       (subst (λ b. Meets (On (with_frames (frame_for_call callee args ∷ record f { stack = vs } ∷ outer) s)) (if b then StuckAt g.at t else Next (record t { frames = narrow.entered (narrowed callee) words ∷ record g { next = next; stack = ws } ∷ others }))) (sym is.is_written)
-      (begins callee args words vs ws may (entered_agree is passed) low))
+      (begins callee args words vs ws may (entered_agree plain is passed) low))
 
 -- A call of a static method takes its arguments from both stacks: what is met there is met by the call.
 pub to_static : (by : Linked) (l : Named) (op : ℕ) (id : MemberId) (named : Callee) (types : Signature) (params ks : List Kind) (next : ℕ) (f : Frame) (outer : List Frame) (s : State) (g : NFrame) (others : List NFrame) (t : NState) (Meets : Move State → NTurn → Type 0) (callee : Linked.Callee)
@@ -105,14 +105,14 @@ to_static by l op id named types params ks next f outer s g others t Meets calle
 
 -- a static call
 pub static_call : (by : Linked) (l : Named) (narrowed : Method → Start NMethod) (may_begin : Method → Type 0) (op : ℕ) (id : MemberId) (named : Callee) (params ks ls : List Kind) (next : ℕ) (f : Frame) (outer : List Frame) (s : State) (g : NFrame) (others : List NFrame) (t : NState) → (call : IsStaticCall by l narrowed (holder_of f) op id named params) → may_begin call.callee → Frames (let m = t.memory in m.heap) (reverse params ++ ks) ls f g
-    → CallAgrees by l narrowed may_begin params ks next f outer s g others t (after_effect by (effects.Invoke op id) f outer s) (narrow.made (by_label l) (Invoke named) next g others t)
+    → CallAgrees by l narrowed may_begin (λ m. params) ks next f outer s g others t (after_effect by (effects.Invoke op id) f outer s) (narrow.made (by_label l) (Invoke named) next g others t)
 static_call by l narrowed may_begin op id named params ks ls next f outer s g others t call may agree =
     let types = call.types in
     let n = length types.params in
-    let Meets = CallAgrees by l narrowed may_begin params ks next f outer s g others t in
+    let Meets = CallAgrees by l narrowed may_begin (λ m. params) ks next f outer s g others t in
     to_static by l op id named types params ks next f outer s g others t Meets (Inside call.callee) call.by_name call.has_types call.passes call.narrow_class call.narrow_words agree.stack (λ plain passed low.
     subst (λ x. Meets (at_callee by (Some (Inside call.callee)) types.result (reverse (take n f.stack)) (record f { stack = drop n f.stack }) outer s) (narrow.reaches (by_label l) x false (reverse (take n g.stack)) (record g { next = next; stack = drop n g.stack }) others t)) (sym call.narrow_reached)
-    (reach_both by l narrowed may_begin params ks next f outer s g others t plain types.result false may call.is_narrowed passed low))
+    (reach_both by l narrowed may_begin (λ m. params) ks next f outer s g others t types.result false may plain call.is_narrowed passed low))
 
 -- ---- a call on a receiver
 
@@ -176,25 +176,25 @@ to_receiver by l op id named within types params ks next f outer s g others t Me
     (go plain passed rest))))))
 
 -- a method of the package that a receiver of a type selects begins
-pub selected_both : (by : Linked) (l : Named) (narrowed : Method → Start NMethod) (may_begin : Method → Type 0) (named : Callee) (within : Shape (List ℕ) → Bool) (params ks : List Kind) (next : ℕ) (f : Frame) (outer : List Frame) (s : State) (g : NFrame) (others : List NFrame) (t : NState) → OnBoth params → (selected : List ℕ → Option Linked.Callee) (result : Option Sort) (k : ℕ) (thing : HeapObject (List ℕ) MemberId) → slice_get (let m = t.memory in m.heap) k ≡ Some thing → within (shape thing) ≡ true
-    → (h : Selects l narrowed selected named (length (Refers within ∷ params)) (shape thing)) → may_begin h.callee → (args words vs ws : List Value) → Stacks (let m = t.memory in m.heap) params args words → Stacks (let m = t.memory in m.heap) ks vs ws
-    → CallAgrees by l narrowed may_begin (Refers within ∷ params) ks next f outer s g others t (at_callee by (selected (shape_name (shape thing))) result (Obj k ∷ args) (record f { stack = vs }) outer s) (narrow.reaches (by_label l) (l.reached named (Some (shape thing))) true (Obj k ∷ words) (record g { next = next; stack = ws }) others t)
-selected_both by l narrowed may_begin named within params ks next f outer s g others t plain selected result k thing is passes h may args words vs ws passed low =
-    let Meets = CallAgrees by l narrowed may_begin (Refers within ∷ params) ks next f outer s g others t in
+pub selected_both : (by : Linked) (l : Named) (narrowed : Method → Start NMethod) (may_begin : Method → Type 0) (named : Callee) (within : Shape (List ℕ) → Bool) (receives : Method → Shape (List ℕ) → Bool) (params ks : List Kind) (next : ℕ) (f : Frame) (outer : List Frame) (s : State) (g : NFrame) (others : List NFrame) (t : NState) → OnBoth params → (selected : List ℕ → Option Linked.Callee) (result : Option Sort) (k : ℕ) (thing : HeapObject (List ℕ) MemberId) → slice_get (let m = t.memory in m.heap) k ≡ Some thing
+    → (h : Selects l narrowed selected named (length (Refers within ∷ params)) (shape thing)) → receives h.callee (shape thing) ≡ true → may_begin h.callee → (args words vs ws : List Value) → Stacks (let m = t.memory in m.heap) params args words → Stacks (let m = t.memory in m.heap) ks vs ws
+    → CallAgrees by l narrowed may_begin (λ m. Refers (receives m) ∷ params) ks next f outer s g others t (at_callee by (selected (shape_name (shape thing))) result (Obj k ∷ args) (record f { stack = vs }) outer s) (narrow.reaches (by_label l) (l.reached named (Some (shape thing))) true (Obj k ∷ words) (record g { next = next; stack = ws }) others t)
+selected_both by l narrowed may_begin named within receives params ks next f outer s g others t plain selected result k thing is h passes may args words vs ws passed low =
+    let Meets = CallAgrees by l narrowed may_begin (λ m. Refers (receives m) ∷ params) ks next f outer s g others t in
     let waits = record f { stack = vs } in
     let waiting = record g { next = next; stack = ws } in
     subst (λ o. Meets (at_callee by o result (Obj k ∷ args) waits outer s) (narrow.reaches (by_label l) (l.reached named (Some (shape thing))) true (Obj k ∷ words) waiting others t)) (sym h.by_name)
     (subst (λ x. Meets (at_callee by (Some (Inside h.callee)) result (Obj k ∷ args) waits outer s) (narrow.reaches (by_label l) x true (Obj k ∷ words) waiting others t)) (sym h.narrow)
-    (reach_both by l narrowed may_begin (Refers within ∷ params) ks next f outer s g others t (both_reference plain) result true may h.is_narrowed (cell (object thing is passes) passed) low))
+    (reach_both by l narrowed may_begin (λ m. Refers (receives m) ∷ params) ks next f outer s g others t result true may (both_reference plain) h.is_narrowed (cell (object thing is passes) passed) low))
 
 -- a call on a receiver
-pub object_call : (by : Linked) (l : Named) (narrowed : Method → Start NMethod) (may_begin : Method → Type 0) (op : ℕ) (id : MemberId) (named : Callee) (within : Shape (List ℕ) → Bool) (params ks ls : List Kind) (next : ℕ) (f : Frame) (outer : List Frame) (s : State) (g : NFrame) (others : List NFrame) (t : NState) → (call : IsObjectCall by l narrowed (holder_of f) op id named within params) → ((kind : Shape (List ℕ)) (is : within kind ≡ true) (made : IsMadeOf l kind) → let h = call.selects kind is made in may_begin h.callee) → Stores l s.store t.memory → Frames (let m = t.memory in m.heap) (reverse (Refers within ∷ params) ++ ks) ls f g
-    → CallAgrees by l narrowed may_begin (Refers within ∷ params) ks next f outer s g others t (after_effect by (effects.Invoke op id) f outer s) (narrow.made (by_label l) (Invoke named) next g others t)
-object_call by l narrowed may_begin op id named within params ks ls next f outer s g others t call may stores agree =
+pub object_call : (by : Linked) (l : Named) (narrowed : Method → Start NMethod) (may_begin : Method → Type 0) (op : ℕ) (id : MemberId) (named : Callee) (within : Shape (List ℕ) → Bool) (receives : Method → Shape (List ℕ) → Bool) (params ks ls : List Kind) (next : ℕ) (f : Frame) (outer : List Frame) (s : State) (g : NFrame) (others : List NFrame) (t : NState) → (call : IsObjectCall by l narrowed (holder_of f) op id named within params) → ((kind : Shape (List ℕ)) (is : within kind ≡ true) (made : IsMadeOf l kind) → let h = call.selects kind is made in receives h.callee kind ≡ true) → ((kind : Shape (List ℕ)) (is : within kind ≡ true) (made : IsMadeOf l kind) → let h = call.selects kind is made in may_begin h.callee) → Stores l s.store t.memory → Frames (let m = t.memory in m.heap) (reverse (Refers within ∷ params) ++ ks) ls f g
+    → CallAgrees by l narrowed may_begin (λ m. Refers (receives m) ∷ params) ks next f outer s g others t (after_effect by (effects.Invoke op id) f outer s) (narrow.made (by_label l) (Invoke named) next g others t)
+object_call by l narrowed may_begin op id named within receives params ks ls next f outer s g others t call received may stores agree =
     let types = call.types in
     let on = call.call in
-    let Meets = CallAgrees by l narrowed may_begin (Refers within ∷ params) ks next f outer s g others t in
+    let Meets = CallAgrees by l narrowed may_begin (λ m. Refers (receives m) ∷ params) ks next f outer s g others t in
     to_receiver by l op id named within types params ks next f outer s g others t Meets on agree.stack (λ plain passed rest.
     receive_both by l named within params ks next f outer s g others t Meets on.selected types.result stores (fails NullPointer)
-    (λ k thing is passes made. selected_both by l narrowed may_begin named within params ks next f outer s g others t plain on.selected types.result k thing is passes (call.selects (shape thing) passes made) (may (shape thing) passes made))
+    (λ k thing is passes made. selected_both by l narrowed may_begin named within receives params ks next f outer s g others t plain on.selected types.result k thing is (call.selects (shape thing) passes made) (received (shape thing) passes made) (may (shape thing) passes made))
     (length types.params) f.stack g.stack (drop (length types.params) f.stack) (drop (length types.params) g.stack) refl refl passed rest)

@@ -1,5 +1,5 @@
 -- Entries of scripts begin alike.
-use Rattle.std.proofs.Common.{◌≡◌, ℕ, suc, refl, sym, ap, subst, ◌∙◌, arith, Bool, true, false, List, [], ◌∷◌, length, drop, ℤ, pos, negsuc}
+use Rattle.std.proofs.Common.{◌≡◌, ℕ, suc, ◌+◌, refl, sym, ap, subst, ◌∙◌, arith, Bool, true, false, List, [], ◌∷◌, length, drop, ℤ, pos, negsuc}
 use Rattle.std.specs.Prelude.{Option, Some, None, option_map, map, slice_get, ◌&&◌, ◌≤ℤ◌, if◌then◌else◌}
 use Rattle.std.proofs.lemmas.Int.{ints}
 use Rattle.cjc_bytes.specs.declared.fault.MemberId.{MemberId}
@@ -23,13 +23,15 @@ use Rattle.cjc_ncode.specs.ByLabel.{Named, by_label}
 use Rattle.cjc_by_name.specs.Linked.{Method, Linked}
 use Rattle.cjc_by_name.specs.Machine.{State, heap_of, frame_for_call, report, object_fits, entry_method, args_fit, entry_begins, sent_to, sent_on, after_acts}
 use Rattle.cjc_by_name.specs.Machine as named
+use Rattle.cjc_by_name.specs.Effects.{type_of}
 use Rattle.cjc_shrink.specs.Relation.{OnBoth, no_cell, a_range, a_reference as both_reference, Kind, Range, Refers, Heap, Agrees, number, null, object, Stacks, bottom, cell, shown}
 use Rattle.cjc_shrink.specs.Rows.{kind_of, is_word_sort}
 use Rattle.cjc_shrink.specs.Calls.{NState, NTurn, Frames, first_locals, IsNarrowed}
 use Rattle.cjc_shrink.specs.Throws.{nheap}
 use Rattle.cjc_shrink.specs.Acts.{ActsAlike}
 use Rattle.cjc_shrink.specs.Replies.{StatesAgree, AsksAlike}
-use Rattle.cjc_shrink.specs.Entries.{is_called, is_sent, kinds_of, AreGiven, no_parameter, a_parameter, IsEntry, entry_kinds, EntryAgrees, begins, unfit}
+use Rattle.cjc_shrink.specs.Entries.{is_called, is_sent, kinds_of, AreGiven, no_parameter, a_parameter, IsEntry, entry_kinds, IsNoEntry, EntryAgrees, begins, unfit}
+use Rattle.cjc_shrink.proofs.Keeps.{made_there}
 use Rattle.cjc_shrink.proofs.Begins.{type_shown, frames_begin}
 use Rattle.cjc_shrink.proofs.Replies.{acts_both, value_told, both_so, held_if, object_agrees}
 
@@ -103,9 +105,9 @@ kinds_long l (type ∷ types) = ap suc (kinds_long l types)
 
 -- ---- an entry
 
-module _ (by : Linked) (l : Named) (narrowed : Method → Start NMethod) (types : Signature) (within : Shape (List ℕ) → Bool) (e : Entry) (entries : List Entry) (is : IsEntry by l narrowed e.method types within) (s : State) (t : NState) (agree : StatesAgree l s t) (notes : List Note) (noted : t.notes ≡ notes) where
+module _ (by : Linked) (l : Named) (narrowed : Method → Start NMethod) (types : Signature) (within : Method → Shape (List ℕ) → Bool) (e : Entry) (entries : List Entry) (is : IsEntry by l narrowed e.method types within) (s : State) (t : NState) (agree : StatesAgree l s t) (notes : List Note) (noted : t.notes ≡ notes) where
   abbrev Meets : Bool → Move State → NTurn → Type 0
-  Meets on = EntryAgrees by l narrowed (entry_kinds on l within types) e entries notes
+  Meets on = EntryAgrees by l narrowed on (entry_kinds on l within types) e entries notes
 
   -- the state where the script goes on behind the entry
   behind : StatesAgree l (record s { entries = entries }) (record t { entries = entries })
@@ -129,11 +131,14 @@ module _ (by : Linked) (l : Named) (narrowed : Method → Start NMethod) (types 
   selected_both k args same thing there (Some m) found false fit = unfit agree
   selected_both k args same thing there (Some m) found true fit =
       let h = all_given by l (nheap t) types.params args is.given fit in
-      let params = Refers within ∷ kinds_of l types.params in
+      let params = Refers (within m) ∷ kinds_of l types.params in
+      let stores = agree.stores in
+      let made = made_there l thing (stores.heap_fits k thing there) in
+      let size : 1 + length types.params ≡ length params = (let long = kinds_long l types.params in omega (arith, long)) in
       subst (λ o. Meets true (entry_begins by (Some m) true e entries s) (narrow.entered_by (by_label l) (Some (narrowed m)) o e entries t)) (sym (ap (first_and (Obj k)) h.words))
-      (begins s t m (Obj k ∷ args) (is_sent (shape thing) found) noted behind
+      (begins s t m (Obj k ∷ args) (is_sent (shape thing) made found) noted behind
       (subst (λ values. Frames (nheap t) [] (first_locals m params) (frame_for_call m values) (narrow.entered (narrowed m) (Obj k ∷ args))) (sym same)
-      (frames_begin (nheap t) narrowed params (both_reference (kinds_plain is.given)) (is.sent_narrowed (shape thing) m found) (cell (object thing there (is.receives (shape thing) m found)) h.agree))))
+      (frames_begin (nheap t) narrowed params (both_reference (kinds_plain is.given)) (subst (λ n. IsNarrowed narrowed n m) size (is.sent_narrowed (shape thing) m made found)) (cell (object thing there (is.receives (shape thing) m made found)) h.agree))))
 
   -- by what is at the receiver's place
   thing_both : (k : ℕ) (args : List Value) → e.args ≡ Obj k ∷ args → (o : Option (HeapObject (List ℕ) MemberId)) → slice_get (nheap t) k ≡ o
@@ -178,10 +183,66 @@ module _ (by : Linked) (l : Named) (narrowed : Method → Start NMethod) (types 
       (by_call e.virtual_call)
 
 -- an entry, where no frame is active
-pub entry_begun : (by : Linked) (l : Named) (narrowed : Method → Start NMethod) (types : Signature) (within : Shape (List ℕ) → Bool) (e : Entry) (entries : List Entry) → ActsAlike by l → IsEntry by l narrowed e.method types within → (s : State) (t : NState) → StatesAgree l s t
-    → EntryAgrees by l narrowed (entry_kinds e.virtual_call l within types) e entries t.notes (named.begins by [] (e ∷ entries) s) (narrow.begins (by_label l) [] (e ∷ entries) t)
+pub entry_begun : (by : Linked) (l : Named) (narrowed : Method → Start NMethod) (types : Signature) (within : Method → Shape (List ℕ) → Bool) (e : Entry) (entries : List Entry) → ActsAlike by l → IsEntry by l narrowed e.method types within → (s : State) (t : NState) → StatesAgree l s t
+    → EntryAgrees by l narrowed e.virtual_call (entry_kinds e.virtual_call l within types) e entries t.notes (named.begins by [] (e ∷ entries) s) (narrow.begins (by_label l) [] (e ∷ entries) t)
 entry_begun by l narrowed types within e entries alike is s t agree =
-    acts_both by l alike e.number (EntryAgrees by l narrowed (entry_kinds e.virtual_call l within types) e entries t.notes)
+    acts_both by l alike e.number (EntryAgrees by l narrowed e.virtual_call (entry_kinds e.virtual_call l within types) e entries t.notes)
     (λ u. entry_begins by (entry_method by (heap_of u) e) (args_fit by (heap_of u) e (signature_of (let m = e.method in m.desc))) e entries u)
     (λ v. narrow.entered_by (by_label l) (narrow.entry_start (by_label l) (nheap v) e) (narrow.entry_words (by_label l) (nheap v) e) e entries v) e.acts s t agree
     (λ u v states. unfit states) (λ u v states keeps noted. entry_both by l narrowed types within e entries is u v states t.notes noted)
+
+-- ---- an entry for which no method is found
+
+module _ (by : Linked) (l : Named) (narrowed : Method → Start NMethod) (params : Method → List Kind) (e : Entry) (entries : List Entry) (none : IsNoEntry by l e.method) (s : State) (t : NState) (agree : StatesAgree l s t) (notes : List Note) where
+  abbrev Ends : Move State → NTurn → Type 0
+  Ends = EntryAgrees by l narrowed e.virtual_call params e entries notes
+
+  no_method : (fit : Bool) (words : Option (List Value)) → Ends (entry_begins by None fit e entries s) (narrow.entered_by (by_label l) None words e entries t)
+  no_method fit words = unfit agree
+
+  -- by what is at the receiver's place
+  none_there : (o : Option Thing) (p : Option (HeapObject (List ℕ) MemberId)) (fit : Bool) (words : Option (List Value)) → ((thing : Thing) → o ≡ Some thing → by.sent (type_of thing) e.method ≡ None) → Ends (entry_begins by (sent_to by o e.method) fit e entries s) (narrow.entered_by (by_label l) (narrow.sent_to (by_label l) p e.method) words e entries t)
+  unfolding by_label
+  none_there o p fit words off =
+      subst (λ m. Ends (entry_begins by m fit e entries s) (narrow.entered_by (by_label l) (narrow.sent_to (by_label l) p e.method) words e entries t)) (sym (by_none o off))
+      (subst (λ m. Ends (entry_begins by None fit e entries s) (narrow.entered_by (by_label l) m words e entries t)) (sym (narrow_none p)) (no_method fit words))
+    where
+      by_none : (o : Option Thing) → ((thing : Thing) → o ≡ Some thing → by.sent (type_of thing) e.method ≡ None) → sent_to by o e.method ≡ None
+      by_none None off = refl
+      by_none (Some thing) off = off thing refl
+
+      narrow_none : (p : Option (HeapObject (List ℕ) MemberId)) → narrow.sent_to (by_label l) p e.method ≡ None
+      narrow_none None = refl
+      narrow_none (Some thing) = none.narrow_not_sent (shape thing)
+
+  none_sent : (args : List Value) (fit : Bool) (words : Option (List Value)) → Ends (entry_begins by (sent_on by (heap_of s) e.method args) fit e entries s) (narrow.entered_by (by_label l) (narrow.sent_on (by_label l) (nheap t) e.method args) words e entries t)
+  unfolding by_label
+  none_sent [] fit words = no_method fit words
+  none_sent (Num x ∷ args) fit words = no_method fit words
+  none_sent (Null ∷ args) fit words = no_method fit words
+  none_sent (Obj k ∷ args) fit words = none_there (slice_get (heap_of s) k) (slice_get (nheap t) k) fit words (λ thing there. off thing (let stores = agree.stores in sym (ap (λ h. slice_get h k) stores.heap ∙ get_map (shown l) (nheap t) k) ∙ there))
+    where
+      off : (thing : Thing) → option_as (shown l) (slice_get (nheap t) k) ≡ Some thing → by.sent (type_of thing) e.method ≡ None
+      off thing there = go (slice_get (nheap t) k) there
+        where
+          go : (o : Option (HeapObject (List ℕ) MemberId)) → option_as (shown l) o ≡ Some thing → by.sent (type_of thing) e.method ≡ None
+          go None is = cc
+          go (Some h) is = let same : shown l h ≡ thing = cc in ap (λ x. by.sent (type_of x) e.method) (sym same) ∙ ap (λ n. by.sent n e.method) (type_shown l h) ∙ none.not_sent (shape h)
+
+  none_by : (on : Bool) (fit : Bool) (words : Option (List Value)) → Ends (entry_begins by (if on then sent_on by (heap_of s) e.method e.args else by.entry e.method) fit e entries s) (narrow.entered_by (by_label l) (if on then narrow.sent_on (by_label l) (nheap t) e.method e.args else l.called e.method) words e entries t)
+  none_by true fit words = none_sent e.args fit words
+  none_by false fit words =
+      subst (λ m. Ends (entry_begins by m fit e entries s) (narrow.entered_by (by_label l) (l.called e.method) words e entries t)) (sym none.not_called)
+      (subst (λ m. Ends (entry_begins by None fit e entries s) (narrow.entered_by (by_label l) m words e entries t)) (sym none.narrow_not_called) (no_method fit words))
+
+  pub none_both : Ends (entry_begins by (entry_method by (heap_of s) e) (args_fit by (heap_of s) e (signature_of (let m = e.method in m.desc))) e entries s) (narrow.entered_by (by_label l) (narrow.entry_start (by_label l) (nheap t) e) (narrow.entry_words (by_label l) (nheap t) e) e entries t)
+  unfolding by_label
+  none_both = none_by e.virtual_call (args_fit by (heap_of s) e (signature_of (let m = e.method in m.desc))) (narrow.entry_words (by_label l) (nheap t) e)
+
+pub none_begun : (by : Linked) (l : Named) (narrowed : Method → Start NMethod) (params : Method → List Kind) (e : Entry) (entries : List Entry) → ActsAlike by l → IsNoEntry by l e.method → (s : State) (t : NState) → StatesAgree l s t
+    → EntryAgrees by l narrowed e.virtual_call params e entries t.notes (named.begins by [] (e ∷ entries) s) (narrow.begins (by_label l) [] (e ∷ entries) t)
+none_begun by l narrowed params e entries alike none s t agree =
+    acts_both by l alike e.number (EntryAgrees by l narrowed e.virtual_call params e entries t.notes)
+    (λ u. entry_begins by (entry_method by (heap_of u) e) (args_fit by (heap_of u) e (signature_of (let m = e.method in m.desc))) e entries u)
+    (λ v. narrow.entered_by (by_label l) (narrow.entry_start (by_label l) (nheap v) e) (narrow.entry_words (by_label l) (nheap v) e) e entries v) e.acts s t agree
+    (λ u v states. unfit states) (λ u v states keeps noted. none_both by l narrowed params e entries none u v states t.notes)

@@ -20,7 +20,7 @@ use Rattle.cjc_ncode.specs.ByLabel.{Named, by_label, classes, naming, shown_slot
 use Rattle.cjc_by_name.specs.Linked.{Method, Instance, Linked}
 use Rattle.cjc_by_name.specs.Effects.{Store, value_in, effect}
 use Rattle.cjc_by_name.specs.Effects as by_name
-use Rattle.cjc_shrink.specs.Relation.{Kind, Refers, Heap, NMemory, Agrees, null, object, Stacks, bottom, cell, left_out, Locals, ThingFits, of_class, shown, IsMadeOf, Stores}
+use Rattle.cjc_shrink.specs.Relation.{Kind, Refers, Heap, NMemory, Agrees, null, object, Stacks, bottom, cell, left_out, Locals, ThingFits, of_class, shown, IsMadeOf, Stores, HasObjects}
 use Rattle.cjc_shrink.specs.Rows.{HasRoom, NEffect, Same, goes, raises, RowAgrees, HasField, is_word_sort, kind_of, lists, FieldIsThere}
 use Rattle.cjc_shrink.proofs.Keeps.{made_there}
 use Rattle.cjc_shrink.proofs.Plain.{RowIs, as_written}
@@ -77,8 +77,7 @@ module _ (by : Linked) (l : Named) (m : Method) (f : MemberId) (room at next : �
   read_of (References class items) has fits = let e = has.is_class in cc
   read_of (Object class slots) has (of_class is fit) =
       let same : has.class ≡ class = (let e = has.is_class in cc) in
-      let fields : has.fields ≡ keys slots = (let e = ap l.fields same in let g = has.are in cc) in
-      pushed slots (found l memory.heap f fit (subst (λ fs. lists fs f ≡ true) fields has.has))
+      pushed slots (found l memory.heap f fit (has.has (keys slots) (subst (λ c. HasObjects l c (keys slots)) (sym same) is)))
 
   -- of the object of a reference; null raises
   pub read_at : (within : Shape (List ℕ) → Bool) (v w : Value) → ((kind : Shape (List ℕ)) → within kind ≡ true → IsMadeOf l kind → HasField l f kind) → Agrees memory.heap (Refers within) v w → Reads (by_name.thing_at store.heap v (λ k. by_thing)) (narrow.thing_of memory.heap w (λ k. narrow_thing))

@@ -24,7 +24,7 @@ use Rattle.cjc_ncode.specs.ByLabel.{Named, by_label, slot_for, shown_slot}
 use Rattle.cjc_by_name.specs.Linked.{Method, Linked}
 use Rattle.cjc_by_name.specs.Effects.{Store, effect, fresh_field}
 use Rattle.cjc_by_name.specs.Effects as by_name
-use Rattle.cjc_shrink.specs.Relation.{Kind, Range, Refers, Heap, NMemory, number, object, Stacks, cell, Locals, CellFits, a_boolean, a_byte, a_short, an_int, a_null, SlotsFit, no_slots, slot, element_range, ThingFits, numbers, references, of_class, shown, Stores}
+use Rattle.cjc_shrink.specs.Relation.{Kind, Range, Refers, Heap, NMemory, number, object, Stacks, cell, Locals, CellFits, a_boolean, a_byte, a_short, an_int, a_null, SlotsFit, no_slots, slot, element_range, ThingFits, numbers, references, of_class, shown, Stores, made as has_objects}
 use Rattle.cjc_shrink.specs.Rows.{HasRoom, Same, goes, raises, RowAgrees}
 use Rattle.cjc_shrink.specs.Objects.{has_values, is_field, IsMade, IsClassThere}
 use Rattle.cjc_shrink.proofs.Plain.{RowIs, as_written}
@@ -92,7 +92,7 @@ module _ (by : Linked) (l : Named) (r : Resolution) (m : Method) (class : List �
   new_is room at next ks ls vs ws locals words store memory roomy stores held rest =
       let Meets = Same l (Refers within ∷ ks) ls (at + 1) next in
       let slots = map slot_for made.fields in
-      let fits = of_class (made.narrow ∙ ap Some (sym (fresh_keys made.fields))) (fresh_fits l (memory.heap ++ Object class slots ∷ []) made.fields made.are_fields) in
+      let fits = of_class (has_objects (made.narrow ∙ ap Some (sym (fresh_keys made.fields)))) (fresh_fits l (memory.heap ++ Object class slots ∷ []) made.fields made.are_fields) in
       subst (λ o. Meets (by_name.with_some o (λ fields. by_name.with_new by m at locals store (things.Object class (map fresh_field fields)) vs)) (narrow.with_some narrow.Stick (option_map (map slot_for) (l.fields class)) (λ slots. narrow.made (Object class slots) room next words memory ws))) (sym made.by_name)
       (subst (λ o. Meets (by_name.with_new by m at locals store (things.Object class (map fresh_field made.fields)) vs) (narrow.with_some narrow.Stick (option_map (map slot_for) o) (λ slots. narrow.made (Object class slots) room next words memory ws))) (sym made.narrow)
       (made_both by l m room at next ks ls vs ws locals words store memory within roomy stores held rest (Object class slots) (things.Object class (map fresh_field made.fields)) object_shown passes fits))

@@ -26,7 +26,7 @@ use Rattle.cjc_ncode.specs.ByLabel.{Named, by_label, classes, naming, put_static
 use Rattle.cjc_by_name.specs.Linked.{Method, Static, Instance, Linked}
 use Rattle.cjc_by_name.specs.Effects.{Store, effect, value_in, values_with, is_same_kind, is_same_field}
 use Rattle.cjc_by_name.specs.Effects as by_name
-use Rattle.cjc_shrink.specs.Relation.{Kind, Refers, Away, Heap, NMemory, Agrees, number, null, object, Stacks, cell, left_out, Locals, CellFits, a_boolean, a_byte, a_short, an_int, a_null, an_object, SlotsFit, no_slots, slot, ThingFits, of_class, shown, IsMadeOf, Stores}
+use Rattle.cjc_shrink.specs.Relation.{Kind, Refers, Away, Heap, NMemory, Agrees, number, null, object, Stacks, cell, left_out, Locals, CellFits, a_boolean, a_byte, a_short, an_int, a_null, an_object, SlotsFit, no_slots, slot, ThingFits, of_class, shown, IsMadeOf, Stores, HasObjects}
 use Rattle.cjc_shrink.specs.Rows.{NEffect, Same, goes, raises, RowAgrees, HasField, is_word_sort, kind_of, lists, FieldIsThere}
 use Rattle.cjc_shrink.specs.Objects.{class_of}
 use Rattle.cjc_shrink.specs.Cells.{MayBePut, CellIsThere}
@@ -229,14 +229,13 @@ module _ (by : Linked) (l : Named) (m : Method) (f : MemberId) (at next : ℕ) (
   write_of k (References class items) there has h = let e = has.is_class in cc
   write_of k (Object class slots) there has (of_class is fit) =
       let same : has.class ≡ class = (let e = has.is_class in cc) in
-      let fields : has.fields ≡ keys slots = (let e = ap l.fields same in let g = has.are in cc) in
-      let r = found l memory.heap f fit (subst (λ fs. lists fs f ≡ true) fields has.has) in
+      let r = found l memory.heap f fit (has.has (keys slots) (subst (λ c. HasObjects l c (keys slots)) (sym same) is)) in
       let kinds = same_kinds l memory.heap r.fits fits in
       let new : HeapObject (List ℕ) MemberId = Object class (slots_with same_member slots f v) in
       let named_side = by_name.with_heap by m at locals store (slice_set store.heap k (things.Object class (values_with (map shown_slot slots) f v))) vs in
       let narrow_side = narrow.Go next ws words (narrow.with_thing memory k new) in
       let keeps = set_keeps memory.heap k (Object class slots) new there refl in
-      let new_fits : ThingFits l memory.heap new = of_class (is ∙ ap Some (sym (keys_same same_member slots f v))) (slots_put l memory.heap f v fit fits) in
+      let new_fits : ThingFits l memory.heap new = of_class (subst (HasObjects l class) (sym (keys_same same_member slots f v)) is) (slots_put l memory.heap f v fit fits) in
       subst (λ o. Writes (by_name.with_some o (λ old. by_name.only_if (is_same_kind old v) named_side)) (narrow.put_slot (classes l) (slot_of same_member slots f) v narrow_side)) (sym (value_shown slots f ∙ r.is))
       (subst (λ b. Writes (by_name.only_if b named_side) (narrow.put_slot (classes l) (slot_of same_member slots f) v narrow_side)) (sym kinds.0)
       (subst (λ o. Writes named_side (narrow.put_slot (classes l) o v narrow_side)) (sym r.is)

@@ -1,6 +1,6 @@
 -- Calls of the package's methods keep their rules.
 use Rattle.std.proofs.Common.{◌≡◌, ℕ, ◌+◌, refl, sym, ap, subst, ◌∙◌, Bool, true, List, [], ◌∷◌, ◌++◌, length, take, drop, reverse}
-use Rattle.std.specs.Prelude.{Some, slice_get}
+use Rattle.std.specs.Prelude.{Some, None, slice_get}
 use Rattle.cjc_bytes.specs.declared.fault.MemberId.{MemberId}
 use Rattle.cjc_code.specs.declared.insn.JInsn.{JInsn}
 use Rattle.cjc_script.specs.declared.script.Entry.{Entry}
@@ -26,7 +26,7 @@ use Rattle.cjc_shrink.specs.Throws.{nheap}
 use Rattle.cjc_shrink.specs.Acts.{ActsAlike}
 use Rattle.cjc_shrink.specs.Replies.{StatesAgree, result_kinds, IsStaticImport, Replies, goes_on, waits as waits_for_answer, is_unfit, AnswersLand}
 use Rattle.cjc_shrink.specs.Replies as replies
-use Rattle.cjc_shrink.specs.Entries.{MayEnter, IsEntry, entry_kinds, EntryAgrees}
+use Rattle.cjc_shrink.specs.Entries.{MayEnter, IsEntry, IsNoEntry, entry_kinds, EntryAgrees}
 use Rattle.cjc_shrink.specs.Entries as entries_spec
 use Rattle.cjc_shrink.specs.Turns.{with_spent}
 use Rattle.cjc_shrink.specs.Tables.{Point, Table, MayRaise, class_of_code, code_of, Arrives, Stands, Waits, Waiting, no_frame, a_frame, inside}
@@ -34,7 +34,7 @@ use Rattle.cjc_shrink.specs.Runs.{Both, onward, over, Rule, calls, Begins, into,
 use Rattle.cjc_shrink.specs.Reached.{IsCallAt, MayBeCalled, MayBeAnswered, MaySelectOn, IsAnswered, MayBegin}
 use Rattle.cjc_shrink.specs.Reached as reached
 use Rattle.cjc_shrink.proofs.Begins.{to_static, static_call, to_receiver, receive_both, selected_both}
-use Rattle.cjc_shrink.proofs.Entries.{entry_begun}
+use Rattle.cjc_shrink.proofs.Entries.{entry_begun, none_begun}
 use Rattle.cjc_shrink.proofs.Imports.{static_reached, selected_abroad}
 use Rattle.cjc_shrink.proofs.Paths.{turns_are}
 use Rattle.cjc_shrink.proofs.Whole.{both_spent, waiting_kept, arrived, Meets, meets_kept, raised_both, failed_both, report_alike}
@@ -45,9 +45,6 @@ module _ (by : Linked) (l : Named) (tb : Table) (may_raise : MayRaise l tb) wher
       (same : StatesAgree l s t) (stands : Stands tb (nheap t) f g) (waiting : Waiting by l tb (nheap t) (tb.results f.method) outer others) (facts : IsCallAt by l tb f.method f.at stands.point i op id named params) where
     abbrev known : List Kind
     known = let p = stands.point in p.locals
-
-    abbrev MayReach : Method → Type 0
-    MayReach = MayBeCalled tb f.method f.at params facts.ks known
 
     -- the frames that wait, with what is left on their stacks
     abbrev waits : List Value → Frame
@@ -69,8 +66,8 @@ module _ (by : Linked) (l : Named) (tb : Table) (may_raise : MayRaise l tb) wher
     fails_both fault vs ws = failed_both by l tb (waits vs) outer s (waiting_at ws) others (with_spent t) same' (meets vs ws) waiting fault (may_raise.raises fault) (may_raise.may_raise fault)
 
     -- what is reached begins above frames that wait, or null raises
-    pub call_both : {m : Move State} {u : NTurn} → CallAgrees by l tb.narrowed MayReach params facts.ks (g.at + 1) f outer s g others (with_spent t) m u → Both by l tb m u
-    call_both (begins callee args words vs ws may frames low) =
+    pub call_both : (given : Method → List Kind) {m : Move State} {u : NTurn} → CallAgrees by l tb.narrowed (λ n. MayBeCalled tb f.method f.at (given n) facts.ks known n) given facts.ks (g.at + 1) f outer s g others (with_spent t) m u → Both by l tb m u
+    call_both given (begins callee args words vs ws may frames low) =
         let enters = may.enters in
         let stands' : Stands tb (nheap t) (frame_for_call callee args) (narrow.entered (tb.narrowed callee) words) = record {
           point = enters.point;
@@ -90,7 +87,7 @@ module _ (by : Linked) (l : Named) (tb : Table) (may_raise : MayRaise l tb) wher
           catches = facts.catches;
         } in
         onward (inside (frame_for_call callee args) (waits vs ∷ outer) s (narrow.entered (tb.narrowed callee) words) (waiting_at ws ∷ others) (with_spent t) same' stands' (a_frame in_caller waiting))
-    call_both (fails fault vs ws) = fails_both fault vs ws
+    call_both given (fails fault vs ws) = fails_both fault vs ws
 
     -- an imported method is answered
     abbrev pub LandsBoth : (class : List ℕ) → State → NState → Move State → NTurn → Type 0
@@ -100,7 +97,7 @@ module _ (by : Linked) (l : Named) (tb : Table) (may_raise : MayRaise l tb) wher
     lands_both answered vs ws = record {
       acts = answered.acts;
       throws = answered.throws;
-      lands = λ class may u v agree keeps otherwise. (let thrown = answered.throws class in raised_both by l tb (waits vs) outer u (waiting_at ws) others v agree (meets_kept by l tb keeps (meets vs ws)) (waiting_kept by l tb keeps waiting) class (thrown.no_fields may) (answered.may_throw class may) otherwise);
+      lands = λ class may u v agree keeps otherwise. (let thrown = answered.throws class in raised_both by l tb (waits vs) outer u (waiting_at ws) others v agree (meets_kept by l tb keeps (meets vs ws)) (waiting_kept by l tb keeps waiting) class (thrown.imported may) (answered.may_throw class may) otherwise);
     }
 
     pub replies_both : (results : List Kind) → MayBeAnswered tb f.method f.at results facts.ks known → (vs ws : List Value) {m : Move State} {u : NTurn} → Replies by l LandsBoth (nheap t) results facts.ks known (waits vs) outer (waiting_at ws) others m u → Both by l tb m u
@@ -137,7 +134,7 @@ module _ (by : Linked) (l : Named) (tb : Table) (may_raise : MayRaise l tb) wher
       let facts = bundle.facts in
       let p = stands.point in
       call_turn i op id named params f outer s g others t same stands waiting facts there
-      (call_both i op id named params f outer s g others t same stands waiting facts
+      (call_both i op id named params f outer s g others t same stands waiting facts (λ n. params)
       (static_call by l tb.narrowed (MayBeCalled tb f.method f.at params facts.ks p.locals) op id named params facts.ks p.locals (g.at + 1) f outer s g others (with_spent t) bundle.call bundle.may
       (record { stack = stack_known i op id named params f outer s g others t same stands waiting facts; locals = stands.agree.locals })))
 
@@ -207,13 +204,13 @@ module _ (by : Linked) (l : Named) (tb : Table) (may_raise : MayRaise l tb) wher
         select : OnBoth params → (k : ℕ) (thing : HeapObject (List ℕ) MemberId) → slice_get (nheap t) k ≡ Some thing → within (shape thing) ≡ true → (args words vs ws : List Value) → Stacks (nheap t) params args words → (let h = bundle.facts in Stacks (nheap t) h.ks vs ws)
             → (let h = bundle.facts in let p = stands.point in let call = bundle.call in MaySelectOn by l tb f.method f.at id named within types params h.ks p.locals call.selected (shape thing))
             → (let call = bundle.call in Both by l tb (at_callee by (call.selected (shape_name (shape thing))) types.result (Obj k ∷ args) (record f { stack = vs }) outer s) (narrow.reaches (by_label l) (l.reached named (Some (shape thing))) true (Obj k ∷ words) (record g { next = g.at + 1; stack = ws }) others (with_spent t)))
-        select plain k thing there passes args words vs ws passed low (reached.inside h may) =
+        select plain k thing there passes args words vs ws passed low (reached.inside h receives receiver may) =
             let facts = bundle.facts in
             let call = bundle.call in
             let p = stands.point in
             let all = Refers within ∷ params in
-            call_both i op id named all f outer s g others t same stands waiting facts
-            (selected_both by l tb.narrowed (MayBeCalled tb f.method f.at all facts.ks p.locals) named within params facts.ks (g.at + 1) f outer s g others (with_spent t) plain call.selected types.result k thing there passes h may args words vs ws passed low)
+            call_both i op id named all f outer s g others t same stands waiting facts (λ n. Refers receives ∷ params)
+            (selected_both by l tb.narrowed (MayBeCalled tb f.method f.at (Refers receives ∷ params) facts.ks p.locals) named within (λ n. receives) params facts.ks (g.at + 1) f outer s g others (with_spent t) plain call.selected types.result k thing there h receiver may args words vs ws passed low)
         select plain k thing there passes args words vs ws passed low (reached.abroad h may) =
             let facts = bundle.facts in
             let call = bundle.call in
@@ -234,8 +231,8 @@ module _ (by : Linked) (l : Named) (tb : Table) (may_raise : MayRaise l tb) wher
 
 -- ---- entries
 
-entry_both : (by : Linked) (l : Named) (tb : Table) (params : List Kind) (e : Entry) (entries : List Entry) (noted : List Note) → ((m : Method) → MayEnter by e.method m → MayBegin tb params m) → {m : Move State} {u : NTurn} → EntryAgrees by l tb.narrowed params e entries noted m u → Begins by l tb noted m u
-entry_both by l tb params e entries noted may (entries_spec.begins s t m words entered same_notes same frames) =
+entry_both : (by : Linked) (l : Named) (tb : Table) (on : Bool) (params : Method → List Kind) (e : Entry) (entries : List Entry) (noted : List Note) → ((m : Method) → MayEnter by l e.method on m → MayBegin tb (params m) m) → {m : Move State} {u : NTurn} → EntryAgrees by l tb.narrowed on params e entries noted m u → Begins by l tb noted m u
+entry_both by l tb on params e entries noted may (entries_spec.begins s t m words entered same_notes same frames) =
     let h = may m entered in
     let enters = h.enters in
     let stands : Stands tb (nheap t) (frame_for_call m e.args) (narrow.entered (tb.narrowed m) words) = record {
@@ -246,10 +243,20 @@ entry_both by l tb params e entries noted may (entries_spec.begins s t m words e
       agree = record { stack = stacks_wider enters.stack frames.stack; locals = locals_wider enters.locals frames.locals };
     } in
     into (frame_for_call m e.args) [] (record s { entries = entries }) (narrow.entered (tb.narrowed m) words) [] (record t { entries = entries }) same stands (no_frame h.short) same_notes
-entry_both by l tb params e entries noted may (entries_spec.unfit {s = s} {t = t} same) =
+entry_both by l tb on params e entries noted may (entries_spec.unfit {s = s} {t = t} same) =
     unfit (report (Unfit e.number) s) (Unfit e.number) t (report_alike by l tb (Unfit e.number) s t same) (λ e. cc) (λ at e. cc)
 
-pub entry_rule : (by : Linked) (l : Named) (tb : Table) (types : Signature) (within : Shape (List ℕ) → Bool) (e : Entry) (entries : List Entry) → ActsAlike by l → IsEntry by l tb.narrowed e.method types within → ((m : Method) → MayEnter by e.method m → MayBegin tb (entry_kinds e.virtual_call l within types) m) → (s : State) (t : NState) → StatesAgree l s t
+pub entry_rule : (by : Linked) (l : Named) (tb : Table) (types : Signature) (within : Method → Shape (List ℕ) → Bool) (e : Entry) (entries : List Entry) → ActsAlike by l → IsEntry by l tb.narrowed e.method types within → ((m : Method) → MayEnter by l e.method e.virtual_call m → MayBegin tb (entry_kinds e.virtual_call l within types m) m) → (s : State) (t : NState) → StatesAgree l s t
     → Begins by l tb t.notes (named_begins by [] (e ∷ entries) s) (narrow.begins (by_label l) [] (e ∷ entries) t)
 entry_rule by l tb types within e entries acts is may s t same =
-    entry_both by l tb (entry_kinds e.virtual_call l within types) e entries t.notes may (entry_begun by l tb.narrowed types within e entries acts is s t same)
+    entry_both by l tb e.virtual_call (entry_kinds e.virtual_call l within types) e entries t.notes may (entry_begun by l tb.narrowed types within e entries acts is s t same)
+
+-- where no method is found
+pub no_entry_rule : (by : Linked) (l : Named) (tb : Table) (e : Entry) (entries : List Entry) → ActsAlike by l → IsNoEntry by l e.method → (s : State) (t : NState) → StatesAgree l s t
+    → Begins by l tb t.notes (named_begins by [] (e ∷ entries) s) (narrow.begins (by_label l) [] (e ∷ entries) t)
+no_entry_rule by l tb e entries acts none s t same =
+    entry_both by l tb e.virtual_call (λ m. []) e entries t.notes (λ m entered. absurd (none_entered m entered)) (none_begun by l tb.narrowed (λ m. []) e entries acts none s t same)
+  where
+    none_entered : (m : Method) → {on : Bool} → MayEnter by l e.method on m → ⊥
+    none_entered m (entries_spec.is_called found) = let no : None ≡ Some m = sym none.not_called ∙ found in cc
+    none_entered m (entries_spec.is_sent kind made found) = let no : None ≡ Some m = sym (none.not_sent kind) ∙ found in cc

@@ -217,6 +217,6 @@ land_in_frames {by = by} {l = l} {t = t} {f = f} {outer = outer} {g = g} {others
   throws = alike.throws;
   lands = λ class may s u agree keeps otherwise. (let thrown = alike.throws class in record {
     agree = agree;
-    raises = λ within passes. raised by l within f outer s g others u agree.stores class (thrown.no_fields may) passes (handle_kept keeps (alike.handle class may)) otherwise;
+    raises = λ within passes. raised by l within f outer s g others u agree.stores class (thrown.imported may) passes (handle_kept keeps (alike.handle class may)) otherwise;
   });
 }

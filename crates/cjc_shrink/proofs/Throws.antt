@@ -17,7 +17,7 @@ use Rattle.cjc_by_name.specs.Linked.{Linked}
 use Rattle.cjc_by_name.specs.Effects.{Fault, exception_class, type_of}
 use Rattle.cjc_by_name.specs.Effects as effects
 use Rattle.cjc_by_name.specs.Machine.{Frame, State, heap_of, with_frames, with_note, with_last, offset, after_throw, after_raise, after_athrow, after_effect}
-use Rattle.cjc_shrink.specs.Relation.{Kind, Heap, no_slots, of_class, shown, Stores}
+use Rattle.cjc_shrink.specs.Relation.{Kind, Heap, no_slots, of_class, shown, Stores, bare}
 use Rattle.cjc_shrink.specs.Rows.{narrow_fault}
 use Rattle.cjc_shrink.specs.Calls.{NFrame, NState, NTurn, CatchAgrees, takes, passes}
 use Rattle.cjc_shrink.specs.Acts.{Keeps}
@@ -70,14 +70,14 @@ module _ (by : Linked) (l : Named) (within : Shape (List ℕ) → Bool) (f : Fra
   unfolding by_label
   new_shown class = refl
 
-  pub raised : (class : List ℕ) → l.fields class ≡ Some [] → within (OfClass class) ≡ true → HandleAlike by l (nheap t) (OfClass class) (f ∷ outer) (g ∷ others) → (otherwise : NTurn)
+  pub raised : (class : List ℕ) → l.imported class ≡ Some class → within (OfClass class) ≡ true → HandleAlike by l (nheap t) (OfClass class) (f ∷ outer) (g ∷ others) → (otherwise : NTurn)
       → Raises by l within class s t (f ∷ outer) (g ∷ others) (after_raise by class f outer s) (narrow.raised (by_label l) (Some class) g others t otherwise)
-  raised class no_fields passing alike otherwise =
+  raised class imported passing alike otherwise =
       let new : HeapObject (List ℕ) MemberId = Object class [] in
       let here : length (heap_of s) ≡ length (nheap t) = ap length stores.heap ∙ length_as (shown l) (nheap t) in
       let after = narrow.with_last (by_label l) new t in
       record {
-        stores = subst (λ x. Stores l (let u = with_last x s in u.store) after.memory) (sym (new_shown class)) (grown_stores l s.store t.memory new stores (of_class no_fields no_slots));
+        stores = subst (λ x. Stores l (let u = with_last x s in u.store) after.memory) (sym (new_shown class)) (grown_stores l s.store t.memory new stores (of_class (bare refl imported) no_slots));
         unwinds = subst (λ n. Unwinds by l within (length (nheap t)) (OfClass class) (with_last (things.Object class []) s) after (f ∷ outer) (g ∷ others) (after_throw by (offset f) (f ∷ outer) n class (with_last (things.Object class []) s)) (narrow.raised (by_label l) (Some class) g others t otherwise)) (sym here)
             (unwound by l within (length (nheap t)) new passing (offset f) g.at (with_last (things.Object class []) s) after (get_last (nheap t) new) (f ∷ outer) (g ∷ others) (handle_kept (grown_keeps (nheap t) new) alike));
       }
@@ -88,4 +88,4 @@ module _ (by : Linked) (l : Named) (within : Shape (List ℕ) → Bool) (f : Fra
   unfolding by_label
   failed fault next is passing alike =
       subst (λ o. Raises by l within (exception_class fault) s t (f ∷ outer) (g ∷ others) (after_raise by (exception_class fault) f outer s) (narrow.raised (by_label l) o g others t (StuckAt g.at t))) (sym is.class)
-      (raised (exception_class fault) is.no_fields passing alike (StuckAt g.at t))
+      (raised (exception_class fault) is.imported passing alike (StuckAt g.at t))

@@ -35,7 +35,7 @@ use Rattle.cjc_by_name.specs.Effects.{Fault, NullPointer, exception_class, Store
 use Rattle.cjc_by_name.specs.Effects as by_name
 use Rattle.cjc_by_name.specs.Machine.{Frame, State, heap_of, with_frames, with_note, with_last, offset, room, stuck_at, at_handler, after_throw, after_raise, after_athrow, after_effect, spend, spend_unless_stuck, begins, step, and_then, idle}
 use Rattle.cjc_by_name.specs.Machine as named
-use Rattle.cjc_shrink.specs.Relation.{Kind, Refers, Heap, null, object as object_here, Stacks, bottom, cell, Locals, AllWider, none_wider, one_wider, no_slots, of_class, shown, Stores}
+use Rattle.cjc_shrink.specs.Relation.{Kind, Refers, Heap, null, object as object_here, Stacks, bottom, cell, Locals, AllWider, none_wider, one_wider, no_slots, of_class, shown, Stores, bare}
 use Rattle.cjc_shrink.specs.Rows.{narrow_fault, NEffect, Same, goes, raises, tosses}
 use Rattle.cjc_shrink.specs.Jumps.{Jumps, jumps, falls, Results, no_result, result, Returns, leaves}
 use Rattle.cjc_shrink.specs.Switches.{JumpsInTwo}
@@ -197,15 +197,15 @@ module _ (by : Linked) (l : Named) (tb : Table) where
     new_shown class = refl
 
     -- a new object is thrown
-    pub raised_both : (class : List ℕ) → l.fields class ≡ Some [] → tb.may_throw (OfClass class) ≡ true → (otherwise : NTurn)
+    pub raised_both : (class : List ℕ) → l.imported class ≡ Some class → tb.may_throw (OfClass class) ≡ true → (otherwise : NTurn)
         → Both by l tb (after_raise by class f outer s) (narrow.raised (by_label l) (Some class) g others t otherwise)
-    raised_both class no_fields may otherwise =
+    raised_both class imported may otherwise =
         let new : HeapObject (List ℕ) MemberId = Object class [] in
         let stores = same.stores in
         let here : length (heap_of s) ≡ length (nheap t) = ap length stores.heap ∙ length_as (shown l) (nheap t) in
         let after = narrow.with_last (by_label l) new t in
         let keeps = grown_keeps (nheap t) new in
-        let held : Stores l (let u = with_last (things.Object class []) s in u.store) after.memory = subst (λ x. Stores l (let u = with_last x s in u.store) after.memory) (sym (new_shown class)) (grown_stores l s.store t.memory new stores (of_class no_fields no_slots)) in
+        let held : Stores l (let u = with_last (things.Object class []) s in u.store) after.memory = subst (λ x. Stores l (let u = with_last x s in u.store) after.memory) (sym (new_shown class)) (grown_stores l s.store t.memory new stores (of_class (bare refl imported) no_slots)) in
         subst (λ n. Both by l tb (after_throw by (offset f) (f ∷ outer) n class (with_last (things.Object class []) s)) (narrow.raised (by_label l) (Some class) g others t otherwise)) (sym here)
         (thrown_both (length (nheap t)) new may (offset f) g.at (with_last (things.Object class []) s) after (get_last (nheap t) new)
         (record { stores = held; entries = same.entries; answers = same.answers; notes = same.notes }) f g outer others (meets_kept keeps meets) (waiting_kept keeps waiting))
@@ -215,7 +215,7 @@ module _ (by : Linked) (l : Named) (tb : Table) where
     unfolding by_label
     failed_both fault is may =
         subst (λ o. Both by l tb (after_raise by (exception_class fault) f outer s) (narrow.raised (by_label l) o g others t (StuckAt g.at t))) (sym is.class)
-        (raised_both (exception_class fault) is.no_fields may (StuckAt g.at t))
+        (raised_both (exception_class fault) is.imported may (StuckAt g.at t))
 
   -- ---- reports
 

@@ -41,10 +41,10 @@ pub record MayBeAnswered (tb : Table) (m : Method) (at : ℕ) (results ks ls : L
   pub resumes : Arrives tb m (at + 1) (spot tb m at + 1) (results ++ ks) ls
   pub has_room : HasRoom (results ++ ks) m.max_stack (let code = code_of tb m in code.max_stack)
 
--- What both look-ups of a call select on a receiver of a type: a method of the package, which begins with what is known of the arguments, or
--- an imported one, with whose result its caller goes on.
+-- What both look-ups of a call select on a receiver of a type: a method of the package, which begins with what is known of the arguments
+-- and with a receiver that passes a test as this type does, or an imported one, with whose result its caller goes on.
 pub data MaySelectOn (by : Linked) (l : Named) (tb : Table) (m : Method) (at : ℕ) (id : MemberId) (named : Callee) (within : Shape (List ℕ) → Bool) (types : Signature) (params ks ls : List Kind) (selected : List ℕ → Option Linked.Callee) (kind : Shape (List ℕ)) : Type 0 where
-  inside : (h : Selects l tb.narrowed selected named (length (Refers within ∷ params)) kind) → MayBeCalled tb m at (Refers within ∷ params) ks ls h.callee → MaySelectOn by l tb m at id named within types params ks ls selected kind
+  inside : (h : Selects l tb.narrowed selected named (length (Refers within ∷ params)) kind) → (receives : Shape (List ℕ) → Bool) → receives kind ≡ true → MayBeCalled tb m at (Refers receives ∷ params) ks ls h.callee → MaySelectOn by l tb m at id named within types params ks ls selected kind
   abroad : SelectsImport by l selected id named types params kind → MayBeAnswered tb m at (result_kinds l types.result) ks ls → MaySelectOn by l tb m at id named within types params ks ls selected kind
 
 -- What a script does is done alike: acts, and answers that throw, of classes that may be thrown.

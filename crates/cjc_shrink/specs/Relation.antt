@@ -104,16 +104,22 @@ element_range Bytes = byte_range
 element_range Shorts = short_range
 element_range Ints = full
 
+-- Objects of a class have these fields: those that the class has, or none, of an imported class, whose objects scripts and exceptions make,
+-- also where it is abstract.
+pub data HasObjects (l : Named) (class : List ℕ) (fields : List MemberId) : Type 0 where
+  made : l.fields class ≡ Some fields → HasObjects l class fields
+  bare : fields ≡ [] → l.imported class ≡ Some class → HasObjects l class fields
+
 -- each item is of the array's element, and there are as many as an index of one word reaches; an object has the fields of its
 -- class
 pub data ThingFits (l : Named) (heap : Heap) : HeapObject (List ℕ) MemberId → Type 0 where
   numbers : {element : Element} {items : List ℤ} → length items ≤ 32767 → All (Holds (element_range element)) items → ThingFits l heap (Numbers element items)
   references : {class : List ℕ} {items : List Value} → length items ≤ 32767 → All (CellFits l heap (Reference (OfClass class))) items → ThingFits l heap (References class items)
-  of_class : {class : List ℕ} {slots : List (Slot MemberId)} → l.fields class ≡ Some (keys slots) → SlotsFit l heap slots → ThingFits l heap (Object class slots)
+  of_class : {class : List ℕ} {slots : List (Slot MemberId)} → HasObjects l class (keys slots) → SlotsFit l heap slots → ThingFits l heap (Object class slots)
 
 -- a type of which something may be there: an array, or a class of which objects are made
 abbrev pub IsMadeOf : Named → Shape (List ℕ) → Type 0
-IsMadeOf l (OfClass class) = (fields : List MemberId) × (l.fields class ≡ Some fields)
+IsMadeOf l (OfClass class) = (fields : List MemberId) × HasObjects l class fields
 IsMadeOf l (OfNumbers element) = Unit {0}
 IsMadeOf l (OfReferences class) = Unit {0}
 

@@ -41,10 +41,10 @@ pub record AsksAlike (by : Linked) (l : Named) (kind : Shape (List ℕ)) : Type 
 abbrev pub may_be_thrown : Linked → List ℕ → Bool
 may_be_thrown by class = by.is_imported class && by.subtype None class (codes "java/lang/Throwable")
 
--- The same classes may be thrown by an answer; their objects are without fields.
+-- The same classes may be thrown by an answer; they are imported, so that their objects are without fields.
 pub record ThrowsAlike (by : Linked) (l : Named) (class : List ℕ) : Type 0 where
   pub tells : l.throwable class ≡ (if may_be_thrown by class then Some class else None)
-  pub no_fields : may_be_thrown by class ≡ true → l.fields class ≡ Some []
+  pub imported : may_be_thrown by class ≡ true → l.imported class ≡ Some class
 
 -- ---- calls of imported methods
 

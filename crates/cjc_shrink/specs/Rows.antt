@@ -16,7 +16,7 @@ use Rattle.cjc_ncode.specs.ByLabel.{Callee, Named, classes, operation}
 use Rattle.cjc_by_name.specs.Linked.{Method, Instance, Linked}
 use Rattle.cjc_by_name.specs.Effects.{Fault, Arithmetic, NullPointer, IndexOutside, NegativeSize, ClassCast, ArrayStore, Store}
 use Rattle.cjc_by_name.specs.Effects as by_name
-use Rattle.cjc_shrink.specs.Relation.{Kind, Range, Refers, Free, boolean_range, NMemory, Stacks, Locals, IsMadeOf, Stores}
+use Rattle.cjc_shrink.specs.Relation.{Kind, Range, Refers, Free, boolean_range, NMemory, Stacks, Locals, IsMadeOf, Stores, HasObjects}
 
 -- an exception of the machine's own, as narrow code raises it
 abbrev pub narrow_fault : Fault → Calculations.Fault
@@ -93,13 +93,11 @@ abbrev pub lists : List MemberId → MemberId → Bool
 lists [] f = false
 lists (g ∷ fields) f = same_member g f || lists fields f
 
--- an object of a class that has the field
+-- an object of a class each of whose objects has the field
 pub record HasField (l : Named) (f : MemberId) (kind : Shape (List ℕ)) : Type 0 where
   pub class : List ℕ
   pub is_class : kind ≡ OfClass class
-  pub fields : List MemberId
-  pub are : l.fields class ≡ Some fields
-  pub has : lists fields f ≡ true
+  pub has : (fields : List MemberId) → HasObjects l class fields → lists fields f ≡ true
 
 -- Code of m names a field whose values are one word; narrow code names it as it is found, and each object that may be there and passes the
 -- test has it.

@@ -42,7 +42,7 @@ pub record Raises (by : Linked) (l : Named) (within : Shape (List ℕ) → Bool)
   pub stores : Stores l (let u = with_last (things.Object class []) s in u.store) (let u = narrow.with_last (by_label l) (Object class []) t in u.memory)
   pub unwinds : Unwinds by l within (length (nheap t)) (OfClass class) (with_last (things.Object class []) s) (narrow.with_last (by_label l) (Object class []) t) fs gs m n
 
--- Narrow code makes objects of a class without fields for an exception of the machine's own: the class that it has by name.
+-- Narrow code makes objects of an imported class for an exception of the machine's own: the class that it has by name.
 pub record IsRaised (l : Named) (fault : Fault) : Type 0 where
   pub class : l.fault (narrow_fault fault) ≡ Some (exception_class fault)
-  pub no_fields : l.fields (exception_class fault) ≡ Some []
+  pub imported : l.imported (exception_class fault) ≡ Some (exception_class fault)

@@ -40,7 +40,7 @@ ghost use Rattle.cjc_shrink.specs.Callees.{Names, CallIsWritten};
 ghost use Rattle.cjc_shrink.specs.Results.{Resumes, NotesResult, AreShort};
 ghost use Rattle.cjc_shrink.specs.Replies.{StatesAgree, result_kinds, IsStaticImport, IsObjectImport, AnswersAlike, ImportAgrees};
 ghost use Rattle.cjc_shrink.specs.Acts.{ActsAlike};
-ghost use Rattle.cjc_shrink.specs.Entries.{MayEnter, IsEntry, entry_kinds, EntryAgrees};
+ghost use Rattle.cjc_shrink.specs.Entries.{MayEnter, IsEntry, IsNoEntry, entry_kinds, EntryAgrees};
 ghost use Rattle.cjc_shrink.specs.Types.{TypesStay};
 ghost use Rattle.cjc_shrink.specs.Turns.{TurnAgrees};
 ghost use Rattle.cjc_shrink.specs.Paths.{JumpTurn, SilentTurn, TwoTurns, TurnsAre};
@@ -150,15 +150,15 @@ pub fn static_fields_are_met_alike()
 /// selected on the array or object that it sends to, with arguments that are the same on both sides; or an act, the method or an
 /// argument does not fit, and both runs are over. Its parameters are one word each, and one act changes both heaps alike.
 pub fn entries_begin_alike()
-    ensures { (by : Linked) (l : Named) (narrowed : Method → Start NMethod) (types : Signature) (within : Shape (List ℕ) → Bool) (e : Entry) (entries : List Entry) → ActsAlike by l → IsEntry by l narrowed e.method types within → (s : State) (t : NState) → StatesAgree l s t → EntryAgrees by l narrowed (entry_kinds e.virtual_call l within types) e entries t.notes (begins by [] (e ∷ entries) s) (narrow_begins (by_label l) [] (e ∷ entries) t) }
+    ensures { (by : Linked) (l : Named) (narrowed : Method → Start NMethod) (types : Signature) (within : Method → Shape (List ℕ) → Bool) (e : Entry) (entries : List Entry) → ActsAlike by l → IsEntry by l narrowed e.method types within → (s : State) (t : NState) → StatesAgree l s t → EntryAgrees by l narrowed e.virtual_call (entry_kinds e.virtual_call l within types) e entries t.notes (begins by [] (e ∷ entries) s) (narrow_begins (by_label l) [] (e ∷ entries) t) }
 {}
 
 /// A call of a static method, and one on a receiver that each of its types selects a method of the package for: the method
 /// and what is written for it begin with arguments that agree, above frames that wait behind the call; null raises. The method
-/// is the one that the call names, or one that the receiver may select.
+/// is the one that the call names, or one that the receiver may select; its receiver is known to pass what that method's are to pass.
 pub fn calls_begin_alike()
-    ensures static_call { (by : Linked) (l : Named) (narrowed : Method → Start NMethod) (op : ℕ) (id : MemberId) (named : Callee) (params ks ls : List Kind) (next : ℕ) (f : Frame) (outer : List Frame) (s : State) (g : NFrame) (others : List NFrame) (t : NState) → (call : IsStaticCall by l narrowed (holder_of f) op id named params) → Frames (let m = t.memory in m.heap) (reverse params ++ ks) ls f g → CallAgrees by l narrowed (λ m. call.callee ≡ m) params ks next f outer s g others t (after_effect by (effects.Invoke op id) f outer s) (made (by_label l) (Invoke named) next g others t) }
-    ensures object_call { (by : Linked) (l : Named) (narrowed : Method → Start NMethod) (op : ℕ) (id : MemberId) (named : Callee) (within : Shape (List ℕ) → Bool) (params ks ls : List Kind) (next : ℕ) (f : Frame) (outer : List Frame) (s : State) (g : NFrame) (others : List NFrame) (t : NState) → (call : IsObjectCall by l narrowed (holder_of f) op id named within params) → Stores l s.store t.memory → Frames (let m = t.memory in m.heap) (reverse (Refers within ∷ params) ++ ks) ls f g → CallAgrees by l narrowed (MaySelect l narrowed (let c = call.call in c.selected) named (length (Refers within ∷ params)) within call.selects) (Refers within ∷ params) ks next f outer s g others t (after_effect by (effects.Invoke op id) f outer s) (made (by_label l) (Invoke named) next g others t) }
+    ensures static_call { (by : Linked) (l : Named) (narrowed : Method → Start NMethod) (op : ℕ) (id : MemberId) (named : Callee) (params ks ls : List Kind) (next : ℕ) (f : Frame) (outer : List Frame) (s : State) (g : NFrame) (others : List NFrame) (t : NState) → (call : IsStaticCall by l narrowed (holder_of f) op id named params) → Frames (let m = t.memory in m.heap) (reverse params ++ ks) ls f g → CallAgrees by l narrowed (λ m. call.callee ≡ m) (λ m. params) ks next f outer s g others t (after_effect by (effects.Invoke op id) f outer s) (made (by_label l) (Invoke named) next g others t) }
+    ensures object_call { (by : Linked) (l : Named) (narrowed : Method → Start NMethod) (op : ℕ) (id : MemberId) (named : Callee) (within : Shape (List ℕ) → Bool) (receives : Method → Shape (List ℕ) → Bool) (params ks ls : List Kind) (next : ℕ) (f : Frame) (outer : List Frame) (s : State) (g : NFrame) (others : List NFrame) (t : NState) → (call : IsObjectCall by l narrowed (holder_of f) op id named within params) → ((kind : Shape (List ℕ)) (is : within kind ≡ true) (made : IsMadeOf l kind) → let h = call.selects kind is made in receives h.callee kind ≡ true) → Stores l s.store t.memory → Frames (let m = t.memory in m.heap) (reverse (Refers within ∷ params) ++ ks) ls f g → CallAgrees by l narrowed (MaySelect l narrowed (let c = call.call in c.selected) named (length (Refers within ∷ params)) within call.selects) (λ m. Refers (receives m) ∷ params) ks next f outer s g others t (after_effect by (effects.Invoke op id) f outer s) (made (by_label l) (Invoke named) next g others t) }
 {}
 
 /// A call of an imported method is noted alike, with the same values, and answered alike: the script's acts change both heaps in the
@@ -304,9 +304,10 @@ pub fn calls_keep_rules()
 {}
 
 /// An entry of a script begins as whole runs ask, where one act changes both heaps alike and each method that the entry may stand for
-/// begins with what is known of the arguments and has a result of 16 bits.
+/// begins with what is known of the arguments and has a result of 16 bits; so it does where there is no such method.
 pub fn entries_keep_rules()
-    ensures { (by : Linked) (l : Named) (table : Table) (types : Signature) (within : Shape (List ℕ) → Bool) (e : Entry) (entries : List Entry) → ActsAlike by l → IsEntry by l table.narrowed e.method types within → ((m : Method) → MayEnter by e.method m → MayBegin table (entry_kinds e.virtual_call l within types) m) → (s : State) (t : NState) → StatesAgree l s t → Begins by l table t.notes (begins by [] (e ∷ entries) s) (narrow_begins (by_label l) [] (e ∷ entries) t) }
+    ensures none { (by : Linked) (l : Named) (table : Table) (e : Entry) (entries : List Entry) → ActsAlike by l → IsNoEntry by l e.method → (s : State) (t : NState) → StatesAgree l s t → Begins by l table t.notes (begins by [] (e ∷ entries) s) (narrow_begins (by_label l) [] (e ∷ entries) t) }
+    ensures some { (by : Linked) (l : Named) (table : Table) (types : Signature) (within : Method → Shape (List ℕ) → Bool) (e : Entry) (entries : List Entry) → ActsAlike by l → IsEntry by l table.narrowed e.method types within → ((m : Method) → MayEnter by l e.method e.virtual_call m → MayBegin table (entry_kinds e.virtual_call l within types m) m) → (s : State) (t : NState) → StatesAgree l s t → Begins by l table t.notes (begins by [] (e ∷ entries) s) (narrow_begins (by_label l) [] (e ∷ entries) t) }
 {}
 
 /// A row, a jump, what is not written, a switch that is written as two instructions, and a return keep their rules, where they are

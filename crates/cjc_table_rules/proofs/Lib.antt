@@ -11,4 +11,10 @@ pub mod Values
 pub mod Returns
 pub mod Resolved
 pub mod Begins
+pub mod Spelt
+pub mod Arrays
+pub mod Elements
+pub mod Passed
+pub mod Called
 pub mod Points
+pub mod Package

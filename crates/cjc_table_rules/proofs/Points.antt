@@ -1,6 +1,7 @@
 -- At a point of the table both tables have a row.
 use Rattle.std.proofs.Common.{◌≡◌, ℕ, refl, sym, subst, List, slice_get, Option, Some, None}
 use Rattle.cjc_code.specs.declared.insn.JInsn.{JInsn}
+use Rattle.cjc_code.specs.declared.insn.JOp.{JOp}
 use Rattle.cjc_code.specs.declared.insn.JOp.TheVariants as jop
 use Rattle.cjc_fixpoint.specs.Tables.{HasRow}
 use Rattle.cjc_world.specs.Classes.{Class}
@@ -17,6 +18,14 @@ use Rattle.cjc_table_rules.specs.Kinds.{point_of, point_where}
 use Rattle.cjc_table_rules.specs.Analysis.{Analysis, IsDecoded, IsSound, IsRead, CatchesAreTold, TypesAreTold, IsGiven, ThrowablesMay, table_of}
 use Rattle.cjc_table_rules.specs.Supported.{IsPlain, IsReturn, ireturn, areturn, returns}
 use Rattle.cjc_table_rules.specs.Names.{IsResolved}
+use Rattle.cjc_table_rules.specs.Arrays.{ClassesAreNamed, IsOnArray}
+use Rattle.cjc_table_rules.specs.Calls.{IsCalled}
+use Rattle.cjc_table_rules.specs.Package.{IsSupported, AreSupported}
+use Rattle.cjc_table_rules.specs.Package as supported_by
+use Rattle.cjc_table_rules.proofs.Elements.{on_array}
+use Rattle.cjc_table_rules.proofs.Called.{called_rule}
+use Rattle.cjc_shrink.specs.Tables.{MayRaise}
+use Rattle.cjc_shrink.specs.Reached.{IsAnswered}
 use Rattle.cjc_table_rules.proofs.Arrivals.{is_cells}
 use Rattle.cjc_table_rules.proofs.Plain.{keeps}
 use Rattle.cjc_table_rules.proofs.Returns.{number_return, reference_return, plain_return}
@@ -24,14 +33,14 @@ use Rattle.cjc_table_rules.proofs.Resolved.{resolved}
 use Rattle.cjc_table_rules.proofs.Begins.{throws_on}
 
 -- both rows of a point, the stack of types being no clash
-record IsPointOf (l : Named) (types : Option (Option State)) (ranges : Option (Option RangeState)) (p : Point) : Type 0 where
+pub record IsPointOf (l : Named) (types : Option (Option State)) (ranges : Option (Option RangeState)) (p : Point) : Type 0 where
   pub typed : State
   pub has_types : types ≡ Some (Some typed)
   pub ranged : RangeState
   pub has_ranges : ranges ≡ Some (Some ranged)
   pub is : p ≡ point_of l typed ranged
 
-point_from : (l : Named) (types : Option (Option State)) (ranges : Option (Option RangeState)) (p : Point) → point_where l types ranges ≡ Some p → IsPointOf l types ranges p
+pub point_from : (l : Named) (types : Option (Option State)) (ranges : Option (Option RangeState)) (p : Point) → point_where l types ranges ≡ Some p → IsPointOf l types ranges p
 point_from l None ranges p e = cc
 point_from l (Some None) ranges p e = cc
 point_from l (Some (Some t)) None p e = cc
@@ -69,3 +78,27 @@ module _ (by : Linked) (l : Named) (w : List Class) (a : Analysis) (m : Method) 
   pub throw_rule : TypesAreTold w l → ThrowablesMay l a → (at offset : ℕ) (p : Point) → slice_get (let f = a.found m in let b = f.body in b.insns) at ≡ Some (record { at = offset; op = jop.Throw }) → (let tb = table_of l a in tb.point m at ≡ Some p) → Rule by l (table_of l a) m at p (record { at = offset; op = jop.Throw })
   throw_rule types may at offset p there known =
       at_point at _ p known (λ cells local_cells x ranged row. throws_on by l w a m read decoded sound told types may at offset cells local_cells x ranged row there)
+
+  pub array_rule : TypesAreTold w l → ClassesAreNamed w l → (at : ℕ) (i : JInsn) (p : Point) → slice_get (let f = a.found m in let b = f.body in b.insns) at ≡ Some i → (let tb = table_of l a in tb.point m at ≡ Some p) → IsOnArray i.op → Rule by l (table_of l a) m at p i
+  array_rule types named at i p there known is =
+      at_point at i p known (λ cells local_cells x ranged row. on_array by l w a m read decoded sound told types named at i.at cells local_cells x ranged row i.op is there)
+
+  pub call_rule : TypesAreTold w l → MayRaise l (table_of l a) → IsAnswered by l (table_of l a) → (at : ℕ) (i : JInsn) (p : Point) → slice_get (let f = a.found m in let b = f.body in b.insns) at ≡ Some i → (let tb = table_of l a in tb.point m at ≡ Some p) → ((t : State) → HasRow (let f = a.found m in f.types) at t → IsCalled by l w a m (cells_of t.stack) i.op) → Rule by l (table_of l a) m at p i
+  call_rule types may_raise answered at i p there known is =
+      at_point at i p known (λ cells local_cells x ranged row. called_rule by l w a m read decoded sound told types may_raise answered at i.at cells local_cells x ranged row i.op (is (record { stack = stacks.Cells cells; locals = local_cells }) row) there)
+
+  -- each instruction that is supported
+  supported_here : TypesAreTold w l → ClassesAreNamed w l → IsGiven l a m → ThrowablesMay l a → MayRaise l (table_of l a) → IsAnswered by l (table_of l a) → (at offset : ℕ) (cells local_cells : List Cell) (x : RangeState) (ranged : HasRow (let f = a.found m in f.ranges) at x) → HasRow (let f = a.found m in f.types) at (record { stack = stacks.Cells cells; locals = local_cells })
+      → (op : JOp) → IsSupported by l w a m cells op → slice_get (let f = a.found m in let b = f.body in b.insns) at ≡ Some (record { at = offset; op = op }) → Rule by l (table_of l a) m at (point_of l (record { stack = stacks.Cells cells; locals = local_cells }) x) (record { at = offset; op = op })
+  supported_here types named given may may_raise answered at offset cells local_cells x ranged row op (supported_by.names_nothing is) there = keeps by l w a m read decoded sound told at offset cells local_cells x ranged row op is there
+  supported_here types named given may may_raise answered at offset cells local_cells x ranged row op (supported_by.is_resolved is) there = resolved by l w a m read decoded sound told types at offset cells local_cells x ranged row op is there
+  supported_here types named given may may_raise answered at offset cells local_cells x ranged row op (supported_by.is_on_array is) there = on_array by l w a m read decoded sound told types named at offset cells local_cells x ranged row op is there
+  supported_here types named given may may_raise answered at offset cells local_cells x ranged row _ (supported_by.returns ireturn) there = number_return by l w a m read decoded sound told types given at offset cells local_cells x ranged row there
+  supported_here types named given may may_raise answered at offset cells local_cells x ranged row _ (supported_by.returns areturn) there = reference_return by l w a m read decoded sound told types given at offset cells local_cells x ranged row there
+  supported_here types named given may may_raise answered at offset cells local_cells x ranged row _ (supported_by.returns returns) there = plain_return by l w a m read decoded sound told types given at offset cells local_cells x ranged row there
+  supported_here types named given may may_raise answered at offset cells local_cells x ranged row _ supported_by.throws there = throws_on by l w a m read decoded sound told types may at offset cells local_cells x ranged row there
+  supported_here types named given may may_raise answered at offset cells local_cells x ranged row op (supported_by.calls is) there = called_rule by l w a m read decoded sound told types may_raise answered at offset cells local_cells x ranged row op is there
+
+  pub supported_rule : TypesAreTold w l → ClassesAreNamed w l → IsGiven l a m → ThrowablesMay l a → MayRaise l (table_of l a) → IsAnswered by l (table_of l a) → AreSupported by l w a m → (at : ℕ) (i : JInsn) (p : Point) → slice_get (let f = a.found m in let b = f.body in b.insns) at ≡ Some i → (let tb = table_of l a in tb.point m at ≡ Some p) → Rule by l (table_of l a) m at p i
+  supported_rule types named given may may_raise answered supported at i p there known =
+      at_point at i p known (λ cells local_cells x ranged row. supported_here types named given may may_raise answered at i.at cells local_cells x ranged row i.op (supported at i (record { stack = stacks.Cells cells; locals = local_cells }) there row) there)

@@ -47,7 +47,7 @@ of_reference w class Number e = cc
 of_reference w class (Refs names) e = (names, refl)
 of_reference w class Unusable e = cc
 
-same_long : (p : Part) → length (result_of p) ≡ length (result_ranges p)
+pub same_long : (p : Part) → length (result_of p) ≡ length (result_ranges p)
 same_long p = go (is_void p.kind)
   where
     go : (b : Bool) → length (if b then [] else value_of p ∷ []) ≡ length (if b then [] else range_of p ∷ [])

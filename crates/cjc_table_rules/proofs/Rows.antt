@@ -27,7 +27,7 @@ use Rattle.cjc_shrink.specs.Rows.{HasRoom, RowAgrees, RowOnLocals, IsNotWritten}
 use Rattle.cjc_shrink.specs.Jumps.{JumpAgrees}
 use Rattle.cjc_shrink.specs.Switches.{TwoAgree}
 use Rattle.cjc_by_name.specs.Effects.{Store, Go, effect, place}
-use Rattle.cjc_shrink.specs.Tables.{written_place, spot, Arrives}
+use Rattle.cjc_shrink.specs.Tables.{written_place, spot, Arrives, Catches}
 use Rattle.cjc_shrink.specs.Runs.{Rule}
 use Rattle.cjc_shrink.proofs.KeptRows.{row_rule, on_locals_rule, jump_rule, not_written_rule, two_rule}
 use Rattle.cjc_table_rules.specs.Kinds.{kinds, kinds_from, point_of}
@@ -40,21 +40,21 @@ use Rattle.cjc_table_rules.proofs.Methods.{tb, GoesTo, written_at, arrives, foll
 
 -- ---- orders of kinds
 
-wider_itself : (k : Kind) → Wider k k
+pub wider_itself : (k : Kind) → Wider k k
 wider_itself (Range s) = more_numbers (within_refl s)
 wider_itself (Refers within) = more_types (λ kind e. e)
 wider_itself Free = free_free
 wider_itself (Away k) = away (wider_itself k)
 
-all_wider_itself : (ks : List Kind) → AllWider ks ks
+pub all_wider_itself : (ks : List Kind) → AllWider ks ks
 all_wider_itself [] = none_wider
 all_wider_itself (k ∷ ks) = one_wider (wider_itself k) (all_wider_itself ks)
 
-wider_append : {ks js is hs : List Kind} → AllWider ks js → AllWider is hs → AllWider (ks ++ is) (js ++ hs)
+pub wider_append : {ks js is hs : List Kind} → AllWider ks js → AllWider is hs → AllWider (ks ++ is) (js ++ hs)
 wider_append none_wider q = q
 wider_append (one_wider w more) q = one_wider w (wider_append more q)
 
-wider_through : {a b c : Kind} → Wider a b → Wider b c → Wider a c
+pub wider_through : {a b c : Kind} → Wider a b → Wider b c → Wider a c
 wider_through (more_numbers {s = s} {t = t} h) (more_numbers {t = u} k) = more_numbers (within_trans s t u h k)
 wider_through (more_numbers h) number_free = number_free
 wider_through (more_types f) (more_types g) = more_types (λ kind e. g kind (f kind e))
@@ -64,11 +64,11 @@ wider_through reference_free free_free = reference_free
 wider_through free_free free_free = free_free
 wider_through (away p) (away q) = away (wider_through p q)
 
-all_wider_through : {ks js is : List Kind} → AllWider ks js → AllWider js is → AllWider ks is
+pub all_wider_through : {ks js is : List Kind} → AllWider ks js → AllWider js is → AllWider ks is
 all_wider_through none_wider none_wider = none_wider
 all_wider_through (one_wider p ps) (one_wider q qs) = one_wider (wider_through p q) (all_wider_through ps qs)
 
-lengths_alike : {ks js : List Kind} → AllWider ks js → length ks ≡ length js
+pub lengths_alike : {ks js : List Kind} → AllWider ks js → length ks ≡ length js
 lengths_alike none_wider = refl
 lengths_alike (one_wider w more) = ap suc (lengths_alike more)
 
@@ -236,18 +236,30 @@ module _ (by : Linked) (l : Named) (w : List Class) (a : Analysis) (m : Method) 
 
   -- ---- what is left is known as less
 
-  -- one instruction is written, which leaves cells of which more is known
-  pub wider_row_by : op ≢ jop.Throw → goes_on op ≡ true → (insn : NInsn) → written (a.resolution m) (written_place (tb by l w a m read decoded sound) m) op ≡ insn ∷ [] → length given ≡ length new → locals_behind ≡ locals → (left : List Kind) → AllWider left after → RowAgrees by l (a.resolution m) m op before left → Keeps
-  wider_row_by calm goes insn is same kept left wider agrees =
-      let long : length (written (a.resolution m) (written_place (tb by l w a m read decoded sound) m) op) ≡ 1 = ap length is in
+  -- cells of which more is known have as much room
+  pub roomy_wider : (left : List Kind) → AllWider left after → length given ≡ length new → HasRoom (left ++ rest) m.max_stack (let n = a.narrowed m in let code = n.code in code.max_stack)
+  roomy_wider left wider same =
       let high = roomy same in
       let by_name = high.by_name in
       let narrow = high.narrow in
       let sizes = lengths_alike (wider_append wider (all_wider_itself rest)) in
+      record { by_name = omega (arith, by_name, sizes); narrow = omega (arith, narrow, sizes) }
+
+  -- and both go on behind the one instruction that is written
+  pub arrives_wider : goes_on op ≡ true → length (written (a.resolution m) (written_place (tb by l w a m read decoded sound) m) op) ≡ 1 → length given ≡ length new → locals_behind ≡ locals → (left : List Kind) → AllWider left after → Arrives (tb by l w a m read decoded sound) m (at + 1) (spot (tb by l w a m read decoded sound) m at + 1) (left ++ rest) locals
+  arrives_wider goes long same kept left wider =
       let there_on = subst (λ ls. GoesTo by l w a m read decoded sound (at + 1) (after ++ rest) ls) kept (on same (at + 1) (follows by l w a m read decoded sound at insn_here there goes)) in
-      row_rule by l (tb by l w a m read decoded sound) m at (point_of l t x) insn_here before left rest insn is (first_there insn [] is) agrees stack_before
-      (record { by_name = omega (arith, by_name, sizes); narrow = omega (arith, narrow, sizes) })
+      arrives by l w a m read decoded sound (at + 1) (spot (tb by l w a m read decoded sound) m at + 1) (left ++ rest) locals
+      (record { point = there_on.point; is = there_on.is; stack = all_wider_through (wider_append wider (all_wider_itself rest)) there_on.stack; locals = there_on.locals; low = there_on.low }) (next_place_is 1 long goes)
+
+  -- exceptions are handled alike where one instruction is written
+  pub catches_here : (n : ℕ) → length (written (a.resolution m) (written_place (tb by l w a m read decoded sound) m) op) ≡ suc n → Catches by l (tb by l w a m read decoded sound) m at locals
+  catches_here n long = catches by l w a m read decoded sound told at insn_here t x there row ranged (some_written n long)
+
+  -- one instruction is written, which leaves cells of which more is known
+  pub wider_row_by : op ≢ jop.Throw → goes_on op ≡ true → (insn : NInsn) → written (a.resolution m) (written_place (tb by l w a m read decoded sound) m) op ≡ insn ∷ [] → length given ≡ length new → locals_behind ≡ locals → (left : List Kind) → AllWider left after → RowAgrees by l (a.resolution m) m op before left → Keeps
+  wider_row_by calm goes insn is same kept left wider agrees =
+      let long : length (written (a.resolution m) (written_place (tb by l w a m read decoded sound) m) op) ≡ 1 = ap length is in
+      row_rule by l (tb by l w a m read decoded sound) m at (point_of l t x) insn_here before left rest insn is (first_there insn [] is) agrees stack_before (roomy_wider left wider same)
       (λ locals store vs object. never_tosses by m at locals store op calm vs object)
-      (arrives by l w a m read decoded sound (at + 1) (spot (tb by l w a m read decoded sound) m at + 1) (left ++ rest) locals
-      (record { point = there_on.point; is = there_on.is; stack = all_wider_through (wider_append wider (all_wider_itself rest)) there_on.stack; locals = there_on.locals; low = there_on.low }) (next_place_is 1 long goes))
-      (catches by l w a m read decoded sound told at insn_here t x there row ranged (some_written 0 long))
+      (arrives_wider goes long same kept left wider) (catches_here 0 long)

@@ -107,7 +107,7 @@ take_drop zero xs = refl
 take_drop (suc n) [] = refl
 take_drop (suc n) (x ∷ xs) = ap (λ ys. x ∷ ys) (take_drop n xs)
 
-taken_length : {A : Type 0} (n : ℕ) (xs : List A) → n ≤ length xs → length (take n xs) ≡ n
+pub taken_length : {A : Type 0} (n : ℕ) (xs : List A) → n ≤ length xs → length (take n xs) ≡ n
 taken_length zero xs h = refl
 taken_length (suc n) [] h = absurd (omega (arith, h))
 taken_length (suc n) (x ∷ xs) h = ap suc (taken_length n xs (omega (arith, h)))

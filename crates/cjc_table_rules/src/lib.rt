@@ -15,13 +15,20 @@ ghost use Rattle.cjc_by_name.specs.Linked.{Method, Linked};
 ghost use Rattle.cjc_by_name.specs.Effects.{Store, Toss, effect};
 ghost use Rattle.cjc_types.specs.declared.state.State.{State as Typed};
 ghost use Rattle.cjc_world.specs.Classes.{Class};
-ghost use Rattle.cjc_ncode.specs.ByLabel.{Named};
-ghost use Rattle.cjc_shrink.specs.Tables.{Point, Arrives};
+ghost use Rattle.cjc_ncode.specs.ByLabel.{Named, run as narrow_run};
+ghost use Rattle.cjc_shrink.specs.Tables.{Point, Arrives, MayRaise};
+ghost use Rattle.cjc_shrink.specs.Reached.{IsAnswered};
 ghost use Rattle.cjc_shrink.specs.Calls.{first_locals};
-ghost use Rattle.cjc_shrink.specs.Runs.{Rule};
+ghost use Rattle.cjc_shrink.specs.Runs.{Rule, IsFine};
+ghost use Rattle.cjc_script.specs.declared.script.Script.{Script};
+ghost use Rattle.cjc_bytecode.specs.Runs.{Agree};
+ghost use Rattle.cjc_by_name.specs.Machine.{run};
+ghost use Rattle.cjc_table_rules.specs.Package.{IsPackage};
 ghost use Rattle.cjc_table_rules.specs.Analysis.{Analysis, Ascend, IsDecoded, IsSound, IsRead, CatchesAreTold, TypesAreTold, IsGiven, ThrowablesMay, HasRoomToBegin, declared_kinds, table_of};
 ghost use Rattle.cjc_table_rules.specs.Supported.{IsPlain, IsReturn};
 ghost use Rattle.cjc_table_rules.specs.Names.{IsResolved};
+ghost use Rattle.cjc_table_rules.specs.Arrays.{ClassesAreNamed, IsOnArray};
+ghost use Rattle.cjc_table_rules.specs.Calls.{IsCalled};
 ghost use Rattle.cjc_fixpoint.specs.Tables.{HasRow};
 ghost use Rattle.cjc_types.specs.Search.{cells_of};
 
@@ -41,16 +48,28 @@ pub fn written_code_stands_in_order()
 /// and range table are closed and break no rule, reached instructions keep their rules. Those that name nothing: constants,
 /// loads, stores and increases of locals, the stack's instructions, all arithmetic, i2b and i2s, jumps and switches. Those whose
 /// field, static field, class or type is found alike: getfield to putstatic, new, newarray and anewarray, checkcast and instanceof. And
-/// returns, where callers are given what the descriptor says, and athrow. Handlers are found there as whole runs ask, where types are told alike.
+/// returns, where callers are given what the descriptor says, and athrow. Those on arrays, where arrays are named by their classes: arraylength and
+/// loads and stores of elements. And calls, where both sides name, select and begin the same methods, or name the same imported ones. Handlers are found there as whole runs ask, where types are told alike.
 pub fn instructions_keep_rules()
     ensures plain { (by : Linked) (l : Named) (w : List Class) (a : Analysis) (m : Method) → IsRead a m → IsDecoded (let f = a.found m in f.body) → IsSound w (let r = a.resolution m in r.constant) (a.found m) → CatchesAreTold by l a m → (at : ℕ) (i : JInsn) (p : Point) → slice_get (let f = a.found m in let b = f.body in b.insns) at ≡ Some i → (let tb = table_of l a in tb.point m at ≡ Some p) → IsPlain i.op → Rule by l (table_of l a) m at p i }
     ensures resolved { (by : Linked) (l : Named) (w : List Class) (a : Analysis) (m : Method) → IsRead a m → IsDecoded (let f = a.found m in f.body) → IsSound w (let r = a.resolution m in r.constant) (a.found m) → CatchesAreTold by l a m → TypesAreTold w l → (at : ℕ) (i : JInsn) (p : Point) → slice_get (let f = a.found m in let b = f.body in b.insns) at ≡ Some i → (let tb = table_of l a in tb.point m at ≡ Some p) → ((t : Typed) → HasRow (let f = a.found m in f.types) at t → IsResolved by l (a.resolution m) m (cells_of t.stack) i.op) → Rule by l (table_of l a) m at p i }
     ensures returns { (by : Linked) (l : Named) (w : List Class) (a : Analysis) (m : Method) → IsRead a m → IsDecoded (let f = a.found m in f.body) → IsSound w (let r = a.resolution m in r.constant) (a.found m) → CatchesAreTold by l a m → TypesAreTold w l → IsGiven l a m → (at offset opcode : ℕ) (p : Point) → slice_get (let f = a.found m in let b = f.body in b.insns) at ≡ Some (record { at = offset; op = jop.Return opcode }) → (let tb = table_of l a in tb.point m at ≡ Some p) → IsReturn opcode → Rule by l (table_of l a) m at p (record { at = offset; op = jop.Return opcode }) }
     ensures throws { (by : Linked) (l : Named) (w : List Class) (a : Analysis) (m : Method) → IsRead a m → IsDecoded (let f = a.found m in f.body) → IsSound w (let r = a.resolution m in r.constant) (a.found m) → CatchesAreTold by l a m → TypesAreTold w l → ThrowablesMay l a → (at offset : ℕ) (p : Point) → slice_get (let f = a.found m in let b = f.body in b.insns) at ≡ Some (record { at = offset; op = jop.Throw }) → (let tb = table_of l a in tb.point m at ≡ Some p) → Rule by l (table_of l a) m at p (record { at = offset; op = jop.Throw }) }
+    ensures elements { (by : Linked) (l : Named) (w : List Class) (a : Analysis) (m : Method) → IsRead a m → IsDecoded (let f = a.found m in f.body) → IsSound w (let r = a.resolution m in r.constant) (a.found m) → CatchesAreTold by l a m → TypesAreTold w l → ClassesAreNamed w l → (at : ℕ) (i : JInsn) (p : Point) → slice_get (let f = a.found m in let b = f.body in b.insns) at ≡ Some i → (let tb = table_of l a in tb.point m at ≡ Some p) → IsOnArray i.op → Rule by l (table_of l a) m at p i }
+    ensures calls { (by : Linked) (l : Named) (w : List Class) (a : Analysis) (m : Method) → IsRead a m → IsDecoded (let f = a.found m in f.body) → IsSound w (let r = a.resolution m in r.constant) (a.found m) → CatchesAreTold by l a m → TypesAreTold w l → MayRaise l (table_of l a) → IsAnswered by l (table_of l a) → (at : ℕ) (i : JInsn) (p : Point) → slice_get (let f = a.found m in let b = f.body in b.insns) at ≡ Some i → (let tb = table_of l a in tb.point m at ≡ Some p) → ((t : Typed) → HasRow (let f = a.found m in f.types) at t → IsCalled by l w a m (cells_of t.stack) i.op) → Rule by l (table_of l a) m at p i }
 {}
 
 /// A method begins, where narrow code begins, with what its descriptor says: its receiver, if any, and its parameters in the
 /// first locals, and nothing on its stack.
 pub fn methods_begin_as_declared()
     ensures { (by : Linked) (l : Named) (w : List Class) (a : Analysis) (m : Method) → IsRead a m → IsDecoded (let f = a.found m in f.body) → IsSound w (let r = a.resolution m in r.constant) (a.found m) → HasRoomToBegin (let f = a.found m in f.body) → Arrives (table_of l a) m 0 (let s = a.narrowed m in s.at) [] (first_locals m (declared_kinds l (let f = a.found m in f.body))) }
+{}
+
+/// Every package whose reached methods are whole, with closed tables that break no rule, and whose instructions and scripts name the same on both
+/// sides keeps its rules. So its class files by name and its narrow code run alike, for every script: of the notes of any two runs one begins
+/// with the other; where the run by name of n instructions is not Running, the narrow run of at least 2n ends alike; where the narrow
+/// run of n is not Running, the run by name of at least 65,536 (n + 1) ends alike; and neither is ever stuck.
+pub fn packages_run_alike()
+    ensures rules { (by : Linked) (l : Named) (w : List Class) (a : Analysis) → IsPackage by l w a → IsFine by l (table_of l a) }
+    ensures runs { (by : Linked) (l : Named) (w : List Class) (a : Analysis) → IsPackage by l w a → (script : Script) → Agree 2 (λ n. run by script n) (λ n. narrow_run l script n) }
 {}

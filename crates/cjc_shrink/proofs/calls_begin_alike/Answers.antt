@@ -9,6 +9,6 @@ returns-clause-static_call c by l narrowed op id named params ks ls next f outer
     static_call by l narrowed (λ m. call.callee ≡ m) op id named params ks ls next f outer s g others t call refl agree
 
 pub returns-clause-object_call : goal.returns-clause-object_call
-returns-clause-object_call c by l narrowed op id named within params ks ls next f outer s g others t call stores agree =
+returns-clause-object_call c by l narrowed op id named within receives params ks ls next f outer s g others t call received stores agree =
     let on = call.call in
-    object_call by l narrowed (MaySelect l narrowed on.selected named (length (Refers within ∷ params)) within call.selects) op id named within params ks ls next f outer s g others t call (λ kind is made. (kind, (is, (made, refl)))) stores agree
+    object_call by l narrowed (MaySelect l narrowed on.selected named (length (Refers within ∷ params)) within call.selects) op id named within receives params ks ls next f outer s g others t call received (λ kind is made. (kind, (is, (made, refl)))) stores agree

@@ -1,4 +1,4 @@
-use Rattle.cjc_table_rules.proofs.Points.{plain_rule, resolved_rule, return_rule, throw_rule}
+use Rattle.cjc_table_rules.proofs.Points.{plain_rule, resolved_rule, return_rule, throw_rule, array_rule, call_rule}
 use Rattle.cjc_table_rules.proofs.instructions_keep_rules.Goals as goal
 
 pub returns-clause-plain : goal.returns-clause-plain
@@ -12,3 +12,9 @@ returns-clause-returns c = return_rule
 
 pub returns-clause-throws : goal.returns-clause-throws
 returns-clause-throws c = throw_rule
+
+pub returns-clause-elements : goal.returns-clause-elements
+returns-clause-elements c = array_rule
+
+pub returns-clause-calls : goal.returns-clause-calls
+returns-clause-calls c = call_rule

@@ -1,0 +1,155 @@
+-- What is asked of a package is what whole runs ask of its tables.
+use Rattle.std.proofs.Common.{◌≡◌, ℕ, Bool, true, false, ◌&&◌, List, [], ◌∷◌, slice_get, Option, Some, None, option_map, refl, sym, ap, subst, ◌∙◌}
+use Rattle.std.specs.Prelude.{if◌then◌else◌, codes, option_and_then}
+use Rattle.cjc_bytes.specs.Descriptor.{IsClassName}
+use Rattle.cjc_bytes.specs.declared.fault.MemberId.{MemberId}
+use Rattle.cjc_script.specs.Sorts.{Shape, OfClass, shape_name, shape_named}
+use Rattle.cjc_world.specs.Classes.{Class, all_classes, class_named}
+use Rattle.cjc_world.specs.Files.{Files}
+use Rattle.cjc_world.specs.Subtype.{is_subtype}
+use Rattle.cjc_world.specs.declared.image.StaticImage.{StaticImage}
+use Rattle.cjc_world.proofs.Cycles.{class_named-name}
+use Rattle.cjc_world.proofs.Subtypes.{reflexive, transitive}
+use Rattle.cjc_ncode.specs.ByLabel.{Named}
+use Rattle.cjc_by_name.specs.Linked.{Method, Linked}
+use Rattle.cjc_by_name.specs.Effects.{Fault, Arithmetic, NullPointer, IndexOutside, NegativeSize, ClassCast, ArrayStore, exception_class}
+use Rattle.cjc_by_name.specs.OnePackage.{is_made, object_fields, made_of, is_plain_import}
+use Rattle.cjc_by_name.specs.ByName.{linked}
+use Rattle.cjc_shrink.specs.Relation.{IsMadeOf, HasObjects, made, bare}
+use Rattle.cjc_shrink.specs.Rows.{narrow_fault}
+use Rattle.cjc_shrink.specs.Replies.{may_be_thrown, ThrowsAlike}
+use Rattle.cjc_shrink.specs.Tables.{Point, MayRaise}
+use Rattle.cjc_shrink.specs.Throws.{IsRaised}
+use Rattle.cjc_shrink.specs.Reached.{IsAnswered}
+use Rattle.cjc_table_rules.specs.Analysis.{TypesAreTold, table_of}
+use Rattle.cjc_table_rules.specs.Arrays.{ClassesAreNamed}
+use Rattle.cjc_table_rules.specs.Package.{IsPackage}
+use Rattle.cjc_table_rules.specs.Calls.{IsWhole}
+use Rattle.cjc_table_rules.proofs.Spelt.{shape_spelt}
+use Rattle.cjc_table_rules.proofs.Points.{point_from}
+use Rattle.cjc_narrow.specs.Package.{fault_name, name_there, plain_import, throwable_import, named}
+use Rattle.cjc_narrow_runs.specs.Tables.{Tables, look_ups, analysis, HasTables}
+use Rattle.cjc_narrow_runs.specs.Converted.{IsException, IsConverted}
+use Rattle.cjc_narrow_runs.proofs.Whole.{is_whole}
+
+-- a class that some file has is there by its name
+there_by_name : (w : List Class) (name : List ℕ) (c : Class) → class_named w name ≡ Some c → name_there w name ≡ Some name
+there_by_name w name c is = ap (option_map (λ (c : Class). c.name)) is ∙ ap Some (class_named-name w name c is)
+
+-- an imported class, no interface, is one that some file has
+class_there : (o : Option Class) → is_plain_import o ≡ true → (c : Class) × (o ≡ Some c)
+class_there None e = cc
+class_there (Some c) e = (c, refl)
+
+imported_is : (w : List Class) (name : List ℕ) → is_plain_import (class_named w name) ≡ true → plain_import w name ≡ Some name
+imported_is w name e = ap (λ b. if b then Some name else None) e
+
+import_of : (w : List Class) (name other : List ℕ) → plain_import w name ≡ Some other → is_plain_import (class_named w name) ≡ true
+import_of w name other e = go (is_plain_import (class_named w name)) refl e
+  where
+    go : (b : Bool) → is_plain_import (class_named w name) ≡ b → (if b then Some name else None) ≡ Some other → is_plain_import (class_named w name) ≡ true
+    go true is e = is
+    go false is e = cc
+
+-- a class of which objects are made is one that some file has
+made_is_there : (w : List Class) (name : List ℕ) (fields : List MemberId) → made_of w name ≡ Some fields → (c : Class) × (class_named w name ≡ Some c)
+made_is_there w name fields e = go (class_named w name) refl e
+  where
+    go : (o : Option Class) → class_named w name ≡ o → option_and_then (λ c. if is_made c then Some (object_fields w name) else None) o ≡ Some fields → (c : Class) × (class_named w name ≡ Some c)
+    go None is e = cc
+    go (Some c) is e = (c, is)
+
+both_of : (a b : Bool) → (a && b) ≡ true → (a ≡ true) × (b ≡ true)
+both_of true true e = (refl, refl)
+both_of true false e = cc
+both_of false b e = cc
+
+same_fault : (fault : Fault) → fault_name (narrow_fault fault) ≡ exception_class fault
+same_fault Arithmetic = refl
+same_fault NullPointer = refl
+same_fault IndexOutside = refl
+same_fault NegativeSize = refl
+same_fault ClassCast = refl
+same_fault ArrayStore = refl
+
+module _ (files : Files) (image : StaticImage) (near : List MemberId) (tables : Tables) (is : IsConverted files image near tables) where
+  abbrev w : List Class
+  w = all_classes files
+
+  abbrev by : Linked
+  by = linked files image
+
+  abbrev l : Named
+  l = look_ups files image near tables
+
+  types_told : TypesAreTold w l
+  unfolding named
+  types_told = record {
+    tells = λ name shape spelt kind. ap (is_subtype w (shape_name kind)) (shape_spelt name shape spelt);
+    itself = reflexive w;
+    through = transitive w;
+  }
+
+  classes_named : ClassesAreNamed w l
+  unfolding named
+  classes_named = record {
+    classes = is.names;
+    objects = λ class objects. of_objects class objects.0 objects.1;
+  }
+    where
+      of_objects : (class : List ℕ) (fields : List MemberId) → HasObjects l class fields → IsClassName class
+      of_objects class fields (made has) = let c = made_is_there w class fields has in is.names class c.0 c.1
+      of_objects class fields (bare none has) = let c = class_there (class_named w class) (import_of w class class has) in is.names class c.0 c.1
+
+  raised : (fault : Fault) → IsRaised l fault
+  unfolding named
+  raised fault =
+      let e = is.exceptions fault in
+      let c = class_there (class_named w (exception_class fault)) e.imported in
+      record {
+        class = ap (name_there w) (same_fault fault) ∙ there_by_name w (exception_class fault) c.0 c.1;
+        imported = imported_is w (exception_class fault) e.imported;
+      }
+
+  exceptions : MayRaise l (table_of l (analysis files image near tables))
+  exceptions = record { raises = raised; may_raise = λ fault. (let e = is.exceptions fault in e.throwable) }
+
+  thrown : (class : List ℕ) → ThrowsAlike by l class
+  unfolding linked named
+  thrown class = record {
+    tells = go (is_plain_import (class_named w class)) (is_subtype w class (codes "java/lang/Throwable"));
+    imported = λ may. imported_is w class (both_of (is_plain_import (class_named w class)) (is_subtype w class (codes "java/lang/Throwable")) may).0;
+  }
+    where
+      go : (a b : Bool) → (if b then (if a then Some class else None) else None) ≡ (if a && b then Some class else None)
+      go true true = refl
+      go true false = refl
+      go false true = refl
+      go false false = refl
+
+  may_be : (class : List ℕ) → may_be_thrown by class ≡ true → is_subtype w class (codes "java/lang/Throwable") ≡ true
+  unfolding linked
+  may_be class may = (both_of (is_plain_import (class_named w class)) (is_subtype w class (codes "java/lang/Throwable")) may).1
+
+  answered : IsAnswered by l (table_of l (analysis files image near tables))
+  answered = record { acts = is.acts; throws = thrown; may_throw = may_be }
+
+  has_tables : (m : Method) (at : ℕ) (p : Point) → (let tb = table_of l (analysis files image near tables) in tb.point m at ≡ Some p) → HasTables files tables m
+  has_tables m at p known = let h = point_from l (slice_get (tables.types m) at) (slice_get (tables.ranges m) at) p known in is.methods m at h.typed h.has_types
+
+  may_throw_all : (kind : Shape (List ℕ)) → l.is_of kind (OfClass (codes "java/lang/Throwable")) ≡ true → is_subtype w (shape_name kind) (codes "java/lang/Throwable") ≡ true
+  unfolding named
+  may_throw_all kind e = e
+
+  pub is_package : IsPackage by l w (analysis files image near tables)
+  is_package = record {
+    types = types_told;
+    arrays = classes_named;
+    methods = λ m at p known. is_whole files image near tables m (has_tables m at p known);
+    supported = λ m whole at i t there row. is.supported m (is.methods m at t row) at i t there row;
+    throwables = may_throw_all;
+    exceptions = exceptions;
+    answered = answered;
+    scripted = is.scripted;
+    starts = is.starts;
+  }
