@@ -14,8 +14,9 @@ use Rattle.cjc_ncode.specs.declared.narrow.NInsn.TheVariants as insns
 use Rattle.cjc_ncode.specs.declared.narrow.PoolKey.{PoolKey}
 use Rattle.cjc_ncode.specs.declared.narrow.PoolKey.TheVariants as keys
 use Rattle.cjc_lower.specs.Naming.{Naming}
-use Rattle.cjc_lower.specs.Laid.{IsFormed, bare, push, local, increase, words, jump, range, lookup, named, by_interface, new_array, casts, asks, distance, invokeinterface, laid, matches, newarray, offsets, switch_as, untabled, wide_jump}
+use Rattle.cjc_lower.specs.Laid.{distance, invokeinterface, laid, matches, newarray, offsets, switch_as, untabled, wide_jump}
 use Rattle.cjc_lower.specs.Placed.{bytes_by, bytes_of, IsSpellable}
+use Rattle.cjc_layout.specs.Forms.{HasForm, bare, push, local, increase, words, jump, range, lookup, named, by_interface, new_array, casts, asks}
 use Rattle.cjc_layout.proofs.Opcodes.{lookup_opcode}
 use Rattle.cjc_emit.specs.Emitted.{HasIndex, HasNames, IsNamedBy}
 use Rattle.cjc_emit.specs.Working.{bits, index_in, jump_opcode, known, last_bits, length_by, low_bytes, lookup_bytes, match_bytes, offset_bytes, range_bytes, switch_bytes, table_bytes, with_one, with_two, written}
@@ -375,7 +376,7 @@ module _ (ks : List PoolKey) (token_of : MemberId → Option ℕ) (n : Naming) (
   index_same : (key : PoolKey) → HasIndex ks token_of key → index_in ks key ≡ n.index key
   index_same key h = ap known h.1 ∙ sym (names.index key h.0 h.1)
 
-  pub spelled : (to : ℕ → ℕ) (at : ℕ) (w : Bool) (i : NInsn) → IsFormed n i → IsSpellable (laid n to at w i) → HasNames ks token_of i → written ks token_of to at w i ≡ bytes_of (laid n to at w i)
+  pub spelled : (to : ℕ → ℕ) (at : ℕ) (w : Bool) (i : NInsn) → HasForm i → IsSpellable (laid n to at w i) → HasNames ks token_of i → written ks token_of to at w i ≡ bytes_of (laid n to at w i)
   spelled to at w (insns.Op op) bare s h = bare_spelled op s
   spelled to at w (insns.Push op value) (push e) s h = one_spelled op value s
   spelled to at w (insns.Local op index) (local e) s h = one_spelled op (pos index) s
@@ -384,8 +385,8 @@ module _ (ks : List PoolKey) (token_of : MemberId → Option ℕ) (n : Naming) (
   spelled to at w (insns.Jump op target) (jump e f) s h = jump_spelled w op (distance at (to target)) (ap is_branch f) s
   spelled to at w (insns.Switch op other low cases) (range {is_int = is_int} e) s h = range_spelled n to at op other low cases is_int e s
   spelled to at w (insns.Switch op other low cases) (lookup {is_int = is_int} e) s h = lookup_spelled n to at op other low cases is_int e s
-  spelled to at w (insns.Named op key) (named e a b) s h = ap (λ k. with_one op k) (index_same key h) ∙ one_spelled op (pos (n.index key)) s
-  spelled to at w (insns.Interface nargs m) (by_interface a b) s h =
+  spelled to at w (insns.Named op key) (named e) s h = ap (λ k. with_one op k) (index_same key h) ∙ one_spelled op (pos (n.index key)) s
+  spelled to at w (insns.Interface nargs m) by_interface s h =
       let t : known (token_of m) ≡ n.interface_token m = ap known h.1.1 ∙ sym (names.token m h.1.0 h.1.1) in
       ap (λ k. 0x8E ∷ nargs ∷ (low_bytes 2 k ++ known (token_of m) ∷ [])) (index_same (keys.Class m.class) h.0)
       ∙ (ap (λ t. 0x8E ∷ nargs ∷ (low_bytes 2 (n.index (keys.Class m.class)) ++ t ∷ [])) t

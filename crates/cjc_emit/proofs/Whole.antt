@@ -8,10 +8,11 @@ use Rattle.cjc_ncode.specs.declared.narrow.NInsn.{NInsn}
 use Rattle.cjc_ncode.specs.declared.narrow.NMethod.{NMethod}
 use Rattle.cjc_ncode.specs.declared.narrow.PoolKey.{PoolKey}
 use Rattle.cjc_lower.specs.Naming.{Naming}
-use Rattle.cjc_lower.specs.Laid.{IsFormed, laid}
+use Rattle.cjc_lower.specs.Laid.{laid}
 use Rattle.cjc_lower.specs.Placed.{bytes_before, bytes_of, code_bytes, first, insn_size, offset_of, IsSpellable}
 use Rattle.cjc_lower.proofs.Places.{before_over}
 use Rattle.cjc_layout.specs.declared.layout.Layout.{Layout}
+use Rattle.cjc_layout.specs.Forms.{HasForm}
 use Rattle.cjc_layout.specs.Layouts.{IsLayout}
 use Rattle.cjc_layout.specs.Sizes as Sizes
 use Rattle.cjc_layout.proofs.Lowered.{before_same}
@@ -30,7 +31,7 @@ next_place places k at size before j e =
 module _ (ks : List PoolKey) (token_of : MemberId → Option ℕ) (n : Naming) (names : IsNamedBy ks token_of n) (to : ℕ → ℕ) (places : List ℕ) where
   -- an instruction can be written at an offset
   pub record IsReady (at : ℕ) (w : Bool) (i : NInsn) : Type 0 where
-    pub formed : IsFormed n i
+    pub form : HasForm i
     pub spellable : IsSpellable (laid n to at w i)
     pub has : HasNames ks token_of i
 
@@ -43,7 +44,7 @@ module _ (ks : List PoolKey) (token_of : MemberId → Option ℕ) (n : Naming) (
       let size = insn_size n w i in
       let rest = all_written ks token_of to places (k + 1) insns wide in
       ap (λ a. written ks token_of to a w i ++ rest) here
-      ∙ (ap (λ xs. xs ++ rest) (spelled ks token_of n names to at w i r.formed r.spellable r.has)
+      ∙ (ap (λ xs. xs ++ rest) (spelled ks token_of n names to at w i r.form r.spellable r.has)
       ∙ ap (λ xs. bytes_of (laid n to at w i) ++ xs) (code_written (k + 1) (at + size) insns wide
       (λ j h. next_place places k at size (bytes_before n insns wide) j (there (suc j) (omega arith)))
       (λ j x v e f. let g : at + (size + bytes_before n insns wide j) ≡ at + size + bytes_before n insns wide j = omega arith in subst (λ a. IsReady a v x) g (ready (suc j) x v e f))))
@@ -72,7 +73,7 @@ module _ (ks : List PoolKey) (token_of : MemberId → Option ℕ) (n : Naming) (
   base = first (placed_at 0 m l.wide)
 
   same_before : (k : ℕ) → bytes_before n m.insns l.wide k ≡ Sizes.bytes_before m.insns l.wide k
-  same_before k = before_same n m.insns l.wide can.laid_out.formed k
+  same_before k = before_same n m.insns l.wide can.written.forms k
 
   place_same : (k : ℕ) → k < length m.insns → slice_index l.places k ≡ to k
   place_same k h = is.places.each k h ∙ sym (same_before k)
@@ -88,8 +89,8 @@ module _ (ks : List PoolKey) (token_of : MemberId → Option ℕ) (n : Naming) (
   ready : (k : ℕ) (i : NInsn) (w : Bool) → slice_get m.insns k ≡ Some i → slice_get l.wide k ≡ Some w → IsReady ks token_of n can.named to l.places (0 + to k) w i
   ready k i w e f =
       let z : to k ≡ 0 + to k = omega arith in
-      let s = subst (λ x. IsSpellable x) (laid_shift n base to (to k) w i) (can.laid_out.spellable k i w e f) in
-      subst (λ a. IsReady ks token_of n can.named to l.places a w i) z (record { formed = can.laid_out.formed k i e; spellable = s; has = can.names k i e })
+      let s = subst (λ x. IsSpellable x) (laid_shift n base to (to k) w i) (can.written.spellable k i w e f) in
+      subst (λ a. IsReady ks token_of n can.named to l.places a w i) z (record { form = can.written.forms k i e; spellable = s; has = can.names k i e })
 
   pub whole_written : header_bytes m ++ all_written ks token_of (label_at l.places l.length) l.places 0 m.insns l.wide ≡ emitted_bytes n m l.wide
   whole_written =

@@ -10,8 +10,9 @@ use Rattle.cjc_ncode.specs.declared.narrow.PoolKey.{PoolKey}
 use Rattle.cjc_ncode.specs.declared.narrow.PoolKey.TheVariants as keys
 use Rattle.cjc_ncode.specs.PoolOrder.{same_key}
 use Rattle.cjc_lower.specs.Naming.{Naming}
-use Rattle.cjc_lower.specs.Laid.{invokeinterface}
-use Rattle.cjc_lower.specs.Placed.{Placed, IsLaidOut, extended_header, insn_size, method_bytes, short_header}
+use Rattle.cjc_lower.specs.Laid.{invokeinterface, laid}
+use Rattle.cjc_lower.specs.Placed.{IsSpellable, Placed, extended_header, insn_size, method_bytes, offset_of, short_header}
+use Rattle.cjc_layout.specs.Forms.{HasForm}
 use Rattle.cjc_emit.specs.declared.emitted.MethodBytes.{MethodBytes}
 
 -- ---- bytes
@@ -36,6 +37,12 @@ emitted_bytes n m wide = method_bytes n (placed_at 0 m wide)
 pub record IsNamedBy (ks : List PoolKey) (token_of : MemberId → Option ℕ) (n : Naming) : Type 0 where
   pub index : (key : PoolKey) (i : ℕ) → position (same_key key) ks ≡ Some i → n.index key ≡ i
   pub token : (id : MemberId) (t : ℕ) → token_of id ≡ Some t → n.interface_token id ≡ t
+
+-- Instructions of a method that have their forms, and that bytes can say where they are laid. What their names mean is not asked.
+pub record CanBeWritten (n : Naming) (p : Placed) : Type 0 where
+  pub count : length p.wide ≡ (let m = p.method in length m.insns)
+  pub forms : (k : ℕ) (insn : NInsn) → (let m = p.method in slice_get m.insns k ≡ Some insn) → HasForm insn
+  pub spellable : (k : ℕ) (insn : NInsn) (wide : Bool) → (let m = p.method in slice_get m.insns k ≡ Some insn) → slice_get p.wide k ≡ Some wide → IsSpellable (laid n (offset_of n p) (offset_of n p k) wide insn)
 
 -- ---- places of indices
 
@@ -79,10 +86,10 @@ module _ (ks : List PoolKey) (token_of : MemberId → Option ℕ) where
   HasNames (insns.TypeTest op kind (Some class)) = HasIndex (keys.Class class)
   HasNames _ = Unit {0}
 
-  -- Components name what a pool has, bytes can say the method's instructions where they are laid, and the pool has what these name.
+  -- Components name what a pool has, the method's instructions can be written where they are laid, and the pool has what these name.
   pub record IsEmittable (n : Naming) (m : NMethod) (wide : List Bool) : Type 0 where
     pub named : IsNamedBy ks token_of n
-    pub laid_out : IsLaidOut n (placed_at 0 m wide)
+    pub written : CanBeWritten n (placed_at 0 m wide)
     pub names : (k : ℕ) (insn : NInsn) → slice_get m.insns k ≡ Some insn → HasNames insn
 
 -- The bytes of a method, and the places of its indices of one byte and of two.

@@ -9,9 +9,9 @@ ghost use Rattle.cjc_ncode.specs.declared.narrow.NInsn.{NInsn as Insn};
 ghost use Rattle.cjc_ncode.specs.declared.narrow.NMethod.{NMethod as Method};
 ghost use Rattle.cjc_lower.specs.Naming.{Naming};
 ghost use Rattle.cjc_lower.specs.Laid.{laid};
-ghost use Rattle.cjc_lower.specs.Placed.{IsHeader, IsLaidOut, method_bytes, offset_of};
+ghost use Rattle.cjc_lower.specs.Placed.{IsHeader, method_bytes, offset_of};
 ghost use Rattle.cjc_lower.specs.Worked.{naming};
-ghost use Rattle.cjc_emit.specs.Emitted.{emitted_bytes, header_bytes, index_places, placed_at};
+ghost use Rattle.cjc_emit.specs.Emitted.{CanBeWritten, emitted_bytes, header_bytes, index_places, placed_at};
 ghost use Rattle.cjc_emit.specs.Worked.{method, narrow};
 
 mod code;
@@ -49,5 +49,5 @@ pub fn methods_stand_anywhere()
 /// Decoding what is emitted of a method gives back each instruction as it is laid, at the offset of its label and
 /// whatever stands behind the method.
 pub fn emitted_code_is_decoded()
-    ensures { (n : Naming) (m : Method) (wide : List Bool) (behind : List ℕ) → (let p = placed_at 0 m wide in IsLaidOut n p → (k : ℕ) (insn : Insn) (w : Bool) → slice_get m.insns k ≡ Some insn → slice_get wide k ≡ Some w → decode (drop (offset_of n p k) (emitted_bytes n m wide ++ behind)) ≡ Some (laid n (offset_of n p) (offset_of n p k) w insn)) }
+    ensures { (n : Naming) (m : Method) (wide : List Bool) (behind : List ℕ) → (let p = placed_at 0 m wide in CanBeWritten n p → (k : ℕ) (insn : Insn) (w : Bool) → slice_get m.insns k ≡ Some insn → slice_get wide k ≡ Some w → decode (drop (offset_of n p k) (emitted_bytes n m wide ++ behind)) ≡ Some (laid n (offset_of n p) (offset_of n p k) w insn)) }
 {}

@@ -9,14 +9,15 @@ use Rattle.cjc_ncode.specs.declared.narrow.NInsn.{NInsn}
 use Rattle.cjc_ncode.specs.declared.narrow.NInsn.TheVariants as insns
 use Rattle.cjc_ncode.specs.declared.narrow.NMethod.{NMethod}
 use Rattle.cjc_lower.specs.Naming.{Naming}
-use Rattle.cjc_lower.specs.Laid.{IsFormed, jump, range, lookup, distance, laid, matches, offsets, switch_as, untabled, wide_jump}
+use Rattle.cjc_lower.specs.Laid.{IsFormed, distance, laid, matches, offsets, switch_as, untabled, wide_jump}
 use Rattle.cjc_lower.specs.Placed.{IsLaidOut, IsSpellable, bytes_before, first}
 use Rattle.cjc_layout.specs.declared.layout.Layout.{Layout}
+use Rattle.cjc_layout.specs.Forms.{HasForm, jump, range, lookup}
 use Rattle.cjc_layout.specs.Layouts.{IsLayout}
 use Rattle.cjc_layout.specs.Legal.{is_near}
 use Rattle.cjc_layout.specs.Sizes as Sizes
-use Rattle.cjc_layout.proofs.Lowered.{before_same}
-use Rattle.cjc_emit.specs.Emitted.{placed_at}
+use Rattle.cjc_layout.proofs.Lowered.{before_same, has_form}
+use Rattle.cjc_emit.specs.Emitted.{CanBeWritten, placed_at}
 use Rattle.cjc_emit.proofs.Shifted.{laid_shift}
 use Rattle.cjc_emit_laws.specs.Said.{CanBeSaid}
 use Rattle.cjc_emit_laws.proofs.Forms.{is_branch, is_ranged, is_paired, jump_forms, range_form, pair_form}
@@ -91,7 +92,7 @@ module _ (n : Naming) (to : ℕ → ℕ) (at : ℕ) (far : (label : ℕ) → IsW
 
   -- ---- any instruction
 
-  pub one : (i : NInsn) (w : Bool) → IsFormed n i → CanBeSaid n i → ((op target : ℕ) → i ≡ insns.Jump op target → w ≡ false → IsWithin 128 (distance at (to target))) → IsSpellable (laid n to at w i)
+  pub one : (i : NInsn) (w : Bool) → HasForm i → CanBeSaid n i → ((op target : ℕ) → i ≡ insns.Jump op target → w ≡ false → IsWithin 128 (distance at (to target))) → IsSpellable (laid n to at w i)
   one (insns.Op op) w f s near = s
   one (insns.Push op value) w f s near = s
   one (insns.Local op index) w f s near = s
@@ -112,12 +113,12 @@ module _ (n : Naming) (to : ℕ → ℕ) (at : ℕ) (far : (label : ℕ) → IsW
 
 -- ---- a method at its layout
 
-module _ (n : Naming) (m : NMethod) (l : Layout) (offset : ℕ) (is : IsLayout m l) (small : l.length ≤ 32767) (formed : (k : ℕ) (i : NInsn) → slice_get m.insns k ≡ Some i → IsFormed n i) (said : (k : ℕ) (i : NInsn) → slice_get m.insns k ≡ Some i → CanBeSaid n i) where
+module _ (n : Naming) (m : NMethod) (l : Layout) (offset : ℕ) (is : IsLayout m l) (small : l.length ≤ 32767) (forms : (k : ℕ) (i : NInsn) → slice_get m.insns k ≡ Some i → HasForm i) (said : (k : ℕ) (i : NInsn) → slice_get m.insns k ≡ Some i → CanBeSaid n i) where
   abbrev to : ℕ → ℕ
   to k = bytes_before n m.insns l.wide k
 
   same_before : (k : ℕ) → to k ≡ Sizes.bytes_before m.insns l.wide k
-  same_before k = before_same n m.insns l.wide formed k
+  same_before k = before_same n m.insns l.wide forms k
 
   inside : (k : ℕ) → to k ≤ 32767
   inside k =
@@ -137,7 +138,12 @@ module _ (n : Naming) (m : NMethod) (l : Layout) (offset : ℕ) (is : IsLayout m
   spell : (k : ℕ) (i : NInsn) (w : Bool) → slice_get m.insns k ≡ Some i → slice_get l.wide k ≡ Some w → IsSpellable (laid n (λ label. base + to label) (base + to k) w i)
   spell k i w e f =
       subst (λ x. IsSpellable x) (sym (laid_shift n base to (to k) w i))
-      (one n to (to k) (λ label. far_within (to k) (to label) (inside k) (inside label)) i w (formed k i e) (said k i e) (λ op target a b. near k op target (e ∙ ap Some a) (f ∙ ap Some b)))
+      (one n to (to k) (λ label. far_within (to k) (to label) (inside k) (inside label)) i w (forms k i e) (said k i e) (λ op target a b. near k op target (e ∙ ap Some a) (f ∙ ap Some b)))
 
-  pub laid_out : IsLaidOut n (placed_at offset m l.wide)
-  laid_out = record { forms = is.wide.legal.count; formed = formed; spellable = spell }
+  pub layout_written : CanBeWritten n (placed_at offset m l.wide)
+  layout_written = record { count = is.wide.legal.count; forms = forms; spellable = spell }
+
+pub layout_laid : (n : Naming) (m : NMethod) (l : Layout) (offset : ℕ) → IsLayout m l → l.length ≤ 32767 → ((k : ℕ) (i : NInsn) → slice_get m.insns k ≡ Some i → IsFormed n i) → ((k : ℕ) (i : NInsn) → slice_get m.insns k ≡ Some i → CanBeSaid n i) → IsLaidOut n (placed_at offset m l.wide)
+layout_laid n m l offset is small formed said =
+    let by = layout_written n m l offset is small (λ k i e. has_form n i (formed k i e)) said in
+    record { forms = by.count; formed = formed; spellable = by.spellable }

@@ -15,11 +15,12 @@ use Rattle.cjc_ncode.specs.declared.narrow.NInsn.{NInsn}
 use Rattle.cjc_ncode.specs.declared.narrow.NInsn.TheVariants as narrow
 use Rattle.cjc_lower.specs.Naming.{Naming}
 use Rattle.cjc_lower.specs.Laid as Laid
-use Rattle.cjc_lower.specs.Laid.{IsFormed, bare, push, local, increase, words, jump, range, lookup, named, by_interface, new_array, casts, asks, wide_jump, class_index}
+use Rattle.cjc_lower.specs.Laid.{IsFormed, Tests, wide_jump, class_index}
 use Rattle.cjc_lower.specs.Handlers as Lower
 use Rattle.cjc_lower.specs.Handlers.{meets_any}
 use Rattle.cjc_lower.specs.Placed as Placed
 use Rattle.cjc_layout.specs.Sizes.{size_by, insn_size, bytes_before}
+use Rattle.cjc_layout.specs.Forms.{HasForm, IsTest, a_class, numbers, references, bare, push, local, increase, words, jump, range, lookup, named, by_interface, new_array, casts, asks}
 use Rattle.cjc_layout.specs.Handlers.{handlers_of}
 use Rattle.cjc_layout.specs.OnCard.{handler_on_card}
 use Rattle.cjc_layout.proofs.Opcodes.{same, table_opcode, lookup_opcode}
@@ -152,7 +153,30 @@ branch_sizes op e f = ⊎_elim (λ lt. found (fine_below 185 op jumps_fine lt)) 
         let p = both (size_by (form op) 0 == 2) (size_by (form (wide_jump op)) 0 == 3) h in
         (same _ 2 p.0, same _ 3 p.1)
 
--- ---- of formed instructions
+-- ---- formed instructions
+
+test_has : (n : Naming) (kind : ℕ) (class : Option (List ℕ)) → Tests n kind class → IsTest kind class
+test_has n kind class (Laid.a_class h c) = a_class
+test_has n kind class (Laid.numbers element) = numbers element
+test_has n kind class (Laid.references h c) = references
+
+-- what is formed has its form
+pub has_form : (n : Naming) (i : NInsn) → IsFormed n i → HasForm i
+has_form n (narrow.Op op) Laid.bare = bare
+has_form n (narrow.Push op value) (Laid.push e) = push e
+has_form n (narrow.Local op index) (Laid.local e) = local e
+has_form n (narrow.Inc op index by) (Laid.increase e) = increase e
+has_form n (narrow.Words op high low) (Laid.words e) = words e
+has_form n (narrow.Jump op target) (Laid.jump e f) = jump e f
+has_form n (narrow.Switch op other low cases) (Laid.range e) = range e
+has_form n (narrow.Switch op other low cases) (Laid.lookup e) = lookup e
+has_form n (narrow.Named op key) (Laid.named e h f) = named e
+has_form n (narrow.Interface nargs m) (Laid.by_interface h f) = by_interface
+has_form n (narrow.NewArray kind) Laid.new_array = new_array
+has_form n (narrow.TypeTest op kind class) (Laid.casts e t) = casts e (test_has n kind class t)
+has_form n (narrow.TypeTest op kind class) (Laid.asks e t) = asks e (test_has n kind class t)
+
+-- ---- of instructions of their forms
 
 module _ (n : Naming) (w : Bool) where
   jump_size : (w : Bool) (op target : ℕ) → is_branch (meaning op) ≡ true → is_branch (meaning (wide_jump op)) ≡ true → Placed.insn_size n w (narrow.Jump op target) ≡ (if w then 3 else 2)
@@ -177,7 +201,7 @@ module _ (n : Naming) (w : Bool) where
       ap (λ m. size (Laid.switch_as n (λ label. 0) m 0 op other low cases)) e
       ∙ pairs_size op (form op) _ (length cases) _ (no_table op (ap is_ranged e))
 
-  pub size_same : (i : NInsn) → IsFormed n i → Placed.insn_size n w i ≡ insn_size w i
+  pub size_same : (i : NInsn) → HasForm i → Placed.insn_size n w i ≡ insn_size w i
   size_same (narrow.Op op) bare = none_size op (form op)
   size_same (narrow.Push op value) (push e) = one_size op (form op) _
   size_same (narrow.Local op index) (local e) = one_size op (form op) _
@@ -186,14 +210,14 @@ module _ (n : Naming) (w : Bool) where
   size_same (narrow.Jump op target) (jump e f) = jump_size w op target (ap is_branch e) (ap is_branch f)
   size_same (narrow.Switch op other low cases) (range {is_int = is_int} e) = switch_range op other low cases is_int e
   size_same (narrow.Switch op other low cases) (lookup {is_int = is_int} e) = switch_lookup op other low cases is_int e
-  size_same (narrow.Named op key) (named e h f) = one_size op (form op) _
-  size_same (narrow.Interface nargs m) (by_interface h f) = interface_size nargs m
+  size_same (narrow.Named op key) (named e) = one_size op (form op) _
+  size_same (narrow.Interface nargs m) by_interface = interface_size nargs m
   size_same (narrow.NewArray kind) new_array = array_size kind
   size_same (narrow.TypeTest op kind class) (casts e t) = two_size op (form op) _ _ (no_lookup op (ap is_paired e))
   size_same (narrow.TypeTest op kind class) (asks e t) = two_size op (form op) _ _ (no_lookup op (ap is_paired e))
 
 -- the offsets of labels are the same
-pub before_same : (n : Naming) (insns : List NInsn) (wide : List Bool) → ((k : ℕ) (i : NInsn) → slice_get insns k ≡ Some i → IsFormed n i) → (k : ℕ) → Placed.bytes_before n insns wide k ≡ bytes_before insns wide k
+pub before_same : (n : Naming) (insns : List NInsn) (wide : List Bool) → ((k : ℕ) (i : NInsn) → slice_get insns k ≡ Some i → HasForm i) → (k : ℕ) → Placed.bytes_before n insns wide k ≡ bytes_before insns wide k
 before_same n insns wide formed zero = refl
 before_same n [] wide formed (suc k) = refl
 before_same n (i ∷ insns) [] formed (suc k) = refl

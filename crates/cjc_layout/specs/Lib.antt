@@ -1,4 +1,5 @@
 pub mod Sizes
+pub mod Forms
 pub mod Legal
 pub mod Handlers
 pub mod Refusals

@@ -15,6 +15,7 @@ ghost use Rattle.cjc_lower.specs.Handlers as Lower;
 ghost use Rattle.cjc_layout.specs.OnCard.{handler_on_card};
 ghost use Rattle.cjc_lower.specs.Laid.{distance};
 ghost use Rattle.cjc_layout.specs.Sizes.{insn_size, bytes_before};
+ghost use Rattle.cjc_layout.specs.Forms.{HasForm};
 ghost use Rattle.cjc_layout.specs.Legal.{is_near};
 ghost use Rattle.cjc_layout.specs.Handlers.{handlers_of, table_order};
 ghost use Rattle.cjc_layout.specs.Refusals.{overtaking};
@@ -59,11 +60,12 @@ pub fn handlers_are_ordered()
 {}
 
 /// Sizes, offsets of labels and handlers of a layout are those with which instructions and handlers are laid
-/// out in components: the sizes of formed instructions under every naming, and with the offset of the method's
-/// first instruction added, the handlers of the handler table.
+/// out in components: the sizes of instructions that have their forms, as all formed ones have, under every naming; and
+/// with the offset of the method's first instruction added, the handlers of the handler table.
 pub fn layouts_are_laid_out()
-    ensures sizes { (n : Naming) (wide : Bool) (insn : NInsn) → IsFormed n insn → Placed.insn_size n wide insn ≡ insn_size wide insn }
-    ensures offsets { (n : Naming) (insns : List NInsn) (wide : List Bool) → ((k : ℕ) (insn : NInsn) → slice_get insns k ≡ Some insn → IsFormed n insn) → (label : ℕ) → Placed.bytes_before n insns wide label ≡ bytes_before insns wide label }
+    ensures forms { (n : Naming) (insn : NInsn) → IsFormed n insn → HasForm insn }
+    ensures sizes { (n : Naming) (wide : Bool) (insn : NInsn) → HasForm insn → Placed.insn_size n wide insn ≡ insn_size wide insn }
+    ensures offsets { (n : Naming) (insns : List NInsn) (wide : List Bool) → ((k : ℕ) (insn : NInsn) → slice_get insns k ≡ Some insn → HasForm insn) → (label : ℕ) → Placed.bytes_before n insns wide label ≡ bytes_before insns wide label }
     ensures handlers { (n : Naming) (first : ℕ) (to : ℕ → ℕ) (catches : List NCatch) → map (handler_on_card n first) (handlers_of to catches) ≡ Lower.handlers_of n (λ label. first + to label) catches }
 {}
 

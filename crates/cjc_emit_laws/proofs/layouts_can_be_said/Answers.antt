@@ -1,5 +1,8 @@
-use Rattle.cjc_emit_laws.proofs.Said.{laid_out}
+use Rattle.cjc_emit_laws.proofs.Said.{layout_laid, layout_written}
 use Rattle.cjc_emit_laws.proofs.layouts_can_be_said.Goals as goal
 
-pub returns : goal.returns
-returns c = λ n m l offset is small formed said. laid_out n m l offset is small formed said
+pub returns-clause-written : goal.returns-clause-written
+returns-clause-written c = layout_written
+
+pub returns-clause-laid_out : goal.returns-clause-laid_out
+returns-clause-laid_out c = layout_laid

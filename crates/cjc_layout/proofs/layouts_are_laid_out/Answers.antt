@@ -1,5 +1,8 @@
-use Rattle.cjc_layout.proofs.Lowered.{size_same, before_same, handlers_placed}
+use Rattle.cjc_layout.proofs.Lowered.{has_form, size_same, before_same, handlers_placed}
 use Rattle.cjc_layout.proofs.layouts_are_laid_out.Goals as goal
+
+pub returns-clause-forms : goal.returns-clause-forms
+returns-clause-forms c = has_form
 
 pub returns-clause-sizes : goal.returns-clause-sizes
 returns-clause-sizes c = size_same
