@@ -35,7 +35,7 @@ use Rattle.cjc_types.specs.Steps.{goes_on, targets, takes}
 use Rattle.cjc_types.specs.Flow.{Body, place_at, next_place, successors, covers, type_flow}
 use Rattle.cjc_types.specs.Marks.{is_marked}
 use Rattle.cjc_types.specs.Tables.{IsTypeTable, state_of, states_of, rows_of}
-use Rattle.cjc_types.specs.Working.MarkLaws.{map_from, passed}
+use Rattle.cjc_types.specs.Working.MarkLaws.{map_from, passed, jump_marked, handles_marked, unmarked_none}
 use Rattle.cjc_types.specs.Working.Onward.{gone_on_by}
 use Rattle.cjc_types.proofs.Typed.{are_frames, are_typed}
 use Rattle.cjc_range_flow.specs.Frames.{StackOf, Cells, Clash, stack_of, IsStack, IsStackBelow, spans, RangeState, states}
@@ -48,7 +48,7 @@ use Rattle.cjc_flow.specs.Tables.{IsRangeTable}
 use Rattle.cjc_flow.specs.Working.Kept.{Ranged, kept_arrival, kept_edge, kept_handler, value_at, after_at, kept_edges, kept_place, kept_flow}
 use Rattle.cjc_flow.specs.Working.KeptLaws.{kept_laws, own_caught, own_after_at}
 use Rattle.cjc_flow.proofs.Loading.{rows_sized}
-use Rattle.cjc_flow.proofs.Marked.{jump_marked, handler_marked, not_target, unmarked_none}
+use Rattle.cjc_flow.proofs.Marked.{not_target}
 use Rattle.cjc_flow.proofs.Normal.{fits, fits_stack, fits_state, HasArray, fits_same, fits_up, fits_numbers, stack_fits, locals_fit, both, first_of_two, second_of_two}
 
 -- ---- rows that fit
@@ -281,7 +281,7 @@ module _ (w : List Class) (b : Body) (table : TypeTable) (typing : IsTypeTable w
             let i = next_is (goes_on insn.op) n at to next in
             subst (λ (k : ℕ). fits_row (get_or types k None) (after_at r at insn t x) ≡ true) (sym i.1.1)
             (next_fits at insn t x is there own fit i.1.0 (subst (λ (k : ℕ). is_marked b k ≡ false) i.1.1 unmarked) i.0)
-        | inr jumps ↦ let marked = jump_marked b at insn to is jumps in absurd cc
+        | inr jumps ↦ let marked = (jump_marked b at insn to is jumps).marked in absurd cc
       ]
 
   arrives : (to : ℕ) (y : RangeState) → (is_marked b to ≡ false → fits_row (get_or types to None) y ≡ true) → fits_row (get_or types to None) (kept_arrival r to y) ≡ true
@@ -319,7 +319,7 @@ module _ (w : List Class) (b : Body) (table : TypeTable) (typing : IsTypeTable w
             | inr handled ↦
                 let from = kept_from (kept_handler r insn.at x) b.catches e handled in
                 let h = handled_by insn.at x from.0 e from.2 in
-                subst (λ (f : Edge RangeState). fits_row (get_or types f.to None) f.state ≡ true) h.is (arrives h.to (caught x) (λ unmarked. let marked = handler_marked b from.0 h.to from.1 h.found in absurd cc))
+                subst (λ (f : Edge RangeState). fits_row (get_or types f.to None) f.state ≡ true) h.is (arrives h.to (caught x) (λ unmarked. let marked = (handles_marked b from.0 h.to from.1 h.found).marked in absurd cc))
           ]
 
   good_closed : (rows : List (Option RangeState)) → IsClosed (kept_flow r) n rows → IsClosed (kept_flow r) n (good types rows)
@@ -363,7 +363,7 @@ module _ (w : List Class) (b : Body) (table : TypeTable) (typing : IsTypeTable w
       go : (is : Bool) (o : Option ℕ) → place_at b.insns c.target ≡ o → cond is (option_map (edge b types (caught x)) o) None ≡ cond is (option_map (kept_edge r (caught x)) o) None
       go false o e = refl
       go true None e = refl
-      go true (Some to) e = ap (λ (y : RangeState). Some (edge_with to y)) (arrival_same to (caught x) (own_caught r x own) (λ unmarked. let marked = handler_marked b c to has e in absurd cc))
+      go true (Some to) e = ap (λ (y : RangeState). Some (edge_with to y)) (arrival_same to (caught x) (own_caught r x own) (λ unmarked. let marked = (handles_marked b c to has e).marked in absurd cc))
 
   edges_same : (at : ℕ) (x : RangeState) → Own x → fits_row (get_or types at None) x ≡ true → ranging.edges at x ≡ (kept_flow r).edges at x
   edges_same at x own fit = go (slice_get b.insns at) (get_or types at None) refl refl fit

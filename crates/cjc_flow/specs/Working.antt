@@ -3,4 +3,5 @@ pub mod Arriving
 pub mod Given
 pub mod Kept
 pub mod KeptLaws
+pub mod RepeatLaws
 pub mod Invariant

@@ -3,11 +3,11 @@
 #![tactic(auto)]
 
 mod arrival;
-mod code;
 mod elements;
-mod insns;
+mod entry;
 mod intervals;
 mod ranging;
+mod repeats;
 mod state;
 mod steps;
 mod targets;

@@ -1,6 +1,6 @@
 //! The intervals of a method as a dataflow problem, whose places are its instructions, and the table that solves it.
 
-ghost use Rattle.std.specs.Prelude.{◌≡◌, ◌<◌, ◌==◌, ◌||◌, not, ◌++◌, ℕ, Option, List, ℤ, Some, None, map, filter_map, length, slice_get, get_or, option_to_list, IfOk, OnOk};
+ghost use Rattle.std.specs.Prelude.{◌≡◌, ◌<◌, ◌==◌, ◌||◌, not, ◌++◌, ℕ, Option, List, ℤ, Some, None, map, filter_map, length, slice_get, get_or, IfOk, OnOk};
 ghost use Rattle.cjc_bytes.specs.declared.fault.MemberId.{MemberId as Field};
 ghost use Rattle.cjc_classfile.specs.Code.{CodeTree};
 ghost use Rattle.cjc_classfile.specs.declared.tree.ClassTree.{ClassTree as Class};
@@ -11,6 +11,7 @@ ghost use Rattle.cjc_world.specs.Classes.{all_classes};
 ghost use Rattle.cjc_types.specs.declared.state.State.{State as TypeState};
 ghost use Rattle.cjc_types.specs.Flow.{body_of};
 ghost use Rattle.cjc_types.specs.Marks.{is_marked as is_marked_by, marks_of};
+ghost use Rattle.cjc_types.specs.Repeats.{repeats_at as repeats_here};
 ghost use Rattle.cjc_types.specs.Search.{cells_of};
 ghost use Rattle.cjc_types.specs.Tables.{IsMethodOf, IsOfPackage, IsTypeTable, rows_of};
 ghost use Rattle.cjc_range_flow.specs.Flow.{caught as caught_by, is_target as is_target_of};
@@ -19,18 +20,19 @@ ghost use Rattle.cjc_flow.specs.Tables.{IsRangeTable, ranges_of};
 ghost use Rattle.cjc_flow.specs.Working.Given.{after_by, element_at as element_by, element_given};
 ghost use Rattle.cjc_flow.specs.Working.Kept.{kept_arrival, kept_edge, kept_edges, kept_flow, kept_handler, kept_on, kept_place, value_at as value_by};
 
-use crate::code::{self, Method};
 use crate::elements::elements;
 use crate::intervals::{Intervals, full_interval};
+use crate::repeats::Bounded;
 use crate::state::{self, Ranges};
 use crate::targets::is_target;
-use crate::{arrival, insns, steps};
+use crate::{arrival, entry, steps};
 use cjc_bytes::{NoMemory, Row};
 use cjc_classfile::Catch;
 use cjc_code::{JInsn, JOp, MethodCode};
 use cjc_fixpoint::{Edge, Flow, Repeating, Table, Walk, moved_on, solve};
 use cjc_range::Interval;
-use cjc_types::{Method as TypedMethod, TypeTable};
+use cjc_types::rows::{put_all, put_some};
+use cjc_types::{Method, TypeTable, bounds_of, covers, insns, repeats_at};
 use cjc_world::World;
 use std::alloc::Global;
 use std::marker::Model;
@@ -70,26 +72,6 @@ fn caught(alloc: Global, before: &Ranges) -> Result<Ranges, NoMemory>
         stack: Some(stack),
         locals: Row::of(Vec::from_slice(alloc, before.locals.items())?),
     })
-}
-
-/// Puts the edge at the end, where there is one.
-fn put_some(edges: &mut Row<Edge<Ranges>>, edge: Option<Edge<Ranges>>) -> Result<(), NoMemory>
-    ensures { OnOk result (edges.new ≡ edges.old ++ option_to_list edge) }
-{
-    match edge {
-        Some(edge) => edges.push(edge),
-        None => Ok(()),
-    }
-}
-
-/// Puts edges at the end.
-fn put_edges(edges: &mut Row<Edge<Ranges>>, more: Row<Edge<Ranges>>) -> Result<(), NoMemory>
-    ensures { OnOk result (edges.new ≡ edges.old ++ more) }
-{
-    for edge in more.into_vec() {
-        edges.push(edge)?;
-    }
-    Ok(())
 }
 
 /// A method with its types, as its intervals are found. Contracts see its body, the constant that each instruction
@@ -143,9 +125,8 @@ impl<'a> Ranging<'a> {
         ensures { (c : Class) (m : ClassMethod) (t : CodeTree) → IsMethodOf world.now code.now c m t
             → IfOk result (λ r. r ≡ record { body = body_of c m t code.now.insns; values = values; types = rows_of (body_of c m t code.now.insns) types.now }) }
     {
-        let typed = TypedMethod::new(world, code);
         let method = Method::new(world, code);
-        let elements = elements(alloc, &typed, types, code.insns.items())?;
+        let elements = elements(alloc, &method, types, code.insns.items())?;
         let first = is_target(alloc, &method, 0)?;
         Ok(Ranging {
             method,
@@ -162,6 +143,14 @@ impl<'a> Ranging<'a> {
         ensures { result ≡ is_marked_by self.now.body at }
     {
         cjc_fixpoint::is_marked(self.types.marks.items(), at)
+    }
+
+    /// Whether a place hands its handlers nothing that the place before does not hand them. The bounds are those of the
+    /// ranges of handlers.
+    pub(crate) fn repeats_at(&self, bounds: &[bool], at: u32) -> bool
+        ensures { result ≡ repeats_here self.now.body bounds.now at }
+    {
+        repeats_at(&self.method, self.types.marks.items(), bounds, at)
     }
 
     /// Whether what comes to a marked place is rounded.
@@ -218,7 +207,7 @@ impl<'a> Ranging<'a> {
         requires { 0 < length self.now.body.insns }
         ensures { IfOk result (λ edge. edge ≡ kept_handler self.now offset before.now catch.now) }
     {
-        if !code::covers(catch, offset) {
+        if !covers(catch, offset) {
             return Ok(None);
         }
         match self.method.place_at(u32::from(catch.target)) {
@@ -296,7 +285,7 @@ impl<'a> Ranging<'a> {
         let places = self.method.successors(alloc, at, &insn.op)?;
         let after = self.after(alloc, at, element, &insn.op, before)?;
         let mut edges = self.edges_to(alloc, after, places.items())?;
-        put_edges(&mut edges, handled)?;
+        put_all(&mut edges, handled)?;
         Ok(edges)
     }
 
@@ -344,7 +333,12 @@ impl<'a> Ranging<'a> {
         ensures { (constant : Field → Option ℤ) → AreNumbers constant → self.now.values ≡ values_of constant self.now.body.insns
             → IfOk result (λ table. IsRangeTable self.now.body constant self.now.types table.marks table.rows) }
     {
-        solve(alloc, self, self.method.places(), &self.types.marks)
+        let bounds = bounds_of(alloc, &self.method)?;
+        let bounded = Bounded {
+            ranging: self,
+            bounds: bounds.items(),
+        };
+        solve(alloc, &bounded, self.method.places(), &self.types.marks)
     }
 
     /// Goes through the intervals before all instructions. It begins at the first, and takes no memory.
@@ -398,7 +392,7 @@ impl Flow for Ranging<'_> {
     }
 
     fn entry(&self, alloc: Global) -> Result<Ranges, NoMemory> {
-        let first = self.method.first(alloc)?;
+        let first = entry::first(alloc, &self.method)?;
         if self.method.places() == 0 {
             return Ok(first);
         }
@@ -415,6 +409,8 @@ impl Flow for Ranging<'_> {
     }
 }
 
+/// A walk asks for what a place hands to the next one alone; which places repeat what the place before hands on is asked of
+/// `Bounded`.
 impl Repeating for Ranging<'_> {
     ghost use Rattle.std.specs.Prelude.{false};
     ghost use Rattle.cjc_flow.specs.Working.Kept.{kept_flow};

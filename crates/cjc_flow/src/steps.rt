@@ -12,10 +12,11 @@ ghost use Rattle.cjc_flow.specs.Working.Given.{after_by, behind_by, given_by, st
 
 use crate::intervals::{Intervals, full_interval};
 use crate::state::{self, Ranges};
-use crate::{insns, values};
+use crate::values;
 use cjc_bytes::{MemberId, NoMemory, Row};
 use cjc_code::JOp;
 use cjc_range::Interval;
+use cjc_types::insns;
 use std::alloc::Global;
 
 /// The same interval, of which it is known that it is one.

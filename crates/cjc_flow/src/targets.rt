@@ -4,9 +4,8 @@ ghost use Rattle.std.specs.Prelude.{◌≡◌, IfOk};
 ghost use Rattle.cjc_types.specs.Marks.{is_handler as is_handler_of, is_jumped_to as is_jumped_to_of, is_place as is_place_by, leads_to as leads_to_by};
 ghost use Rattle.cjc_range_flow.specs.Flow.{is_target as is_target_of};
 
-use crate::code::Method;
-use crate::insns;
 use cjc_bytes::NoMemory;
+use cjc_types::{Method, insns};
 use std::alloc::Global;
 
 fn is_place(place: Option<u32>, at: u32) -> bool

@@ -1,4 +1,4 @@
-//! The intervals of values that no instruction computes. Called by steps.rt, elements.rt and code.rt.
+//! The intervals of values that no instruction computes. Called by steps.rt, elements.rt and entry.rt.
 
 ghost use Rattle.std.specs.Prelude.{◌≡◌, ◌++◌, map, option_to_list, IfOk, OnOk};
 ghost use Rattle.std.specs.List.{list_all};
@@ -6,11 +6,10 @@ ghost use Rattle.cjc_range_flow.specs.Values.{boolean_range, byte_element_range,
 ghost use Rattle.cjc_range.specs.Span.{byte_range, short_range};
 ghost use Rattle.cjc_types.specs.Types.{is_void as is_void_kind, parts};
 
-use crate::insns;
 use crate::intervals::full_interval;
 use cjc_bytes::{Bytes, Kind, NoMemory, Row};
 use cjc_range::Interval;
-use cjc_types::Cell;
+use cjc_types::{Cell, parsed};
 use std::alloc::Global;
 
 /// One number.
@@ -89,8 +88,8 @@ fn is_void(kind: Kind) -> bool
 pub(crate) fn result_of(desc: &[u8]) -> Option<Interval>
     ensures { option_to_list result ≡ result_ranges (parts desc.now).result }
 {
-    let parsed = insns::parsed(desc)?;
-    let kind = parsed.kind(parsed.params());
+    let parts = parsed(desc)?;
+    let kind = parts.kind(parts.params());
     if is_void(kind) {
         None
     } else {
@@ -102,9 +101,9 @@ pub(crate) fn result_of(desc: &[u8]) -> Option<Interval>
 pub(crate) fn put_parameters(ranges: &mut Row<Interval>, desc: &[u8]) -> Result<(), NoMemory>
     ensures { OnOk result (ranges.new ≡ ranges.old ++ map range_of (parts desc.now).params) }
 {
-    if let Some(parsed) = insns::parsed(desc) {
-        for i in 0..parsed.params() {
-            ranges.push(of_kind(parsed.kind(i)))?;
+    if let Some(parts) = parsed(desc) {
+        for i in 0..parts.params() {
+            ranges.push(of_kind(parts.kind(i)))?;
         }
     }
     Ok(())

@@ -1,6 +1,5 @@
 -- The first place at which a rule is broken.
-use Rattle.std.proofs.Common.{◌≡◌, ◌⊎◌, ◌≤◌, ◌<◌, ◌+◌, ℕ, zero, suc, Bool, true, false, nat_lt, List, [], ◌∷◌, drop, slice_get, Option, Some, None, refl, sym, ◌∙◌, ap, subst, inl, inr, add-zero, zero-add, arith, ℤ}
-use Rattle.std.proofs.lemmas.Bool.{ltb-true, ltb-false}
+use Rattle.std.proofs.Common.{◌≡◌, ◌⊎◌, ◌≤◌, ◌<◌, ◌+◌, ℕ, zero, suc, List, [], ◌∷◌, drop, slice_get, Option, Some, None, refl, sym, ◌∙◌, ap, subst, add-zero, zero-add, arith, ℤ}
 use Rattle.std.proofs.lemmas.List.{drop_more}
 use Rattle.std.proofs.lemmas.Option.{slice_get_within, get_or_from_slice_get}
 use Rattle.cjc_bytes.specs.declared.fault.MemberId.{MemberId}
@@ -10,6 +9,7 @@ use Rattle.cjc_types.specs.declared.table.TypeTable.{TypeTable}
 use Rattle.cjc_types.specs.Flow.{Body}
 use Rattle.cjc_types.specs.Search.{cells_of}
 use Rattle.cjc_types.specs.Tables.{rows_of}
+use Rattle.cjc_types.proofs.Firsts.{is_first}
 use Rattle.cjc_range_flow.specs.Frames.{RangeState, spans_of}
 use Rattle.cjc_range_flow.specs.Tables.{Breach, FirstBreach, Passes}
 use Rattle.cjc_passes.specs.declared.passing.Found.{Found}
@@ -156,18 +156,7 @@ module _ (b : Body) where
         earlier k r h lt = let other = breach_at k r h in found.before k other.0 lt other.1
 
         first : (k r : ℕ) → Breach b types ranges k r → (found.index < k) ⊎ ((found.index ≡ k) × (f.rule ≤ r))
-        first k r h = go (nat_lt found.index k) refl
-          where
-            go : (is : Bool) → nat_lt found.index k ≡ is → (found.index < k) ⊎ ((found.index ≡ k) × (f.rule ≤ r))
-            go true e = inl (ltb-true found.index k e)
-            go false e =
-                let le = ltb-false found.index k e in
-                let same : found.index ≡ k = at_most (nat_lt k found.index) refl le in
-                inr (same, level k r same h)
-              where
-                at_most : (is : Bool) → nat_lt k found.index ≡ is → k ≤ found.index → found.index ≡ k
-                at_most true e le = absurd (earlier k r h (ltb-true k found.index e))
-                at_most false e le = let ge = ltb-false k found.index e in omega (arith, le, ge)
+        first = is_first (λ (k r : ℕ). Breach b types ranges k r) found.index f.rule earlier level
 
 -- ---- the loop
 

@@ -6,18 +6,18 @@ ghost use Rattle.cjc_range.specs.Span.{span, short_range};
 ghost use Rattle.cjc_types.specs.Flow.{Body};
 ghost use Rattle.cjc_types.specs.Rules.{tests_references as tests_references_by};
 ghost use Rattle.cjc_types.specs.Steps.{compares as compares_by, operand as typed_operand};
-ghost use Rattle.cjc_types.specs.Types.{parts, parts_or_none};
+ghost use Rattle.cjc_types.specs.Types.{parts};
 ghost use Rattle.cjc_range_flow.specs.Bounds.{divides as divides_by, index_range, may_hold_booleans as may_hold_booleans_of, shifts_right as shifts_right_by};
 ghost use Rattle.cjc_range_flow.specs.Frames.{spans_of};
 ghost use Rattle.cjc_range_flow.specs.Steps.{operand};
 ghost use Rattle.cjc_range_flow.specs.Values.{is_boolean_array};
 ghost use Rattle.cjc_passes.specs.Working.Search.{arguments_rule as arguments_rule_of, arithmetic_rule as arithmetic_rule_of, comparison_rule as comparison_rule_of, element_rule as element_rule_of, kind_rule as kind_rule_of, lower as lower_of, lowest_rule as lowest_rule_of, part_rule, put_rule as put_rule_of, tested as tested_by};
 
-use cjc_bytes::{Bytes, Desc, Kind, MemberId};
+use cjc_bytes::{Bytes, Kind, MemberId};
 use cjc_code::JOp;
 use cjc_flow::Ranges;
 use cjc_range::Interval;
-use cjc_types::{Cell, Operands};
+use cjc_types::{Cell, Operands, parsed};
 
 /// The rule, where the interval does not lie from `low` to `high`.
 fn tested(rule: u16, low: i32, high: i32, interval: Interval) -> Option<u16>
@@ -71,26 +71,12 @@ fn kind_rule(kind: Kind, interval: Interval) -> Option<u16>
     }
 }
 
-/// The parts of a descriptor, or nothing where the bytes are none.
-#[tactic(auto, unfolding(cjc_types::specs::Types::parts))]
-fn parsed(desc: &[u8]) -> Option<Desc<'_>>
-    ensures { parts_or_none result ≡ parts desc.now }
-{
-    if desc.len() >= 1 << 32 {
-        return None;
-    }
-    match Desc::parse(desc) {
-        Ok(parsed) => Some(parsed),
-        Err(_) => None,
-    }
-}
-
 /// Of a number that is put or returned as a value of the type, or the result, of a descriptor.
 fn result_rule(desc: &[u8], interval: Interval) -> Option<u16>
     ensures { result ≡ part_rule (parts desc.now).result interval }
 {
     match parsed(desc) {
-        Some(parsed) => kind_rule(parsed.kind(parsed.params()), interval),
+        Some(parts) => kind_rule(parts.kind(parts.params()), interval),
         None => None,
     }
 }
@@ -100,11 +86,11 @@ fn arguments_rule(method: &MemberId, before: &Ranges) -> Option<u16>
     ensures { result ≡ arguments_rule_of method.now (length (parts method.now.desc).params) (spans_of before.now.stack) }
 {
     let mut rule = None;
-    if let Some(parsed) = parsed(method.desc.items()) {
-        let count = parsed.params();
+    if let Some(parts) = parsed(method.desc.items()) {
+        let count = parts.params();
         for k in 0..count {
             let interval = before.operand(k as usize);
-            rule = lower(rule, kind_rule(parsed.kind(count - 1 - k), interval));
+            rule = lower(rule, kind_rule(parts.kind(count - 1 - k), interval));
         }
     }
     rule

@@ -1,8 +1,6 @@
 -- The flow that is solved is lawful, and leads where that of the types leads.
-use Rattle.std.proofs.Common.{◌≡◌, ◌≢◌, ◌≤◌, ◌<◌, ◌+◌, ◌==◌, ◌⊎◌, ℕ, suc, Bool, true, false, cond, nat_lt, List, [], ◌∷◌, ◌++◌, map, length, slice_get, get_or, filter_map, Option, Some, None, option_map, All, Contains, refl, ap, ◌∙◌, subst, inl, inr, arith}
+use Rattle.std.proofs.Common.{◌≡◌, ◌≤◌, ◌<◌, ◌+◌, ◌⊎◌, ℕ, suc, Bool, true, false, cond, nat_lt, List, [], ◌∷◌, map, length, slice_get, get_or, filter_map, Option, Some, None, option_map, All, Contains, refl, ap, ◌∙◌, subst, inl, inr, arith}
 use Rattle.std.specs.List.{cons_option}
-use Rattle.std.proofs.lemmas.Bool.{eqb-true, eqb-false}
-use Rattle.std.proofs.lemmas.List.{map-append}
 use Rattle.std.proofs.lemmas.List.Elements.{All-nil, All-cons, All-append, All-map, All-contains, Contains-append_cases, Contains-append_left, Contains-append_right}
 use Rattle.cjc_range.specs.Span.{IsWord, full}
 use Rattle.cjc_range.proofs.Order.{within_refl, word_full}
@@ -10,20 +8,18 @@ use Rattle.cjc_classfile.specs.declared.tree.Catch.{Catch}
 use Rattle.cjc_code.specs.declared.insn.JInsn.{JInsn}
 use Rattle.cjc_fixpoint.specs.declared.flow.Edge.{Edge}
 use Rattle.cjc_fixpoint.specs.Dataflow.{IsLawful, StaysWithin, AreBelow}
-use Rattle.cjc_fixpoint.specs.Kept.{MeetsAt, merged, handed, handed_more, handed_on}
+use Rattle.cjc_fixpoint.specs.Kept.{MeetsAt, handed, handed_on}
 use Rattle.cjc_fixpoint.specs.Working.Edges.{AreBelowInTurn, below_from_zip, AreBelow-append, AreBelow-map, contains_head, contains_tail, contains_cons}
 use Rattle.cjc_fixpoint.specs.Working.SegmentLaws.{contains_none, contains_kept, kept_from}
 use Rattle.cjc_fixpoint.proofs.Lattices.{flow_laws}
-use Rattle.cjc_fixpoint.proofs.Listing.{more_append}
 use Rattle.cjc_types.specs.declared.state.State.{State}
 use Rattle.cjc_types.specs.States.{most_cells}
-use Rattle.cjc_types.specs.Steps.{goes_on, targets}
 use Rattle.cjc_types.specs.Flow as typed
 use Rattle.cjc_types.specs.Steps as typed_steps
-use Rattle.cjc_types.specs.Flow.{Body, place_at, next_place, successors, covers, type_flow}
+use Rattle.cjc_types.specs.Flow.{Body, place_at, successors, covers}
 use Rattle.cjc_types.specs.Marks.{is_marked, marks_of}
 use Rattle.cjc_types.specs.Working.FlowLaws as typed_laws
-use Rattle.cjc_types.specs.Working.MarkLaws.{map_from, marks_meet, LeadsOn}
+use Rattle.cjc_types.specs.Working.MarkLaws.{map_from, marks_meet, LeadsOn, either_way, handed_behind}
 use Rattle.cjc_range_flow.specs.Frames.{RangeState, states}
 use Rattle.cjc_range_flow.specs.Flow.{arrival, caught, first_state, entry}
 use Rattle.cjc_range_flow.proofs.Stacks.{state_lattice}
@@ -171,67 +167,18 @@ module _ (r : Ranged) where
 
   -- ---- what goes on
 
-  merged_none : (row : Option RangeState) → merged (kept_flow r) row None ≡ row
-  merged_none None = refl
-  merged_none (Some x) = refl
-
-  none_handed : (to : ℕ) (row : Option RangeState) (es : List (Edge RangeState)) → ((e : Edge RangeState) → Contains es e → e.to ≢ to) → handed_more (kept_flow r) to row es ≡ row
-  none_handed to row [] h = refl
-  none_handed to row (e ∷ es) h = go (none_handed to row es (λ f has. h f (contains_tail e es f has))) (e.to == to) refl
-    where
-      go : handed_more (kept_flow r) to row es ≡ row → (is : Bool) → (e.to == to) ≡ is → handed_more (kept_flow r) to (merged (kept_flow r) row (cond is (Some e.state) None)) es ≡ row
-      go rest true is = absurd (h e (contains_head e es) (eqb-true e.to to is))
-      go rest false is = ap (λ (s : Option RangeState). handed_more (kept_flow r) to s es) (merged_none row) ∙ rest
-
-  abbrev nothing : Option RangeState
-  nothing = None
-
-  never : (lt : Bool) → nothing ≡ cond lt nothing nothing
-  never true = refl
-  never false = refl
-
-  same_self : (n : ℕ) → (n == n) ≡ true
-  same_self n = go (n == n) refl
-    where
-      go : (b : Bool) → (n == n) ≡ b → b ≡ true
-      go true e = refl
-      go false e = absurd (eqb-false n n e refl)
-
-  next_edge : (at : ℕ) (y : RangeState) → kept_arrival r (suc at) y ≡ y → (to : ℕ) → to ≡ suc at → merged (kept_flow r) None (cond (to == suc at) (Some (kept_arrival r to y)) None) ≡ Some y
-  next_edge at y stays to e = rw e (ap (λ (is : Bool). merged (kept_flow r) None (cond is (Some (kept_arrival r (suc at) y)) None)) (same_self (suc at)) ∙ ap Some stays)
-
-  handed_next : (on : Bool) (places at : ℕ) (y : RangeState) → kept_arrival r (suc at) y ≡ y → handed_more (kept_flow r) (suc at) None (map (kept_edge r y) (next_place on places at)) ≡ cond (nat_lt (at + 1) places) (cond on (Some y) None) None
-  handed_next false places at y stays = never (nat_lt (at + 1) places)
-  handed_next true places at y stays = go (nat_lt (at + 1) places)
-    where
-      go : (lt : Bool) → handed_more (kept_flow r) (suc at) None (map (kept_edge r y) (cond lt ((at + 1) ∷ []) [])) ≡ cond lt (Some y) None
-      go true = next_edge at y stays (at + 1) (omega arith)
-      go false = refl
-
-  stays_unmarked : (to : ℕ) (x : RangeState) → is_marked r.body to ≡ false → kept_arrival r to x ≡ x
+  pub stays_unmarked : (to : ℕ) (x : RangeState) → is_marked r.body to ≡ false → kept_arrival r to x ≡ x
   stays_unmarked to x e = ap (λ (b : Bool). cond b (arrival r.body r.types to x) x) e
 
   pub kept_goes : (at : ℕ) (x : RangeState) → LeadsOn r.body at → is_marked r.body (suc at) ≡ false → handed_on (kept_flow r) at (Some x) ≡ kept_on r at x
   kept_goes at x free none = go (slice_get r.body.insns at) (get_or r.types at None) refl
     where
       go : (o : Option JInsn) (row : Option State) → slice_get r.body.insns at ≡ o → handed (kept_flow r) (suc at) (kept_place r at o row x) ≡ cond (nat_lt (at + 1) (length r.body.insns)) (kept_on_by r at o row x) None
-      go None row is = never (nat_lt (at + 1) (length r.body.insns))
-      go (Some insn) None is = never (nat_lt (at + 1) (length r.body.insns))
+      go None row is = either_way None (nat_lt (at + 1) (length r.body.insns))
+      go (Some insn) None is = either_way None (nat_lt (at + 1) (length r.body.insns))
       go (Some insn) (Some t) is =
-          let flow = kept_flow r in
           let y = after_at r at insn t x in
-          let next = next_place (goes_on insn.op) (length r.body.insns) at in
-          let jumps = filter_map (place_at r.body.insns) (targets insn.op) in
-          let handlers = filter_map (kept_handler r insn.at x) r.body.catches in
-          let no_handler = none_handed (suc at) (handed_more flow (suc at) None (map (kept_edge r y) (next ++ jumps))) handlers
-          (λ e has same. let f = handlers_typed insn.at x (typed.entry r.body) e has in free.handlers insn.at (typed.entry r.body) f.0 f.1 (f.2 ∙ same)) in
-          let no_jump = none_handed (suc at) (handed_more flow (suc at) None (map (kept_edge r y) next)) (map (kept_edge r y) jumps)
-          (λ e has same.
-          let from = map_from (kept_edge r y) jumps e has in
-          free.jumps insn is from.0 from.1 (ap (λ (f : Edge RangeState). f.to) from.2 ∙ same)) in
-          more_append flow (suc at) None (map (kept_edge r y) (next ++ jumps)) handlers
-          ∙ no_handler
-          ∙ ap (λ (es : List (Edge RangeState)). handed_more flow (suc at) None es) (map-append (kept_edge r y) next jumps)
-          ∙ more_append flow (suc at) None (map (kept_edge r y) next) (map (kept_edge r y) jumps)
-          ∙ no_jump
-          ∙ handed_next (goes_on insn.op) (length r.body.insns) at y (stays_unmarked (suc at) y none)
+          handed_behind (kept_flow r) r.body at insn (kept_edge r y) (filter_map (kept_handler r insn.at x) r.body.catches) y (λ to. refl)
+          (ap (λ (z : RangeState). record { to = suc at; state = z }) (stays_unmarked (suc at) y none))
+          (λ to has. free.jumps insn is to has)
+          (λ e has same. let f = handlers_typed insn.at x (typed.entry r.body) e has in free.handlers insn.at (typed.entry r.body) f.0 f.1 (f.2 ∙ same))

@@ -1,7 +1,6 @@
 use Rattle.std.proofs.Common.{◌≡◌, ◌<◌, length, arith}
 use Rattle.cjc_range.specs.Rows.{join_row}
-use Rattle.cjc_types.proofs.Joining.{joined_end}
-use Rattle.cjc_flow.proofs.Joining.{joined_set}
+use Rattle.cjc_types.proofs.Joining.{joined_put, joined_end}
 use Rattle.cjc_flow.proofs.intervals.joined.Goals as goal
 
 pub loop-i-preserved : goal.loop-i-preserved
@@ -9,7 +8,7 @@ loop-i-preserved c =
     let sized = c.requires in
     let lt = c.loop-i-test.true in
     let inside : c.loop-i.i < length c.args.left.items = omega (arith, sized, lt) in
-    joined_set join_row c.args.left.items c.args.right.now c.loop-i.i c.index-cell.result.now c.index-right-i.result c.join.result c.loop-i.cells.items inside sized c.loop-i.invariant c.index-cell.ensures c.index-right-i.is c.join.ensures.row
+    joined_put join_row c.args.left.items c.args.right.now c.loop-i.i c.index-cell.result.now c.index-right-i.result c.join.result c.loop-i.cells.items inside sized c.loop-i.invariant c.index-cell.ensures c.index-right-i.is c.join.ensures.row
 
 pub returns : goal.returns
 returns c =

@@ -3,4 +3,4 @@ use Rattle.cjc_range_flow.specs.Values.{range_of}
 use Rattle.cjc_flow.proofs.values.put_parameters.Given as goal
 
 abbrev pub invariant-loop-i : goal.invariant-loop-i
-invariant-loop-i l = l.ranges ≡ l.initial.ranges ++ map range_of (take l.i l.parsed.params)
+invariant-loop-i l = l.ranges ≡ l.initial.ranges ++ map range_of (take l.i l.parts.params)
