@@ -1,0 +1,4 @@
+pub mod Standing
+pub mod Edges
+pub mod Queues
+pub mod Declared
