@@ -11,4 +11,5 @@ mod ready;
 mod subs;
 
 pub use laws::order_laws;
+pub use listed::class_count;
 pub use order::class_order;

@@ -13,7 +13,7 @@ use cjc_world::{Known, World};
 use std::alloc::Global;
 
 /// How many class files the list names.
-fn class_count(world: &World<'_>) -> usize
+pub fn class_count(world: &World<'_>) -> usize
     ensures { result ≡ class_count world.now.lines }
 {
     world

@@ -13,7 +13,6 @@ pub mod Stood
 pub mod Read
 pub mod Selected
 pub mod Keeping
-pub mod Standing
 pub mod Assigned
 pub mod Rows
 pub mod Tabled

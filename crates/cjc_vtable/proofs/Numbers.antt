@@ -10,7 +10,7 @@ use Rattle.cjc_export.specs.declared.tree.ExportClass.{ExportClass}
 use Rattle.cjc_export.specs.declared.tree.ExportTree.{ExportTree}
 use Rattle.cjc_world.specs.Files.{Files}
 use Rattle.cjc_world.specs.Classes.{Class, declared, imported, numbered, size, of_class_file, of_export_file, classes_from, all_classes, class_named, class_at, is_at}
-use Rattle.cjc_vtable.specs.Working.Standing.{class_count}
+use Rattle.cjc_class_order.specs.Numbers.{class_count}
 
 same_number : (n : ℕ) → (n == n) ≡ true
 same_number n = grind arith

@@ -9,9 +9,9 @@ ghost use Rattle.cjc_vtable.specs.Tables.{class_tables, table_of};
 
 use crate::entries::{methods, table};
 use crate::maps::interface_maps;
-use crate::order::class_order;
 use crate::table::{ClassTable, ClassTables};
 use cjc_bytes::{NoMemory, Row};
+use cjc_class_order::class_order;
 use cjc_tokens::Tokens;
 use cjc_world::{Known, World};
 use std::alloc::Global;
@@ -49,9 +49,9 @@ pub fn tables(alloc: Global, world: &World<'_>, tokens: &Tokens) -> Result<Class
     requires tokens { (applets : Bool) × (tokens.now ≡ assigned applets world.now) }
     ensures { IfOk result (λ t. t.rows ≡ class_tables (all_classes world.now)) }
 {
-    let order = class_order(alloc, world)?;
+    let order = class_order(alloc, world, false)?;
     let mut rows = Row::new(alloc);
-    for number in &order {
+    for number in order.items() {
         rows.push(class_table(alloc, world, tokens, *number)?)?;
     }
     Ok(ClassTables { rows })

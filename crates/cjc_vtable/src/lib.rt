@@ -8,7 +8,6 @@ mod kept;
 mod laws;
 mod maps;
 mod naming;
-mod order;
 mod table;
 
 pub use building::tables;

@@ -15,9 +15,10 @@ ghost use Rattle.cjc_vtable.specs.Working.Naming.{index_of};
 ghost use Rattle.cjc_vtable.specs.Working.Standing.{IsOwn};
 ghost use Rattle.cjc_vtable.specs.Tables.{interface_map};
 
-use crate::naming::{class_count, named_row};
+use crate::naming::named_row;
 use crate::table::InterfaceMap;
 use cjc_bytes::{Bytes, NoMemory, Row};
+use cjc_class_order::class_count;
 use cjc_tokens::{Slot, Tokens, interface_methods, token};
 use cjc_world::{Known, World, lookup_laws};
 use std::alloc::Global;

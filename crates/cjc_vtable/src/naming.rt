@@ -7,24 +7,12 @@ ghost use Rattle.cjc_tokens.specs.Members.{signature_of};
 ghost use Rattle.cjc_tokens.specs.Working.{signature_in, signs};
 ghost use Rattle.cjc_vtable.specs.Naming.{method_named, named, named_where};
 ghost use Rattle.cjc_vtable.specs.Working.Naming.{ids_at, signature_by};
-ghost use Rattle.cjc_vtable.specs.Working.Standing.{class_count};
+ghost use Rattle.cjc_class_order.specs.Numbers.{class_count};
 
 use cjc_bytes::{MemberId, NoMemory};
 use cjc_tokens::Slot;
 use cjc_world::{Found, Known, World};
 use std::alloc::Global;
-
-/// How many class files the list names.
-pub(crate) fn class_count(world: &World<'_>) -> usize
-    ensures { result ≡ class_count world.now.lines }
-{
-    world
-        .lines()
-        .items()
-        .iter()
-        .filter(|line| line.class_file)
-        .count()
-}
 
 /// The class of the package of a number, where the list names so many class files.
 #[tactic(auto, using(crate::proofs::Numbers::own_unlisted))]

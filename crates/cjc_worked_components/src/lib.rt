@@ -2,7 +2,7 @@
 //! the definitions of components mean what they are to. Nothing here runs.
 #![tactic(auto)]
 
-ghost use Rattle.std.specs.Prelude.{◌≡◌, [], ◌∷◌, Some, None, length};
+ghost use Rattle.std.specs.Prelude.{◌≡◌, [], ◌∷◌, ◌++◌, Some, None, length};
 ghost use Rattle.cjc_capwrite.specs.Package.{header_bytes, directory_bytes, applet_bytes, import_bytes};
 ghost use Rattle.cjc_capwrite.specs.Pool.{pool_bytes, entry_bytes};
 ghost use Rattle.cjc_capwrite.specs.Class.{class_info_bytes};
@@ -23,6 +23,16 @@ ghost use Rattle.cjc_components.specs.Exports.{export};
 ghost use Rattle.cjc_components.specs.Descriptor.{descriptor};
 ghost use Rattle.cjc_components.specs.ExportFile.{export_of};
 ghost use Rattle.cjc_components.specs.Limits.{limit_breaks};
+ghost use Rattle.std.specs.Prelude.{pos, negsuc, codes};
+ghost use Rattle.cjc_by_name.specs.Wallet.{wallet_script, wallet_report};
+ghost use Rattle.cjc_card.specs.Worked.{script, call, ends};
+ghost use Rattle.cjc_script.specs.declared.report.Note.TheVariants.{Result as Gives};
+ghost use Rattle.cjc_script.specs.declared.report.Outcome.TheVariants.{Done};
+ghost use Rattle.cjc_script.specs.declared.value.Value.TheVariants.{Num};
+ghost use Rattle.cjc_sentences.specs.Spots.{in_info};
+ghost use Rattle.cjc_sentences.specs.Consistent.{break_at};
+ghost use Rattle.cjc_worked_components.specs.Loads.{run_of, broken_beside, class_t, wallet_with_exceptions, with_second};
+ghost use Rattle.cjc_worked_components.specs.Packages.{files_of, lang};
 ghost use Rattle.cjc_worked_components.specs.Packages.{adds, overrides, inherits, catching, installs, declares, declared, wallet};
 
 /// One public class with one static method.
@@ -97,4 +107,19 @@ pub fn wallet_is_written()
     ensures method { method_bytes (method wallet) ≡ 0x00 ∷ 0x01 ∷ 0x10 ∷ 0x18 ∷ 0x8C ∷ 0x00 ∷ 0x01 ∷ 0x7A ∷ 0x02 ∷ 0x30 ∷ 0x8F ∷ 0x00 ∷ 0x02 ∷ 0x3D ∷ 0x8C ∷ 0x00 ∷ 0x03 ∷ 0x8B ∷ 0x00 ∷ 0x04 ∷ 0x7A ∷ 0x04 ∷ 0x21 ∷ 0x19 ∷ 0x8B ∷ 0x00 ∷ 0x05 ∷ 0x2D ∷ 0x1A ∷ 0x04 ∷ 0x25 ∷ 0x75 ∷ 0x00 ∷ 0x33 ∷ 0x00 ∷ 0x02 ∷ 0x00 ∷ 0x30 ∷ 0x00 ∷ 0x0D ∷ 0x00 ∷ 0x40 ∷ 0x00 ∷ 0x19 ∷ 0x18 ∷ 0x18 ∷ 0x85 ∷ 0x00 ∷ 0x1A ∷ 0x08 ∷ 0x25 ∷ 0x41 ∷ 0x89 ∷ 0x00 ∷ 0x70 ∷ 0x22 ∷ 0x1A ∷ 0x08 ∷ 0x25 ∷ 0x18 ∷ 0x85 ∷ 0x00 ∷ 0x6F ∷ 0x08 ∷ 0x11 ∷ 0x6A ∷ 0x85 ∷ 0x8D ∷ 0x00 ∷ 0x06 ∷ 0x18 ∷ 0x18 ∷ 0x85 ∷ 0x00 ∷ 0x1A ∷ 0x08 ∷ 0x25 ∷ 0x43 ∷ 0x89 ∷ 0x00 ∷ 0x70 ∷ 0x08 ∷ 0x11 ∷ 0x6D ∷ 0x00 ∷ 0x8D ∷ 0x00 ∷ 0x06 ∷ 0x7A ∷ [] }
     ensures locations { reference_location_bytes (reference_location wallet) ≡ 0x00 ∷ 0x05 ∷ 0x2F ∷ 0x06 ∷ 0x08 ∷ 0x0C ∷ 0x06 ∷ 0x00 ∷ 0x07 ∷ 0x05 ∷ 0x06 ∷ 0x04 ∷ 0x03 ∷ 0x07 ∷ 0x2B ∷ 0x12 ∷ [] }
     ensures applet { part applet_bytes (applet wallet) ≡ 0x01 ∷ 0x06 ∷ 0xA0 ∷ 0x00 ∷ 0x00 ∷ 0x00 ∷ 0x01 ∷ 0x01 ∷ 0x00 ∷ 0x08 ∷ [] }
+{}
+
+/// The components of packages, loaded with the names of their class files and run by token: a sum that wraps, and the wallet, which
+/// gives what it gives by name but for the instructions that are spent.
+pub fn components_run_by_token()
+    ensures sum { run_of adds (script (call (codes "p/T") (codes "f") (codes "(S)S") (Num (pos 32767) ∷ []) ∷ []) ([])) 100 ≡ Some (ends (Gives (Some (Num (negsuc 32767))) ∷ []) ([]) Done 4) }
+    ensures wallet { run_of wallet_with_exceptions wallet_script 30000 ≡ Some (record wallet_report { spent = 63 }) }
+{}
+
+/// Components belong to the class files that they are written for. Beside a class with a second method the number of methods in
+/// Descriptor is told, beside a second class the number of classes.
+pub fn components_belong_to_class_files()
+    ensures own { broken_beside adds (let p = adds in p.files) ≡ Some [] }
+    ensures methods { broken_beside adds (files_of (lang ∷ []) with_second) ≡ Some (break_at 719 (in_info 11 8) ∷ []) }
+    ensures classes { broken_beside adds (files_of (lang ∷ []) (class_t ++ class_t)) ≡ Some (break_at 719 (in_info 11 0) ∷ []) }
 {}

@@ -1,7 +1,7 @@
 use Rattle.std.proofs.Common.{◌≡◌, map, take}
 use Rattle.std.specs.Prelude.{Some, option_map}
 use Rattle.cjc_world.specs.Classes.{all_classes}
-use Rattle.cjc_vtable.specs.Working.Standing.{declared_at}
+use Rattle.cjc_class_order.specs.Numbers.{declared_at}
 use Rattle.cjc_vtable.specs.Tables.{table_of}
 use Rattle.cjc_vtable.proofs.building.tables.Given as goal
 

@@ -3,7 +3,7 @@ use Rattle.std.specs.Prelude.{option_map, slice_get}
 use Rattle.std.proofs.lemmas.Option.{slice_get_past, slice_get_read}
 use Rattle.cjc_world.specs.Classes.{declared}
 use Rattle.cjc_world.specs.Working.Known.{class_of}
-use Rattle.cjc_vtable.specs.Working.Standing.{class_count}
+use Rattle.cjc_class_order.specs.Numbers.{class_count}
 use Rattle.cjc_vtable.proofs.Numbers.{own_listed}
 use Rattle.cjc_vtable.proofs.naming.own_class.Goals as goal
 
