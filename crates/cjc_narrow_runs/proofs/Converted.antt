@@ -1,6 +1,6 @@
 -- What is asked of a package is what whole runs ask of its tables.
 use Rattle.std.proofs.Common.{◌≡◌, ℕ, Bool, true, false, ◌&&◌, List, [], ◌∷◌, slice_get, Option, Some, None, option_map, refl, sym, ap, subst, ◌∙◌}
-use Rattle.std.specs.Prelude.{if◌then◌else◌, codes, option_and_then}
+use Rattle.std.specs.Prelude.{if◌then◌else◌, codes, is_some, option_and_then}
 use Rattle.cjc_bytes.specs.Descriptor.{IsClassName}
 use Rattle.cjc_bytes.specs.declared.fault.MemberId.{MemberId}
 use Rattle.cjc_script.specs.Sorts.{Shape, OfClass, shape_name, shape_named}
@@ -18,6 +18,8 @@ use Rattle.cjc_by_name.specs.ByName.{linked}
 use Rattle.cjc_shrink.specs.Relation.{IsMadeOf, HasObjects, made, bare}
 use Rattle.cjc_shrink.specs.Rows.{narrow_fault}
 use Rattle.cjc_shrink.specs.Replies.{may_be_thrown, ThrowsAlike}
+use Rattle.cjc_shrink.specs.Acts.{ActsAreTold}
+use Rattle.cjc_shrink.proofs.ActsDone.{acts_alike}
 use Rattle.cjc_shrink.specs.Tables.{Point, MayRaise}
 use Rattle.cjc_shrink.specs.Throws.{IsRaised}
 use Rattle.cjc_shrink.specs.Reached.{IsAnswered}
@@ -131,8 +133,27 @@ module _ (files : Files) (image : StaticImage) (near : List MemberId) (tables : 
   unfolding linked
   may_be class may = (both_of (is_plain_import (class_named w class)) (is_subtype w class (codes "java/lang/Throwable")) may).1
 
+  acts_told : ActsAreTold by l
+  unfolding linked named
+  acts_told = record {
+    there = λ class e. (let c = some_class (class_named w class) e in there_by_name w class c.0 c.1);
+    not_there = λ class e. ap (option_map (λ (c : Class). c.name)) (no_class (class_named w class) e);
+    imported = λ class e. imported_is w class e;
+    not_imported = λ class e. ap (λ b. if b then Some class else None) e;
+    tells = λ of class. refl;
+    spelt = shape_spelt;
+  }
+    where
+      some_class : (o : Option Class) → is_some o ≡ true → (c : Class) × (o ≡ Some c)
+      some_class None e = cc
+      some_class (Some c) e = (c, refl)
+
+      no_class : (o : Option Class) → is_some o ≡ false → o ≡ None
+      no_class None e = refl
+      no_class (Some c) e = cc
+
   answered : IsAnswered by l (table_of l (analysis files image near tables))
-  answered = record { acts = is.acts; throws = thrown; may_throw = may_be }
+  answered = record { acts = acts_alike by l acts_told; throws = thrown; may_throw = may_be }
 
   has_tables : (m : Method) (at : ℕ) (p : Point) → (let tb = table_of l (analysis files image near tables) in tb.point m at ≡ Some p) → HasTables files tables m
   has_tables m at p known = let h = point_from l (slice_get (tables.types m) at) (slice_get (tables.ranges m) at) p known in is.methods m at h.typed h.has_types

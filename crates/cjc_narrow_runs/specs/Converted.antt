@@ -15,7 +15,6 @@ use Rattle.cjc_by_name.specs.Effects.{Fault, exception_class}
 use Rattle.cjc_by_name.specs.OnePackage.{is_plain_import}
 use Rattle.cjc_by_name.specs.ByName.{linked}
 use Rattle.cjc_shrink.specs.Relation.{Stores}
-use Rattle.cjc_shrink.specs.Acts.{ActsAlike}
 use Rattle.cjc_table_rules.specs.Package.{AreSupported, IsScripted}
 use Rattle.cjc_narrow_runs.specs.Tables.{Tables, look_ups, analysis, HasTables}
 
@@ -25,13 +24,11 @@ pub record IsException (w : List Class) (class : List ℕ) : Type 0 where
   pub throwable : is_subtype w class (codes "java/lang/Throwable") ≡ true
 
 -- Methods with a reached instruction have least tables that break no rule, classes have names of classes, and the machine's own exceptions are
--- imported. What code names is found alike by both machines, what scripts name and do too, and both start with the same heap and static
--- cells.
+-- imported. What code names is found alike by both machines, what scripts name too, and both start with the same heap and static cells.
 pub record IsConverted (files : Files) (image : StaticImage) (near : List MemberId) (tables : Tables) : Type 0 where
   pub methods : (m : Method) (at : ℕ) (t : State) → HasRow (tables.types m) at t → HasTables files tables m
   pub names : (name : List ℕ) (c : Class) → class_named (all_classes files) name ≡ Some c → IsClassName name
   pub exceptions : (fault : Fault) → IsException (all_classes files) (exception_class fault)
   pub supported : (m : Method) → HasTables files tables m → AreSupported (linked files image) (look_ups files image near tables) (all_classes files) (analysis files image near tables) m
   pub scripted : (id : MemberId) → IsScripted (linked files image) (look_ups files image near tables) (all_classes files) (analysis files image near tables) id
-  pub acts : ActsAlike (linked files image) (look_ups files image near tables)
   pub starts : (let by = linked files image in let l = look_ups files image near tables in Stores l (record { heap = by.heap; statics = by.statics }) l.memory)
