@@ -40,9 +40,12 @@ use Rattle.cjc_table_rules.proofs.Spelt.{shape_spelt, class_read}
 use Rattle.cjc_table_rules.proofs.Points.{point_from}
 use Rattle.cjc_narrow.specs.Package.{fault_name, name_there, plain_import, throwable_import, start_of, first_array, first_cell, element_of_kind, named}
 use Rattle.cjc_narrow_runs.specs.Tables.{Tables, narrow_codes, look_ups, analysis, HasTables}
-use Rattle.cjc_narrow_runs.specs.Converted.{IsException, IsThere, of_class, of_numbers, of_references, IsBegun, IsMember, IsFound, IsFirstArray, IsConverted}
+use Rattle.cjc_narrow_runs.specs.Converted.{IsException, IsBegun, IsMember, IsFound, IsFirstArray, IsConverted}
+use Rattle.cjc_narrow_runs.specs.Types.{IsThere, of_class, of_numbers, of_references}
 use Rattle.cjc_narrow_runs.specs.Converted as converted
 use Rattle.cjc_narrow_runs.proofs.Whole.{is_whole}
+use Rattle.cjc_narrow_runs.proofs.Named.{made_is_there, is_supported}
+use Rattle.cjc_types.specs.Search.{cells_of}
 
 -- a class that some file has is there by its name
 there_by_name : (w : List Class) (name : List ℕ) (c : Class) → class_named w name ≡ Some c → name_there w name ≡ Some name
@@ -62,14 +65,6 @@ import_of w name other e = go (is_plain_import (class_named w name)) refl e
     go : (b : Bool) → is_plain_import (class_named w name) ≡ b → (if b then Some name else None) ≡ Some other → is_plain_import (class_named w name) ≡ true
     go true is e = is
     go false is e = cc
-
--- a class of which objects are made is one that some file has
-made_is_there : (w : List Class) (name : List ℕ) (fields : List MemberId) → made_of w name ≡ Some fields → (c : Class) × (class_named w name ≡ Some c)
-made_is_there w name fields e = go (class_named w name) refl e
-  where
-    go : (o : Option Class) → class_named w name ≡ o → option_and_then (λ c. if is_made c then Some (object_fields w name) else None) o ≡ Some fields → (c : Class) × (class_named w name ≡ Some c)
-    go None is e = cc
-    go (Some c) is e = (c, is)
 
 both_of : (a b : Bool) → (a && b) ≡ true → (a ≡ true) × (b ≡ true)
 both_of true true e = (refl, refl)
@@ -258,7 +253,7 @@ module _ (files : Files) (image : StaticImage) (near : List MemberId) (tables : 
     types = types_told;
     arrays = classes_named;
     methods = λ m at p known. is_whole files image near tables m (has_tables m at p known);
-    supported = λ m whole at i t there row. is.supported m (is.methods m at t row) at i t there row;
+    supported = λ m whole at i t there row. is_supported files image near tables is.names m (cells_of t.stack) i.op (is.named m (is.methods m at t row) at i t there row);
     throwables = may_throw_all;
     exceptions = exceptions;
     answered = answered;

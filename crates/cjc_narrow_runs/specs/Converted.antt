@@ -6,7 +6,7 @@ use Rattle.cjc_bytes.specs.Descriptor.{IsClassName}
 use Rattle.cjc_bytes.specs.declared.fault.MemberId.{MemberId}
 use Rattle.cjc_range.specs.Span.{Holds}
 use Rattle.cjc_fixpoint.specs.Tables.{HasRow}
-use Rattle.cjc_script.specs.Sorts.{Element, Shape, OfClass, OfNumbers, OfReferences, Reference, array_of, array_name, shape_name}
+use Rattle.cjc_script.specs.Sorts.{Shape, Reference, array_of, array_name, shape_name}
 use Rattle.cjc_world.specs.Classes.{Class, class_named}
 use Rattle.cjc_world.specs.Files.{Files}
 use Rattle.cjc_world.specs.Classes.{all_classes}
@@ -18,13 +18,13 @@ use Rattle.cjc_ncode.specs.ByLabel.{Named}
 use Rattle.cjc_by_name.specs.Linked.{Method}
 use Rattle.cjc_by_name.specs.Effects.{Fault, exception_class}
 use Rattle.cjc_by_name.specs.OnePackage.{is_plain_import, entry_named, sent_named, array_desc}
-use Rattle.cjc_by_name.specs.ByName.{linked}
 use Rattle.cjc_shrink.specs.Relation.{IsMadeOf, element_range, SlotsFit}
 use Rattle.cjc_table_rules.specs.Calls.{IsWordDesc, types_of}
-use Rattle.cjc_table_rules.specs.Package.{AreSupported}
 use Rattle.cjc_narrow.specs.Resolved.{method_found}
 use Rattle.cjc_narrow.specs.Package.{flags_of, element_of_kind, first_memory}
-use Rattle.cjc_narrow_runs.specs.Tables.{Tables, look_ups, analysis, HasTables}
+use Rattle.cjc_narrow_runs.specs.Tables.{Tables, look_ups, HasTables}
+use Rattle.cjc_narrow_runs.specs.Types.{IsThere}
+use Rattle.cjc_narrow_runs.specs.Names.{AreNamed}
 
 -- An imported class, no interface, that is a java/lang/Throwable.
 pub record IsException (w : List Class) (class : List ℕ) : Type 0 where
@@ -32,12 +32,6 @@ pub record IsException (w : List Class) (class : List ℕ) : Type 0 where
   pub throwable : is_subtype w class (codes "java/lang/Throwable") ≡ true
 
 -- ---- what scripts name
-
--- The class that a type names is there.
-pub data IsThere (w : List Class) : Shape (List ℕ) → Type 0 where
-  of_class : {class : List ℕ} (c : Class) → class_named w class ≡ Some c → IsThere w (OfClass class)
-  of_numbers : {element : Element} → IsThere w (OfNumbers element)
-  of_references : {class : List ℕ} (c : Class) → class_named w class ≡ Some c → IsThere w (OfReferences class)
 
 -- The method that an entry begins has tables, and the entry's descriptor; it has a receiver or none.
 pub record IsBegun (files : Files) (tables : Tables) (has_receiver : Bool) (written : List ℕ) (m : Method) : Type 0 where
@@ -75,11 +69,12 @@ pub record IsFirst (l : Named) (files : Files) (image : StaticImage) : Type 0 wh
 -- ---- a package
 
 -- Methods with a reached instruction have least tables that break no rule, classes have names of classes, and the machine's own exceptions are
--- imported. What code names is found alike by both machines; what scripts name and what the image says are of sound types.
+-- imported. What code and scripts name is found in the class files and export files, and whom calls reach is told alike by both
+-- machines; what the image says is of sound types.
 pub record IsConverted (files : Files) (image : StaticImage) (near : List MemberId) (tables : Tables) : Type 0 where
   pub methods : (m : Method) (at : ℕ) (t : State) → HasRow (tables.types m) at t → HasTables files tables m
   pub names : (name : List ℕ) (c : Class) → class_named (all_classes files) name ≡ Some c → IsClassName name
   pub exceptions : (fault : Fault) → IsException (all_classes files) (exception_class fault)
-  pub supported : (m : Method) → HasTables files tables m → AreSupported (linked files image) (look_ups files image near tables) (all_classes files) (analysis files image near tables) m
+  pub named : (m : Method) → HasTables files tables m → AreNamed files image near tables m
   pub scripted : (id : MemberId) → IsFound files (look_ups files image near tables) tables id
   pub first : IsFirst (look_ups files image near tables) files image
