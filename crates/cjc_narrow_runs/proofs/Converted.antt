@@ -1,36 +1,51 @@
 -- What is asked of a package is what whole runs ask of its tables.
-use Rattle.std.proofs.Common.{◌≡◌, ℕ, Bool, true, false, ◌&&◌, List, [], ◌∷◌, slice_get, Option, Some, None, option_map, refl, sym, ap, subst, ◌∙◌}
-use Rattle.std.specs.Prelude.{if◌then◌else◌, codes, option_and_then}
-use Rattle.cjc_bytes.specs.Descriptor.{IsClassName}
+use Rattle.std.proofs.Common.{◌≡◌, ℕ, zero, suc, Bool, true, false, ◌&&◌, List, [], ◌∷◌, map, slice_get, Option, Some, None, option_map, refl, sym, ap, subst, ◌∙◌}
+use Rattle.std.specs.Prelude.{if◌then◌else◌, codes, is_some, option_and_then}
+use Rattle.std.specs.List.{AllByRecursion}
+use Rattle.cjc_bytes.specs.Descriptor.{Part, IsClassName}
 use Rattle.cjc_bytes.specs.declared.fault.MemberId.{MemberId}
-use Rattle.cjc_script.specs.Sorts.{Shape, OfClass, shape_name, shape_named}
+use Rattle.cjc_script.specs.declared.value.Value.TheVariants.{Num}
+use Rattle.cjc_script.specs.declared.report.FieldValue.{FieldValue}
+use Rattle.cjc_script.specs.declared.report.Thing.TheVariants as things
+use Rattle.cjc_script.specs.Sorts.{Shape, OfClass, OfReferences, Reference, array_name, shape_name, shape_named, sort_of}
 use Rattle.cjc_world.specs.Classes.{Class, all_classes, class_named}
 use Rattle.cjc_world.specs.Files.{Files}
 use Rattle.cjc_world.specs.Subtype.{is_subtype}
+use Rattle.cjc_world.specs.declared.image.ArrayCell.{ArrayCell}
 use Rattle.cjc_world.specs.declared.image.StaticImage.{StaticImage}
+use Rattle.cjc_types.specs.Types.{parts}
+use Rattle.cjc_bytecode.specs.Effects.{HeapObject}
 use Rattle.cjc_world.proofs.Cycles.{class_named-name}
 use Rattle.cjc_world.proofs.Subtypes.{reflexive, transitive}
-use Rattle.cjc_ncode.specs.ByLabel.{Named}
+use Rattle.cjc_ncode.specs.ByLabel.{Named, by_label, shown_slot}
 use Rattle.cjc_by_name.specs.Linked.{Method, Linked}
 use Rattle.cjc_by_name.specs.Effects.{Fault, Arithmetic, NullPointer, IndexOutside, NegativeSize, ClassCast, ArrayStore, exception_class}
-use Rattle.cjc_by_name.specs.OnePackage.{is_made, object_fields, made_of, is_plain_import}
+use Rattle.cjc_by_name.specs.OnePackage.{is_made, object_fields, made_of, is_plain_import, static_array, cells}
 use Rattle.cjc_by_name.specs.ByName.{linked}
-use Rattle.cjc_shrink.specs.Relation.{IsMadeOf, HasObjects, made, bare}
-use Rattle.cjc_shrink.specs.Rows.{narrow_fault}
-use Rattle.cjc_shrink.specs.Replies.{may_be_thrown, ThrowsAlike}
+use Rattle.cjc_shrink.specs.Relation.{Heap, IsMadeOf, HasObjects, made, bare, ThingFits, numbers, Stores, shown}
+use Rattle.cjc_shrink.specs.Rows.{is_word_sort, narrow_fault}
+use Rattle.cjc_shrink.specs.Replies.{is_of_some, AsksAlike, may_be_thrown, ThrowsAlike}
+use Rattle.cjc_shrink.specs.Entries.{AreGiven, no_parameter, a_parameter}
+use Rattle.cjc_shrink.specs.Acts.{ActsAreTold}
+use Rattle.cjc_shrink.proofs.ActsDone.{acts_alike}
 use Rattle.cjc_shrink.specs.Tables.{Point, MayRaise}
 use Rattle.cjc_shrink.specs.Throws.{IsRaised}
 use Rattle.cjc_shrink.specs.Reached.{IsAnswered}
 use Rattle.cjc_table_rules.specs.Analysis.{TypesAreTold, table_of}
 use Rattle.cjc_table_rules.specs.Arrays.{ClassesAreNamed}
-use Rattle.cjc_table_rules.specs.Package.{IsPackage}
-use Rattle.cjc_table_rules.specs.Calls.{IsWhole}
-use Rattle.cjc_table_rules.proofs.Spelt.{shape_spelt}
+use Rattle.cjc_table_rules.specs.Package.{IsEntered, IsScripted, IsPackage}
+use Rattle.cjc_table_rules.specs.Package as whole_package
+use Rattle.cjc_table_rules.specs.Calls.{IsWhole, IsReachedBy}
+use Rattle.cjc_table_rules.proofs.Spelt.{shape_spelt, class_read}
 use Rattle.cjc_table_rules.proofs.Points.{point_from}
-use Rattle.cjc_narrow.specs.Package.{fault_name, name_there, plain_import, throwable_import, named}
-use Rattle.cjc_narrow_runs.specs.Tables.{Tables, look_ups, analysis, HasTables}
-use Rattle.cjc_narrow_runs.specs.Converted.{IsException, IsConverted}
+use Rattle.cjc_narrow.specs.Package.{fault_name, name_there, plain_import, throwable_import, start_of, first_array, first_cell, element_of_kind, named}
+use Rattle.cjc_narrow_runs.specs.Tables.{Tables, narrow_codes, look_ups, analysis, HasTables}
+use Rattle.cjc_narrow_runs.specs.Converted.{IsException, IsBegun, IsMember, IsFound, IsFirstArray, IsConverted}
+use Rattle.cjc_narrow_runs.specs.Types.{IsThere, of_class, of_numbers, of_references}
+use Rattle.cjc_narrow_runs.specs.Converted as converted
 use Rattle.cjc_narrow_runs.proofs.Whole.{is_whole}
+use Rattle.cjc_narrow_runs.proofs.Named.{made_is_there, is_supported}
+use Rattle.cjc_types.specs.Search.{cells_of}
 
 -- a class that some file has is there by its name
 there_by_name : (w : List Class) (name : List ℕ) (c : Class) → class_named w name ≡ Some c → name_there w name ≡ Some name
@@ -50,14 +65,6 @@ import_of w name other e = go (is_plain_import (class_named w name)) refl e
     go : (b : Bool) → is_plain_import (class_named w name) ≡ b → (if b then Some name else None) ≡ Some other → is_plain_import (class_named w name) ≡ true
     go true is e = is
     go false is e = cc
-
--- a class of which objects are made is one that some file has
-made_is_there : (w : List Class) (name : List ℕ) (fields : List MemberId) → made_of w name ≡ Some fields → (c : Class) × (class_named w name ≡ Some c)
-made_is_there w name fields e = go (class_named w name) refl e
-  where
-    go : (o : Option Class) → class_named w name ≡ o → option_and_then (λ c. if is_made c then Some (object_fields w name) else None) o ≡ Some fields → (c : Class) × (class_named w name ≡ Some c)
-    go None is e = cc
-    go (Some c) is e = (c, is)
 
 both_of : (a b : Bool) → (a && b) ≡ true → (a ≡ true) × (b ≡ true)
 both_of true true e = (refl, refl)
@@ -131,8 +138,27 @@ module _ (files : Files) (image : StaticImage) (near : List MemberId) (tables : 
   unfolding linked
   may_be class may = (both_of (is_plain_import (class_named w class)) (is_subtype w class (codes "java/lang/Throwable")) may).1
 
+  acts_told : ActsAreTold by l
+  unfolding linked named
+  acts_told = record {
+    there = λ class e. (let c = some_class (class_named w class) e in there_by_name w class c.0 c.1);
+    not_there = λ class e. ap (option_map (λ (c : Class). c.name)) (no_class (class_named w class) e);
+    imported = λ class e. imported_is w class e;
+    not_imported = λ class e. ap (λ b. if b then Some class else None) e;
+    tells = λ of class. refl;
+    spelt = shape_spelt;
+  }
+    where
+      some_class : (o : Option Class) → is_some o ≡ true → (c : Class) × (o ≡ Some c)
+      some_class None e = cc
+      some_class (Some c) e = (c, refl)
+
+      no_class : (o : Option Class) → is_some o ≡ false → o ≡ None
+      no_class None e = refl
+      no_class (Some c) e = cc
+
   answered : IsAnswered by l (table_of l (analysis files image near tables))
-  answered = record { acts = is.acts; throws = thrown; may_throw = may_be }
+  answered = record { acts = acts_alike by l acts_told; throws = thrown; may_throw = may_be }
 
   has_tables : (m : Method) (at : ℕ) (p : Point) → (let tb = table_of l (analysis files image near tables) in tb.point m at ≡ Some p) → HasTables files tables m
   has_tables m at p known = let h = point_from l (slice_get (tables.types m) at) (slice_get (tables.ranges m) at) p known in is.methods m at h.typed h.has_types
@@ -141,15 +167,96 @@ module _ (files : Files) (image : StaticImage) (near : List MemberId) (tables : 
   unfolding named
   may_throw_all kind e = e
 
+  -- ---- what scripts name
+
+  asks : (kind : Shape (List ℕ)) → IsThere w kind → AsksAlike by l kind
+  unfolding by_label linked named
+  asks _ (of_class {class = class} c there) = record {
+    tells = λ of. ap (λ o. is_of_some l of (option_map OfClass o)) (sym (there_by_name w class c there));
+    same = λ other e. (let same : Some (OfClass class) ≡ Some other = ap (option_map OfClass) (sym (there_by_name w class c there)) ∙ e in cc);
+  }
+  asks _ (of_numbers {element = element}) = record { tells = λ of. refl; same = λ other e. cc }
+  asks _ (of_references {class = class} c there) = record {
+    tells = λ of. ap (λ o. is_of_some l of (option_map OfReferences o)) (sym (there_by_name w class c there));
+    same = λ other e. (let same : Some (OfReferences class) ≡ Some other = ap (option_map OfReferences) (sym (there_by_name w class c there)) ∙ e in cc);
+  }
+
+  given : (ps : List Part) → AllByRecursion (λ p. is_word_sort (sort_of p) ≡ true) ps → AllByRecursion (λ type. (kind : Shape (List ℕ)) → type ≡ Reference kind → IsThere w kind) (map sort_of ps) → AreGiven by l (map sort_of ps)
+  given [] words known = no_parameter
+  given (p ∷ ps) words known = a_parameter words.0 (λ kind e. asks kind (known.0 kind e)) (given ps words.1 known.1)
+
+  begun : (on : Bool) (desc : List ℕ) (m : Method) → IsBegun files tables on desc m → IsReachedBy by l w (analysis files image near tables) on desc m
+  begun on desc m h = record { whole = is_whole files image near tables m h.has_tables; desc = h.desc; flags = h.flags }
+
+  declares : (m : Method) → HasTables files tables m → IsClassName (let id = m.id in id.class)
+  declares m h = subst (λ (n : Method). IsClassName (let id = n.id in id.class)) (sym h.is) h.named
+
+  entered : (id : MemberId) → IsMember files l tables id → IsEntered by l w (analysis files image near tables) id
+  unfolding linked named
+  entered id h = record {
+    desc = h.desc;
+    given = given (let d = parts id.desc in d.params) (let desc = h.desc in desc.params) h.known;
+    called = refl;
+    sent = λ kind. refl;
+    is_called = λ m found. begun false id.desc m (h.is_called m found);
+    is_sent = λ kind m made_there found. begun true id.desc m (h.is_sent kind m made_there found);
+    receives = λ kind m made_there found. (let b = h.is_sent kind m made_there found in let name = class_read (let id = m.id in id.class) (declares m b.has_tables) in
+        ap (is_of_some l kind) name.class ∙ h.receives kind m made_there found);
+  }
+
+  scripted : (id : MemberId) → IsScripted by l w (analysis files image near tables) id
+  unfolding linked named
+  scripted id = go (is.scripted id)
+    where
+      go : IsFound files l tables id → IsScripted by l w (analysis files image near tables) id
+      go (converted.no_method not_called not_sent) = whole_package.no_method (record {
+        not_called = not_called;
+        not_sent = λ kind. not_sent (shape_name kind);
+        narrow_not_called = ap (option_map (start_of (narrow_codes files near tables))) not_called;
+        narrow_not_sent = λ kind. ap (option_map (start_of (narrow_codes files near tables))) (not_sent (shape_name kind));
+      })
+      go (converted.a_member h) = whole_package.methods (entered id h)
+
+  -- ---- what the image says
+
+  first_shown : (arrays : List ArrayCell) → AllByRecursion IsFirstArray arrays → map static_array arrays ≡ map (shown l) (map first_array arrays)
+  unfolding by_label
+  first_shown [] h = refl
+  first_shown (a ∷ arrays) h =
+      let one = h.0 in
+      ap (λ d. things.Array d (map (λ z. Num z) a.items) ∷ map static_array arrays) one.named ∙ ap (λ xs. things.Array (array_name (element_of_kind a.kind)) (map (λ z. Num z) a.items) ∷ xs) (first_shown arrays h.1)
+
+  first_fits : (heap : Heap) (arrays : List ArrayCell) → AllByRecursion IsFirstArray arrays → (k : ℕ) (thing : HeapObject (List ℕ) MemberId) → slice_get (map first_array arrays) k ≡ Some thing → ThingFits l heap thing
+  first_fits heap [] h k thing e = cc
+  first_fits heap (a ∷ arrays) h zero thing e =
+      let one = h.0 in
+      let same : first_array a ≡ thing = cc in
+      subst (ThingFits l heap) same (numbers one.few one.held)
+  first_fits heap (a ∷ arrays) h (suc k) thing e = first_fits heap arrays h.1 k thing e
+
+  cells_shown : (xs : List FieldValue) → xs ≡ map shown_slot (map first_cell xs)
+  cells_shown [] = refl
+  cells_shown (x ∷ xs) = ap (λ ys. x ∷ ys) (cells_shown xs)
+
+  starts : Stores l (record { heap = by.heap; statics = by.statics }) l.memory
+  unfolding linked named
+  starts = record {
+    heap = first_shown image.arrays (let first = is.first in first.arrays);
+    statics = cells_shown (cells image files.classes);
+    heap_fits = first_fits (map first_array image.arrays) image.arrays (let first = is.first in first.arrays);
+    statics_fit = (let first = is.first in first.cells);
+    cells = refl;
+  }
+
   pub is_package : IsPackage by l w (analysis files image near tables)
   is_package = record {
     types = types_told;
     arrays = classes_named;
     methods = λ m at p known. is_whole files image near tables m (has_tables m at p known);
-    supported = λ m whole at i t there row. is.supported m (is.methods m at t row) at i t there row;
+    supported = λ m whole at i t there row. is_supported files image near tables is.names m (cells_of t.stack) i.op (is.named m (is.methods m at t row) at i t there row);
     throwables = may_throw_all;
     exceptions = exceptions;
     answered = answered;
-    scripted = is.scripted;
-    starts = is.starts;
+    scripted = scripted;
+    starts = starts;
   }

@@ -1,2 +1,4 @@
 pub mod Tables
+pub mod Types
+pub mod Names
 pub mod Converted

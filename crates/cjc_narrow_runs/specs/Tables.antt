@@ -66,8 +66,8 @@ analysis files image near tables = record {
 }
 
 -- A method of the package with code: it is decoded, its types are the least and break none of the rules 501 to 503, and its intervals are the
--- least over them and break none of 601 to 609. It is found by its own name (202), each of its parameters and its result is one word
--- (301 and 302), its parameters have locals (103), and its handlers catch classes (203).
+-- least over them and break none of 601 to 609. It is found by its own name (202) in a class of the package (201), each of its parameters
+-- and its result is one word (301 and 302), its parameters have locals (103), and its handlers catch classes (203).
 pub record HasTables (files : Files) (tables : Tables) (m : Method) : Type 0 where
   pub code : MethodCode
   pub class : ClassTree
@@ -81,5 +81,6 @@ pub record HasTables (files : Files) (tables : Tables) (m : Method) : Type 0 whe
   pub passes : Passes (body_of class method tree code.insns) (tables.types m) (tables.ranges m)
   pub found : flags_of (method_found (all_classes files) (record { class = class.name; name = method.name; desc = method.desc })) ≡ method.flags
   pub desc : IsWordDesc method.desc
+  pub named : IsClassName class.name
   pub begins : HasRoomToBegin (body_of class method tree code.insns)
   pub caught : (c : Catch) (name : List ℕ) → Contains tree.catches c → c.class ≡ Some name → IsClassName name

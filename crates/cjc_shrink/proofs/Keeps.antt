@@ -42,13 +42,13 @@ module _ {heap after : Heap} (keeps : Keeps heap after) where
 
   pub thing_kept : (l : Named) {thing : HeapObject (List ℕ) MemberId} → ThingFits l heap thing → ThingFits l after thing
   thing_kept l (numbers few fits) = numbers few fits
-  thing_kept l (references few fits) = references few (λ k d low. cell_kept l (fits k d low))
+  thing_kept l (references arrays few fits) = references arrays few (λ k d low. cell_kept l (fits k d low))
   thing_kept l (of_class is fits) = of_class is (slots_kept l fits)
 
 -- what is there is of a type of which something may be there
 pub made_there : (l : Named) {heap : Heap} (thing : HeapObject (List ℕ) MemberId) → ThingFits l heap thing → IsMadeOf l (shape thing)
 made_there l _ (numbers few fits) = tt
-made_there l _ (references few fits) = tt
+made_there l _ (references arrays few fits) = arrays
 made_there l _ (of_class is fits) = (_, is)
 
 -- ---- a new array or object
@@ -71,7 +71,7 @@ get_either (z ∷ xs) x y (suc k) e = get_either xs x y k e
 pub grown_keeps : (heap : Heap) (thing : HeapObject (List ℕ) MemberId) → Keeps heap (heap ++ thing ∷ [])
 grown_keeps heap thing k other is = record { thing = other; is = get_front heap (thing ∷ []) k other is; type = refl }
 
-grown_fits : (l : Named) (heap : Heap) (thing : HeapObject (List ℕ) MemberId) → HeapFits l heap → ThingFits l (heap ++ thing ∷ []) thing → HeapFits l (heap ++ thing ∷ [])
+pub grown_fits : (l : Named) (heap : Heap) (thing : HeapObject (List ℕ) MemberId) → HeapFits l heap → ThingFits l (heap ++ thing ∷ []) thing → HeapFits l (heap ++ thing ∷ [])
 grown_fits l heap thing fits new k other is = by (get_either heap thing other k is)
   where
     by : ((slice_get heap k ≡ Some other) ⊎ (thing ≡ other)) → ThingFits l (heap ++ thing ∷ []) other
@@ -118,7 +118,7 @@ set_keeps heap k old new there same j thing is = by (set_get heap k j new thing 
         let f : old ≡ thing = cc in
         record { thing = new; is = h; type = same ∙ ap shape f }
 
-set_fits : (l : Named) (heap : Heap) (k : ℕ) (old new : HeapObject (List ℕ) MemberId) → slice_get heap k ≡ Some old → shape new ≡ shape old → HeapFits l heap → ThingFits l heap new → HeapFits l (slice_set heap k new)
+pub set_fits : (l : Named) (heap : Heap) (k : ℕ) (old new : HeapObject (List ℕ) MemberId) → slice_get heap k ≡ Some old → shape new ≡ shape old → HeapFits l heap → ThingFits l heap new → HeapFits l (slice_set heap k new)
 set_fits l heap k old new there same fits h j thing is = by (set_from heap k j new thing is)
   where
     by : ((slice_get heap j ≡ Some thing) ⊎ (new ≡ thing)) → ThingFits l (slice_set heap k new) thing

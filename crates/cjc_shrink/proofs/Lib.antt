@@ -35,3 +35,4 @@ pub mod Whole
 pub mod Reached
 pub mod KeptRows
 pub mod KeptHandlers
+pub mod ActsDone

@@ -102,16 +102,16 @@ module _ (by : Linked) (l : Named) (r : Resolution) (m : Method) (class : List �
 
 -- ---- arrays
 
-zeros_shown : (n : ℕ) → replicate n (Num (pos 0)) ≡ map Num (replicate n (pos 0))
+pub zeros_shown : (n : ℕ) → replicate n (Num (pos 0)) ≡ map Num (replicate n (pos 0))
 zeros_shown zero = refl
 zeros_shown (suc n) = ap (λ vs. Num (pos 0) ∷ vs) (zeros_shown n)
 
-all_same : {A : Type 0} (P : A → Type 0) (x : A) → P x → (n k : ℕ) (d : A) → k < length (replicate n x) → P (slice_index_or (replicate n x) k d)
+pub all_same : {A : Type 0} (P : A → Type 0) (x : A) → P x → (n k : ℕ) (d : A) → k < length (replicate n x) → P (slice_index_or (replicate n x) k d)
 all_same P x p zero k d low = absurd (omega arith)
 all_same P x p (suc n) zero d low = p
 all_same P x p (suc n) (suc k) d low = all_same P x p n k d (omega arith)
 
-zero_held : (element : Element) → Holds (element_range element) (pos 0)
+pub zero_held : (element : Element) → Holds (element_range element) (pos 0)
 zero_held Booleans = record { above = omega (arith, ints); below = omega (arith, ints) }
 zero_held Bytes = record { above = omega (arith, ints); below = omega (arith, ints) }
 zero_held Shorts = record { above = omega (arith, ints); below = omega (arith, ints) }
@@ -121,7 +121,7 @@ long_of : {A : Type 0} (n : ℕ) (x : A) → length (replicate n x) ≡ n
 long_of zero x = refl
 long_of (suc n) x = ap suc (long_of n x)
 
-few_of : {A : Type 0} (n : ℕ) (x : A) → n ≤ 32767 → length (replicate n x) ≤ 32767
+pub few_of : {A : Type 0} (n : ℕ) (x : A) → n ≤ 32767 → length (replicate n x) ≤ 32767
 few_of n x h = let e = long_of n x in omega (arith, e)
 
 -- so many elements as a number of 16 bits says; a negative one raises
@@ -179,7 +179,7 @@ module _ (by : Linked) (l : Named) (r : Resolution) (m : Method) (s : Span) (sma
   unfolding by_label
   references_shown class n = refl
 
-  nulls_is : (class : List ℕ) → IsClassThere by m class → within (OfReferences class) ≡ true → RowIs by l m (jop.ANewArray class) (insns.Named 0x91 (pool.Class class)) (Range s ∷ []) (Refers within ∷ [])
+  nulls_is : (class : List ℕ) → IsClassThere by l m class → within (OfReferences class) ≡ true → RowIs by l m (jop.ANewArray class) (insns.Named 0x91 (pool.Class class)) (Range s ∷ []) (Refers within ∷ [])
   unfolding effect meaning
   nulls_is class there passes room at next ks ls _ _ locals words store memory roomy stores held (cell {vs = vs} {ws = ws} (number {x = x} {y = y} e h) rest) =
       let Meets = Same l (Refers within ∷ ks) ls (at + 1) next in
@@ -188,7 +188,7 @@ module _ (by : Linked) (l : Named) (r : Resolution) (m : Method) (s : Span) (sma
       (subst (λ b. Meets (by_name.only_if b (by_name.with_size x (λ n. by_name.with_new by m at locals store (things.Array (shape_name (OfReferences class)) (replicate n Null)) vs))) narrow_side) (sym there.is_there)
       (sized_both by l m room at next ks ls vs ws locals words store memory within roomy stores held rest s small x y e h
       (λ n. References class (replicate n Null)) (λ n. things.Array (shape_name (OfReferences class)) (replicate n Null)) (references_shown class) (λ n. passes)
-      (λ n few. references (few_of n Null few) (λ k d low. all_same (CellFits l (memory.heap ++ References class (replicate n Null) ∷ []) (Reference (OfClass class))) Null a_null n k d low))))
+      (λ n few. references there.arrays (few_of n Null few) (λ k d low. all_same (CellFits l (memory.heap ++ References class (replicate n Null) ∷ []) (Reference (OfClass class))) Null a_null n k d low))))
 
-  pub anewarray : (class : List ℕ) → IsClassThere by m class → within (OfReferences class) ≡ true → RowAgrees by l r m (jop.ANewArray class) (Range s ∷ []) (Refers within ∷ [])
+  pub anewarray : (class : List ℕ) → IsClassThere by l m class → within (OfReferences class) ≡ true → RowAgrees by l r m (jop.ANewArray class) (Range s ∷ []) (Refers within ∷ [])
   anewarray class there passes = as_written by l r m (jop.ANewArray class) (insns.Named 0x91 (pool.Class class)) (Range s ∷ []) (Refers within ∷ []) (λ place. refl) (nulls_is class there passes)

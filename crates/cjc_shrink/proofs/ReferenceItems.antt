@@ -23,7 +23,7 @@ use Rattle.cjc_ncode.specs.ByLabel.{Named, by_label, classes}
 use Rattle.cjc_by_name.specs.Linked.{Method, Linked}
 use Rattle.cjc_by_name.specs.Effects.{Store, AReference, effect, serves, type_of}
 use Rattle.cjc_by_name.specs.Effects as by_name
-use Rattle.cjc_shrink.specs.Relation.{Kind, Range, Refers, NMemory, Agrees, number, null, object, Stacks, cell, Locals, CellFits, a_null, an_object, ThingFits, references, shown, Stores}
+use Rattle.cjc_shrink.specs.Relation.{Kind, Range, Refers, NMemory, Agrees, number, null, object, Stacks, cell, Locals, CellFits, a_null, an_object, ThingFits, references, shown, Stores, HasArrays}
 use Rattle.cjc_shrink.specs.Rows.{HasRoom, NEffect, Same, RowAgrees, goes, raises}
 use Rattle.cjc_shrink.specs.Objects.{class_of}
 use Rattle.cjc_shrink.specs.Elements.{index_range, IsReferences, AreAll, ItemsPass, KeepsAlike}
@@ -74,7 +74,7 @@ module _ (by : Linked) (l : Named) (m : Method) (room at next : ℕ) (items : Sh
   load_item : (thing : HeapObject (List ℕ) MemberId) → IsReferences (shape thing) → ((class : List ℕ) → shape thing ≡ OfReferences class → (of : Shape (List ℕ)) → l.is_of of (OfClass class) ≡ true → items of ≡ true) → ThingFits l memory.heap thing → Loads (named_load (shown l thing)) (narrow_load thing)
   unfolding by_label
   load_item (Numbers element held) is pass fits = absurd (elim is [ ])
-  load_item (References class held) is pass (references few fits) =
+  load_item (References class held) is pass (references arrays few fits) =
       subst (λ o. Loads (by_name.only_if (serves AReference o) (by_name.item_at held i (λ n v. by_name.onward by m at locals store (v ∷ vs)))) (narrow_load (References class held))) (sym (named_by class is))
       (item_both Loads (λ v. v) held held (λ n. as_it_is (slice_get held n)) (λ n v. by_name.onward by m at locals store (v ∷ vs)) (λ n v. narrow.onward (v ∷ []) room next words memory ws) i few near
       (raises {fault = by_name.IndexOutside}) (λ n v e. item_pushed v (item_agrees class v (pass class refl) (item_has (CellFits l memory.heap (Reference (OfClass class))) held n v fits e))))
@@ -118,37 +118,37 @@ module _ (by : Linked) (l : Named) (m : Method) (at next : ℕ) (values : Shape 
   narrow_write v k = narrow.references_in (λ class items. narrow.item_at (narrow.Raise Calculations.IndexOutside) items (low_word i) (λ n old. narrow.kept (classes l) memory.heap class v (narrow_item k class items n v)))
 
   -- an item is replaced by one that fits
-  item_written : (k : ℕ) (class : List ℕ) (items : List Value) (n : ℕ) (v : Value) → slice_get memory.heap k ≡ Some (References class items) → CellFits l memory.heap (Reference (OfClass class)) v → length items ≤ 32767 → All (CellFits l memory.heap (Reference (OfClass class))) items
+  item_written : (k : ℕ) (class : List ℕ) (items : List Value) (n : ℕ) (v : Value) → slice_get memory.heap k ≡ Some (References class items) → CellFits l memory.heap (Reference (OfClass class)) v → HasArrays l class → length items ≤ 32767 → All (CellFits l memory.heap (Reference (OfClass class))) items
       → Writes (named_item k (shape_name (OfReferences class)) items n v) (narrow_item k class items n v)
   unfolding by_label
-  item_written k class items n v is fit few fits =
+  item_written k class items n v is fit arrays few fits =
       let new : HeapObject (List ℕ) MemberId = References class (slice_set items n v) in
       let long = long_with items n v in
       let keeps = set_keeps memory.heap k (References class items) new is refl in
-      let new_fits : ThingFits l memory.heap new = references (omega (arith, long, few)) (all_with (CellFits l memory.heap (Reference (OfClass class))) items n v fit fits) in
+      let new_fits : ThingFits l memory.heap new = references arrays (omega (arith, long, few)) (all_with (CellFits l memory.heap (Reference (OfClass class))) items n v fit fits) in
       goes (stacks_kept keeps rest) (locals_kept keeps held) (set_stores l store memory k (References class items) new is refl stores new_fits)
 
   -- where the class of the array has it; else both raise
-  kept_both : (k : ℕ) (class : List ℕ) (items : List Value) (n : ℕ) (v w : Value) → slice_get memory.heap k ≡ Some (References class items) → ((of : Shape (List ℕ)) → values of ≡ true → by.subtype (Some (class_of m)) (shape_name of) class ≡ l.is_of of (OfClass class)) → length items ≤ 32767 → All (CellFits l memory.heap (Reference (OfClass class))) items → Agrees memory.heap (Refers values) v w
+  kept_both : (k : ℕ) (class : List ℕ) (items : List Value) (n : ℕ) (v w : Value) → slice_get memory.heap k ≡ Some (References class items) → ((of : Shape (List ℕ)) → values of ≡ true → by.subtype (Some (class_of m)) (shape_name of) class ≡ l.is_of of (OfClass class)) → HasArrays l class → length items ≤ 32767 → All (CellFits l memory.heap (Reference (OfClass class))) items → Agrees memory.heap (Refers values) v w
       → Writes (by_name.with_kept by m at locals store AReference (Some (OfReferences class)) v (named_item k (shape_name (OfReferences class)) items n)) (narrow.kept (classes l) memory.heap class w (narrow_item k class items n w))
-  kept_both k class items n _ _ is tells few fits null = item_written k class items n Null is a_null few fits
-  kept_both k class items n _ _ is tells few fits (object {k = j} thing there passes) =
+  kept_both k class items n _ _ is tells arrays few fits null = item_written k class items n Null is a_null arrays few fits
+  kept_both k class items n _ _ is tells arrays few fits (object {k = j} thing there passes) =
       subst (λ o. Writes (by_name.with_some o (λ thing. if by.subtype (Some (class_of m)) (type_of thing) class then named_item k (shape_name (OfReferences class)) items n (Obj j) else by_name.Raise by_name.ArrayStore)) (narrow.with_some narrow.Stick (slice_get memory.heap j) (λ thing. if l.is_of (shape thing) (OfClass class) then narrow_item k class items n (Obj j) else narrow.Raise Calculations.ArrayStore))) (sym (thing_shown l memory.heap j thing stores.heap there))
       (subst (λ b. Writes (if b then named_item k (shape_name (OfReferences class)) items n (Obj j) else by_name.Raise by_name.ArrayStore) (narrow.with_some narrow.Stick (slice_get memory.heap j) (λ thing. if l.is_of (shape thing) (OfClass class) then narrow_item k class items n (Obj j) else narrow.Raise Calculations.ArrayStore))) (sym (ap (λ of. by.subtype (Some (class_of m)) of class) (type_shown l thing) ∙ tells (shape thing) passes))
       (subst (λ o. Writes (if l.is_of (shape thing) (OfClass class) then named_item k (shape_name (OfReferences class)) items n (Obj j) else by_name.Raise by_name.ArrayStore) (narrow.with_some narrow.Stick o (λ thing. if l.is_of (shape thing) (OfClass class) then narrow_item k class items n (Obj j) else narrow.Raise Calculations.ArrayStore))) (sym there)
       (by_answer (l.is_of (shape thing) (OfClass class)) refl)))
     where
       by_answer : (b : Bool) → l.is_of (shape thing) (OfClass class) ≡ b → Writes (if b then named_item k (shape_name (OfReferences class)) items n (Obj j) else by_name.Raise by_name.ArrayStore) (if b then narrow_item k class items n (Obj j) else narrow.Raise Calculations.ArrayStore)
-      by_answer true e = item_written k class items n (Obj j) is (an_object thing there e) few fits
+      by_answer true e = item_written k class items n (Obj j) is (an_object thing there e) arrays few fits
       by_answer false e = raises {fault = by_name.ArrayStore}
 
   write_item : (v w : Value) → Agrees memory.heap (Refers values) v w → (k : ℕ) (thing : HeapObject (List ℕ) MemberId) → slice_get memory.heap k ≡ Some thing → IsReferences (shape thing) → ((class : List ℕ) → shape thing ≡ OfReferences class → (of : Shape (List ℕ)) → values of ≡ true → by.subtype (Some (class_of m)) (shape_name of) class ≡ l.is_of of (OfClass class)) → ThingFits l memory.heap thing → Writes (named_write v k (shown l thing)) (narrow_write w k thing)
   unfolding by_label
   write_item v w agree k (Numbers element items) is array tells fits = absurd (elim array [ ])
-  write_item v w agree k (References class items) is array tells (references few fits) =
+  write_item v w agree k (References class items) is array tells (references arrays few fits) =
       subst (λ o. Writes (by_name.only_if (serves AReference o) (by_name.item_at items i (λ n old. by_name.with_kept by m at locals store AReference o v (named_item k (shape_name (OfReferences class)) items n)))) (narrow_write w k (References class items))) (sym (named_by class array))
       (item_both Writes (λ v. v) items items (λ n. as_it_is (slice_get items n)) (λ n old. by_name.with_kept by m at locals store AReference (Some (OfReferences class)) v (named_item k (shape_name (OfReferences class)) items n)) (λ n old. narrow.kept (classes l) memory.heap class w (narrow_item k class items n w)) i few near
-      (raises {fault = by_name.IndexOutside}) (λ n old e. kept_both k class items n v w is (tells class refl) few fits agree))
+      (raises {fault = by_name.IndexOutside}) (λ n old e. kept_both k class items n v w is (tells class refl) arrays few fits agree))
   write_item v w agree k (Object class slots) is array tells fits = absurd (elim array [ ])
 
   -- of the array of a reference; null raises

@@ -53,7 +53,7 @@ module _ (by : Linked) (l : Named) (m : Method) (at next : ℕ) (ks ls : List Ki
   unfolding by_label
   count_of (Numbers element items) array (numbers few fits) =
       subst (λ n. Counts (by_name.onward by m at locals store (Num (pos n) ∷ vs)) (narrow.Go next (Num (low_word (pos (length items))) ∷ ws) words memory)) (sym (length_as Num items)) (counted (length items) few)
-  count_of (References class items) array (references few fits) = counted (length items) few
+  count_of (References class items) array (references arrays few fits) = counted (length items) few
   count_of (Object class slots) array fits = absurd (array class refl)
 
   pub count_at : (within : Shape (List ℕ) → Bool) → AreArrays l within → (v w : Value) → Agrees memory.heap (Refers within) v w → Counts (by_name.thing_at store.heap v (λ k. by_thing)) (narrow.thing_of memory.heap w (λ k. narrow_thing))

@@ -1,9 +1,9 @@
 -- When an act of a script does the same to heaps that agree.
-use Rattle.std.specs.Prelude.{◌≡◌, ℕ, List, map, Option, Some, None, slice_get}
+use Rattle.std.specs.Prelude.{◌≡◌, ℕ, List, map, Option, Some, None, true, false, slice_get}
 use Rattle.cjc_bytes.specs.declared.fault.MemberId.{MemberId}
 use Rattle.cjc_script.specs.declared.script.Act.{Act}
 use Rattle.cjc_script.specs.declared.report.Thing.{Thing}
-use Rattle.cjc_script.specs.Sorts.{Shape}
+use Rattle.cjc_script.specs.Sorts.{Shape, OfClass, shape_name, shape_named}
 use Rattle.cjc_bytecode.specs.Effects.{HeapObject, shape}
 use Rattle.cjc_bytecode.specs.Machine.{acted}
 use Rattle.cjc_ncode.specs.ByLabel.{Named, by_label}
@@ -29,3 +29,12 @@ pub data SameHeaps (l : Named) (heap : Heap) : Option (List Thing) → Option He
 -- each act, on each heap of sound types
 abbrev pub ActsAlike : Linked → Named → Type 0
 ActsAlike by l = (act : Act) (heap : Heap) → HeapFits l heap → SameHeaps l heap (heap_after_act by act (map (shown l) heap)) (acted (by_label l) act heap)
+
+-- What acts ask of classes is told alike: which are there, which are imported, and what is of a class; and a type is named by its own name.
+pub record ActsAreTold (by : Linked) (l : Named) : Type 0 where
+  pub there : (class : List ℕ) → by.is_there None class ≡ true → l.class_named class ≡ Some class
+  pub not_there : (class : List ℕ) → by.is_there None class ≡ false → l.class_named class ≡ None
+  pub imported : (class : List ℕ) → by.is_imported class ≡ true → l.imported class ≡ Some class
+  pub not_imported : (class : List ℕ) → by.is_imported class ≡ false → l.imported class ≡ None
+  pub tells : (of : Shape (List ℕ)) (class : List ℕ) → by.subtype None (shape_name of) class ≡ l.is_of of (OfClass class)
+  pub spelt : (name : List ℕ) (kind : Shape (List ℕ)) → shape_named name ≡ Some kind → shape_name kind ≡ name

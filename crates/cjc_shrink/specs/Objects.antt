@@ -5,6 +5,7 @@ use Rattle.cjc_bytes.specs.declared.fault.MemberId.{MemberId}
 use Rattle.cjc_script.specs.declared.value.Value.{Value}
 use Rattle.cjc_script.specs.Sorts.{Shape, OfClass, Sort, NoValue, field_sort, shape_name, shape_named}
 use Rattle.cjc_ncode.specs.ByLabel.{Named}
+use Rattle.cjc_shrink.specs.Relation.{HasArrays}
 use Rattle.cjc_by_name.specs.Linked.{Method, Linked}
 use Rattle.cjc_by_name.specs.Effects.{Store}
 use Rattle.cjc_by_name.specs.Effects as by_name
@@ -30,10 +31,11 @@ pub record IsMade (by : Linked) (l : Named) (m : Method) (class : List ℕ) : Ty
   pub narrow : l.fields class ≡ Some fields
   pub are_fields : list_all is_field fields ≡ true
 
--- A class that some file has is named by its own name.
-pub record IsClassThere (by : Linked) (m : Method) (class : List ℕ) : Type 0 where
+-- A class that some file has is named by its own name, and so are its arrays.
+pub record IsClassThere (by : Linked) (l : Named) (m : Method) (class : List ℕ) : Type 0 where
   pub is_name : shape_named class ≡ Some (OfClass class)
   pub is_there : by.is_there (Some (class_of m)) class ≡ true
+  pub arrays : HasArrays l class
 
 -- ---- types
 

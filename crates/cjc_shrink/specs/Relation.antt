@@ -7,7 +7,7 @@ use Rattle.cjc_range.specs.Span.{Span, span, Holds, Within, byte_range, short_ra
 use Rattle.cjc_script.specs.declared.value.Value.{Value}
 use Rattle.cjc_script.specs.declared.value.Value.TheVariants.{Num, Null, Obj}
 use Rattle.cjc_script.specs.declared.report.Thing.{Thing}
-use Rattle.cjc_script.specs.Sorts.{Element, Booleans, Bytes, Shorts, Ints, Shape, OfClass, OfNumbers, OfReferences, Sort, Boolean, Byte, Short, Int, Reference, field_sort}
+use Rattle.cjc_script.specs.Sorts.{Element, Booleans, Bytes, Shorts, Ints, Shape, OfClass, OfNumbers, OfReferences, Sort, Boolean, Byte, Short, Int, Reference, field_sort, shape_name, shape_named}
 use Rattle.cjc_bytecode.specs.Effects.{Slot, HeapObject, Numbers, References, Object, Memory, shape}
 use Rattle.cjc_bytecode.specs.Renaming.{keys}
 use Rattle.cjc_bytecode.specs.Machine
@@ -110,18 +110,23 @@ pub data HasObjects (l : Named) (class : List ℕ) (fields : List MemberId) : Ty
   made : l.fields class ≡ Some fields → HasObjects l class fields
   bare : fields ≡ [] → l.imported class ≡ Some class → HasObjects l class fields
 
+-- Arrays are made of a class that narrow code has by its name, and which their descriptor names.
+pub record HasArrays (l : Named) (class : List ℕ) : Type 0 where
+  pub is_there : l.class_named class ≡ Some class
+  pub is_named : shape_named (shape_name (OfReferences class)) ≡ Some (OfReferences class)
+
 -- each item is of the array's element, and there are as many as an index of one word reaches; an object has the fields of its
 -- class
 pub data ThingFits (l : Named) (heap : Heap) : HeapObject (List ℕ) MemberId → Type 0 where
   numbers : {element : Element} {items : List ℤ} → length items ≤ 32767 → All (Holds (element_range element)) items → ThingFits l heap (Numbers element items)
-  references : {class : List ℕ} {items : List Value} → length items ≤ 32767 → All (CellFits l heap (Reference (OfClass class))) items → ThingFits l heap (References class items)
+  references : {class : List ℕ} {items : List Value} → HasArrays l class → length items ≤ 32767 → All (CellFits l heap (Reference (OfClass class))) items → ThingFits l heap (References class items)
   of_class : {class : List ℕ} {slots : List (Slot MemberId)} → HasObjects l class (keys slots) → SlotsFit l heap slots → ThingFits l heap (Object class slots)
 
--- a type of which something may be there: an array, or a class of which objects are made
+-- a type of which something may be there: an array of numbers, or of a class that has arrays, or a class of which objects are made
 abbrev pub IsMadeOf : Named → Shape (List ℕ) → Type 0
 IsMadeOf l (OfClass class) = (fields : List MemberId) × HasObjects l class fields
 IsMadeOf l (OfNumbers element) = Unit {0}
-IsMadeOf l (OfReferences class) = Unit {0}
+IsMadeOf l (OfReferences class) = HasArrays l class
 
 -- each array and object
 abbrev pub HeapFits : Named → Heap → Type 0

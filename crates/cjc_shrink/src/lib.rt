@@ -39,7 +39,7 @@ ghost use Rattle.cjc_shrink.specs.Switches.{targets_of, JumpsInTwo, TwoAgree};
 ghost use Rattle.cjc_shrink.specs.Callees.{Names, CallIsWritten};
 ghost use Rattle.cjc_shrink.specs.Results.{Resumes, NotesResult, AreShort};
 ghost use Rattle.cjc_shrink.specs.Replies.{StatesAgree, result_kinds, IsStaticImport, IsObjectImport, AnswersAlike, ImportAgrees};
-ghost use Rattle.cjc_shrink.specs.Acts.{ActsAlike};
+ghost use Rattle.cjc_shrink.specs.Acts.{ActsAlike, ActsAreTold};
 ghost use Rattle.cjc_shrink.specs.Entries.{MayEnter, IsEntry, IsNoEntry, entry_kinds, EntryAgrees};
 ghost use Rattle.cjc_shrink.specs.Types.{TypesStay};
 ghost use Rattle.cjc_shrink.specs.Turns.{TurnAgrees};
@@ -246,7 +246,7 @@ pub fn objects_are_made_alike()
     ensures booleans { (by : Linked) (l : Named) (r : Resolution) (m : Method) (s : Span) → Within s short_range → (within : Shape (List ℕ) → Bool) → within (OfNumbers Booleans) ≡ true → RowAgrees by l r m (jop.NewArray 4) (Range s ∷ []) (Refers within ∷ []) }
     ensures bytes { (by : Linked) (l : Named) (r : Resolution) (m : Method) (s : Span) → Within s short_range → (within : Shape (List ℕ) → Bool) → within (OfNumbers Bytes) ≡ true → RowAgrees by l r m (jop.NewArray 8) (Range s ∷ []) (Refers within ∷ []) }
     ensures shorts { (by : Linked) (l : Named) (r : Resolution) (m : Method) (s : Span) → Within s short_range → (within : Shape (List ℕ) → Bool) → within (OfNumbers Shorts) ≡ true → RowAgrees by l r m (jop.NewArray 9) (Range s ∷ []) (Refers within ∷ []) }
-    ensures anewarray { (by : Linked) (l : Named) (r : Resolution) (m : Method) (s : Span) → Within s short_range → (within : Shape (List ℕ) → Bool) (class : List ℕ) → IsClassThere by m class → within (OfReferences class) ≡ true → RowAgrees by l r m (jop.ANewArray class) (Range s ∷ []) (Refers within ∷ []) }
+    ensures anewarray { (by : Linked) (l : Named) (r : Resolution) (m : Method) (s : Span) → Within s short_range → (within : Shape (List ℕ) → Bool) (class : List ℕ) → IsClassThere by l m class → within (OfReferences class) ≡ true → RowAgrees by l r m (jop.ANewArray class) (Range s ∷ []) (Refers within ∷ []) }
 {}
 
 /// The type of an array or object is asked alike. What passes a cast is what was there, of that type too; null passes, and is
@@ -325,4 +325,10 @@ pub fn rows_keep_rules()
 /// and something is written at the place.
 pub fn handlers_keep_rules()
     ensures { (by : Linked) (l : Named) (table : Table) (m : Method) (at : ℕ) (ls : List Kind) (kind : Shape (List ℕ)) → (let code = code_of table m in code.catches) ≡ catches_at (written_place table m) m.catches → IsWrittenAt (table.resolution m) (table.reached m) (offset_at m at) (spot table m at) → ((class : List ℕ) → by.subtype (Some (class_of_code m)) (shape_name kind) class ≡ l.is_of kind (OfClass class)) → ((target : ℕ) → handler_at by m at kind ≡ Some target → Handles table m target ls kind) → CatchesAlike by l table m at ls kind }
+{}
+
+/// An act of a script does the same to heaps that agree, or fits neither: a new array, an object of an imported class, an item of an array. So it is
+/// where both sides tell alike which classes are there, which are imported and what is of a class.
+pub fn acts_are_done_alike()
+    ensures { (by : Linked) (l : Named) → ActsAreTold by l → ActsAlike by l }
 {}

@@ -160,7 +160,7 @@ module _ (by : Linked) (l : Named) (w : List Class) (a : Analysis) (m : Method) 
       row_by by l w a m read decoded sound told at offset (jop.New class) (t by l w a m read decoded sound told at offset cells local_cells x ranged) x there row ranged (λ e. cc) refl _ refl refl refl
       (new_object by l (a.resolution m) m class (is_one_of l (class ∷ [])) made (one_named l class (OfClass class) named (OfClass class) (types.tells class (OfClass class) named (OfClass class) ∙ types.itself class)))
 
-  make_array : (class : List ℕ) → StandsHere (jop.ANewArray class) → IsClassThere by m class → shape_named (array_of class) ≡ Some (OfReferences class) → shape_name (OfReferences class) ≡ array_of class → KeepsHere (jop.ANewArray class)
+  make_array : (class : List ℕ) → StandsHere (jop.ANewArray class) → IsClassThere by l m class → shape_named (array_of class) ≡ Some (OfReferences class) → shape_name (OfReferences class) ≡ array_of class → KeepsHere (jop.ANewArray class)
   make_array class there is named spelt =
       let op = jop.ANewArray class in
       let number = number_at by l w a m read decoded sound told at offset cells local_cells x ranged row op there 0 (omega arith) (λ c. refl) in

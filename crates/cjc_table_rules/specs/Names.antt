@@ -30,7 +30,7 @@ pub data IsResolved (by : Linked) (l : Named) (r : Resolution) (m : Method) (cel
   a_put_static : {named : MemberId} → IsDesc named.desc → CellIsThere by l r m named → IsResolved by l r m cells (jop.Static true named)
   a_constant : {named : MemberId} {z : ℤ} → result_of (parts named.desc).result ≡ Number ∷ [] → Holds full z → IsConstant by r m named z → IsResolved by l r m cells (jop.Static false named)
   a_class : {class : List ℕ} → IsMade by l m class → shape_named class ≡ Some (OfClass class) → IsResolved by l r m cells (jop.New class)
-  an_array : {class : List ℕ} → IsClassThere by m class → shape_named (array_of class) ≡ Some (OfReferences class) → shape_name (OfReferences class) ≡ array_of class → IsResolved by l r m cells (jop.ANewArray class)
+  an_array : {class : List ℕ} → IsClassThere by l m class → shape_named (array_of class) ≡ Some (OfReferences class) → shape_name (OfReferences class) ≡ array_of class → IsResolved by l r m cells (jop.ANewArray class)
   booleans : IsResolved by l r m cells (jop.NewArray 4)
   bytes : IsResolved by l r m cells (jop.NewArray 8)
   shorts : IsResolved by l r m cells (jop.NewArray 9)
