@@ -320,7 +320,7 @@ spelt_row place i bytes (at, front, back, parts, here, (op, first, rest, parted,
     let h = opcode_row _ op opcode.1 in
     (first_spelt (is_prefix op.family) at _ op _ i rest others h.0 h.1, omega (arith, ap length parts, length-append front back, ap length parted, length-append first rest, opcode.0))
 
-cut_row : (k place : ℕ) (bytes : List ℕ) (insns : _) (stop : ℕ) → IsCutFrom place bytes insns stop → (i : _) → slice_get insns k ≡ Some i → i.family ≡ (row i.opcode).1
+pub cut_row : (k place : ℕ) (bytes : List ℕ) (insns : _) (stop : ℕ) → IsCutFrom place bytes insns stop → (i : _) → slice_get insns k ≡ Some i → i.family ≡ (row i.opcode).1
 unfolding IsCutFrom
 cut_row k place bytes [] stop h i e = absurd cc
 cut_row zero place bytes (first ∷ insns) stop (front, back, parts, spelt, rest) i e =

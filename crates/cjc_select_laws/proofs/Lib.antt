@@ -11,3 +11,5 @@ pub mod Formed
 pub mod Matches
 pub mod Said
 pub mod Numbers
+pub mod Decoded
+pub mod Calls

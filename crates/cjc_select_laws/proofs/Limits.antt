@@ -20,15 +20,15 @@ use Rattle.cjc_world.specs.Files.{Files}
 
 -- ---- lists of breaks
 
-none_left : {A : Type 0} (xs ys : List A) → xs ++ ys ≡ [] → xs ≡ []
+pub none_left : {A : Type 0} (xs ys : List A) → xs ++ ys ≡ [] → xs ≡ []
 none_left [] ys e = refl
 none_left (x ∷ xs) ys e = cc
 
-none_right : {A : Type 0} (xs ys : List A) → xs ++ ys ≡ [] → ys ≡ []
+pub none_right : {A : Type 0} (xs ys : List A) → xs ++ ys ≡ [] → ys ≡ []
 none_right [] ys e = e
 none_right (x ∷ xs) ys e = cc
 
-not_broken : (b : Bool) (s : Spot) (rule : ℕ) → at b s rule ≡ [] → b ≡ false
+pub not_broken : (b : Bool) (s : Spot) (rule : ℕ) → at b s rule ≡ [] → b ≡ false
 not_broken true s rule e = cc
 not_broken false s rule e = refl
 
@@ -45,7 +45,7 @@ each_none breaks n (suc k) (y ∷ xs) x e is =
     let place : n + suc k ≡ n + 1 + k = omega arith in
     ap (λ m. breaks m x) place ∙ rest
 
-each_at : {A : Type 0} (breaks : ℕ → A → List Break) (k : ℕ) (xs : List A) (x : A) → each_from breaks 0 xs ≡ [] → slice_get xs k ≡ Some x → breaks k x ≡ []
+pub each_at : {A : Type 0} (breaks : ℕ → A → List Break) (k : ℕ) (xs : List A) (x : A) → each_from breaks 0 xs ≡ [] → slice_get xs k ≡ Some x → breaks k x ≡ []
 each_at breaks k xs x e is = let place : k ≡ 0 + k = omega arith in ap (λ m. breaks m x) place ∙ each_none breaks 0 k xs x e is
 
 -- ---- one method

@@ -2,7 +2,7 @@
 //! package does not break. For whoever converts a package. It has definitions and laws alone; nothing here runs.
 #![tactic(auto)]
 
-ghost use Rattle.std.specs.Prelude.{◌≡◌, ℕ, Bool, List, Option, Some, slice_get};
+ghost use Rattle.std.specs.Prelude.{◌≡◌, ◌≤◌, ℕ, Bool, List, Option, Some, slice_get};
 ghost use Rattle.cjc_bytes.specs.declared.fault.MemberId.{MemberId as Member};
 ghost use Rattle.cjc_classfile.specs.Code.{CodeTree};
 ghost use Rattle.cjc_classfile.specs.declared.tree.ClassTree.{ClassTree};
@@ -14,6 +14,7 @@ ghost use Rattle.cjc_types.specs.Flow.{body_of};
 ghost use Rattle.cjc_types.specs.Tables.{IsLeastTable, IsMethodOf};
 ghost use Rattle.cjc_narrow.specs.Selected.{selected_code};
 ghost use Rattle.cjc_written.specs.Rows.{has_rows, rows_by};
+ghost use Rattle.cjc_layout.specs.Forms.{HasForm};
 ghost use Rattle.cjc_layout.specs.Layouts.{IsWhole};
 ghost use Rattle.cjc_bytes.specs.declared.settings.Settings.{Settings as Limits};
 ghost use Rattle.cjc_select.specs.Select.{IsSelectable};
@@ -27,7 +28,7 @@ ghost use Rattle.cjc_lower.specs.Naming.{Naming};
 ghost use Rattle.cjc_ncode.specs.declared.narrow.NInsn.{NInsn as Insn};
 ghost use Rattle.cjc_select_laws.specs.Keeps.{FindsItself, IsSpelt, KeepsRules};
 ghost use Rattle.cjc_emit_laws.specs.Said.{CanBeSaid};
-ghost use Rattle.cjc_ncode.specs.Written.{reached};
+ghost use Rattle.cjc_ncode.specs.Written.{reached, widest};
 ghost use Rattle.cjc_select_laws.specs.Names.{NamesFit};
 ghost use Rattle.cjc_narrow.specs.Selected.{near_fields};
 ghost use Rattle.cjc_ncode.specs.declared.narrow.PoolKey.{PoolKey as Key};
@@ -60,10 +61,12 @@ pub fn what_is_selected_runs()
         → (let m = method_by class method (Some tree) in code_of files near rows m ≡ selected_code files near class method tree (decoded class method tree) (rows m)) }
 {}
 
-/// Each instruction that is selected has an opcode of its form, whichever instructions are reached: where what it names
-/// stands in the pool and means what its opcode uses, it can be laid out.
+/// Each instruction that is selected has an opcode of its form, whichever instructions are reached. Where what it names stands
+/// in the pool and means what its opcode uses, it can be laid out.
 pub fn selected_code_is_formed()
-    ensures { (n : Naming) (files : Files) (near : List Member) (class : ClassTree) (method : MethodTree) (tree : CodeTree) (insns : List JInsn) (flags : List Bool)
+    ensures forms { (files : Files) (near : List Member) (class : ClassTree) (method : MethodTree) (tree : CodeTree) (insns : List JInsn) (flags : List Bool)
+        → (k : ℕ) (insn : Insn) → (let m = selected_code files near class method tree insns (rows_by flags) in slice_get m.insns k ≡ Some insn) → HasForm insn }
+    ensures formed { (n : Naming) (files : Files) (near : List Member) (class : ClassTree) (method : MethodTree) (tree : CodeTree) (insns : List JInsn) (flags : List Bool)
         → (k : ℕ) (insn : Insn) → (let m = selected_code files near class method tree insns (rows_by flags) in slice_get m.insns k ≡ Some insn) → NamesFit n insn → IsFormed n insn }
 {}
 
@@ -74,6 +77,13 @@ pub fn selected_code_can_be_said()
     ensures { (n : Naming) (files : Files) (near : List Member) (class : ClassTree) (method : MethodTree) (tree : CodeTree) (insns : List JInsn) (flags : List Bool)
         → ((k : ℕ) (i : JInsn) → slice_get (reached insns (rows_by flags)) k ≡ Some i → OperandsFit i.op)
         → (k : ℕ) (insn : Insn) → (let m = selected_code files near class method tree insns (rows_by flags) in slice_get m.insns k ≡ Some insn) → NumbersFit n insn → CanBeSaid n insn }
+{}
+
+/// The operands of a method's instructions fit those of narrow code, where one byte says the numbers that it names and its
+/// widest size is at most 32,767: two bytes say what is added to a local, and the matches of a switch are few and ascend.
+pub fn decoded_operands_fit()
+    ensures { (files : Files) (code : MethodCode) (class : ClassTree) (method : MethodTree) (tree : CodeTree) → IsMethodOf files code class method tree
+        → (k : ℕ) (i : JInsn) → slice_get code.insns k ≡ Some i → IsSaid i.op → widest i.op ≤ 32767 → OperandsFit i.op }
 {}
 
 /// The indices, words and tokens of what is selected by a pool of at most 16,383 keys fit their operands: a field has an index
