@@ -1,18 +1,16 @@
 -- Each method that has least tables is whole.
-use Rattle.std.proofs.Common.{◌≡◌, ◌+◌, ◌-◌, ℕ, suc, Bool, true, false, cond, List, [], ◌∷◌, ◌++◌, map, length, slice_get, Option, Some, None, refl, sym, ap, subst, ◌∙◌, arith}
-use Rattle.std.specs.Prelude.{if◌then◌else◌, codes, Ok}
-use Rattle.std.specs.List.{AllByRecursion, Contains}
+use Rattle.std.proofs.Common.{◌≡◌, ◌+◌, ◌-◌, ℕ, Bool, true, false, List, [], ◌∷◌, ◌++◌, map, length, Some, refl, sym, ap, subst, ◌∙◌, arith}
+use Rattle.std.specs.Prelude.{if◌then◌else◌}
+use Rattle.std.specs.List.{AllByRecursion}
 use Rattle.cjc_bytes.specs.AccessFlags.{is_static}
 use Rattle.cjc_bytes.specs.Descriptor.{Part}
 use Rattle.cjc_bytes.specs.declared.fault.MemberId.{MemberId}
 use Rattle.cjc_classfile.specs.Code.{CodeTree}
-use Rattle.cjc_classfile.specs.declared.tree.Catch.{Catch}
 use Rattle.cjc_classfile.specs.declared.tree.ClassTree.{ClassTree}
 use Rattle.cjc_classfile.specs.declared.tree.MethodTree.{MethodTree}
-use Rattle.cjc_code.specs.declared.insn.JInsn.{JInsn}
 use Rattle.cjc_code.specs.declared.method_code.MethodCode.{MethodCode}
-use Rattle.cjc_code.specs.Decoded.{decoding, decoded, insns_of, of_code, of_method}
-use Rattle.cjc_script.specs.Sorts.{Shape, Sort, sort_of, signature_of}
+use Rattle.cjc_code.specs.Decoded.{decoded, insns_of, of_code, of_method}
+use Rattle.cjc_script.specs.Sorts.{Sort, sort_of}
 use Rattle.cjc_script.specs.Sorts as sorts
 use Rattle.cjc_bytecode.specs.Arguments.{width, widths}
 use Rattle.cjc_world.specs.Files.{Files}
@@ -31,14 +29,13 @@ use Rattle.cjc_by_name.specs.Linked.{Method}
 use Rattle.cjc_by_name.specs.OnePackage.{method_by}
 use Rattle.cjc_by_name.specs.ByName.{linked}
 use Rattle.cjc_shrink.specs.Rows.{is_word_sort}
-use Rattle.cjc_shrink.specs.Calls.{IsNarrowed}
 use Rattle.cjc_table_rules.specs.Analysis.{IsDecoded, IsSound, IsRead, CatchesAreTold, HasRoomToBegin}
-use Rattle.cjc_table_rules.specs.Calls.{IsWordDesc, types_of, IsWhole}
+use Rattle.cjc_table_rules.specs.Calls.{IsWordDesc, IsWhole}
 use Rattle.cjc_table_rules.proofs.Called.{signature_is}
 use Rattle.cjc_table_rules.proofs.Spelt.{class_read}
 use Rattle.cjc_narrow.specs.Resolved.{method_found, constant_named, resolution, receiver_words, parameter_words, argument_words}
 use Rattle.cjc_narrow.specs.Package.{flags_of, named}
-use Rattle.cjc_narrow_runs.specs.Tables.{Tables, narrow_codes, look_ups, body_in, analysis, HasTables}
+use Rattle.cjc_narrow_runs.specs.Tables.{Tables, look_ups, body_in, analysis, HasTables}
 
 -- ---- words of arguments
 
@@ -53,7 +50,7 @@ one_word sort e = go sort e
     go (sorts.Reference shape) e = refl
     go sorts.NoValue e = cc
 
-words_of_all : (ps : List Part) → AllByRecursion (λ p. is_word_sort (sort_of p) ≡ true) ps → widths (map sort_of ps) ≡ length (map value_of ps)
+pub words_of_all : (ps : List Part) → AllByRecursion (λ p. is_word_sort (sort_of p) ≡ true) ps → widths (map sort_of ps) ≡ length (map value_of ps)
 words_of_all [] h = refl
 words_of_all (p ∷ ps) h = let first = one_word (sort_of p) h.0 in let more = words_of_all ps h.1 in omega (arith, first, more)
 

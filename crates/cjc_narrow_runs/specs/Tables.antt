@@ -1,5 +1,5 @@
 -- The methods of a package with their least tables, the narrow code that is written for them, and its look-ups.
-use Rattle.std.specs.Prelude.{◌≡◌, ◌<◌, ◌≤◌, ℕ, Bool, List, [], ◌∷◌, length, codes, Option, Some}
+use Rattle.std.specs.Prelude.{◌≡◌, ℕ, List, codes, Option, Some}
 use Rattle.std.specs.List.{Contains}
 use Rattle.cjc_bytes.specs.Descriptor.{IsClassName}
 use Rattle.cjc_bytes.specs.declared.fault.MemberId.{MemberId}
@@ -8,7 +8,7 @@ use Rattle.cjc_classfile.specs.declared.tree.Catch.{Catch}
 use Rattle.cjc_classfile.specs.declared.tree.ClassTree.{ClassTree}
 use Rattle.cjc_classfile.specs.declared.tree.MethodTree.{MethodTree}
 use Rattle.cjc_code.specs.declared.method_code.MethodCode.{MethodCode}
-use Rattle.cjc_script.specs.Sorts.{Shape, shape_name, result_by}
+use Rattle.cjc_script.specs.Sorts.{shape_name, result_by}
 use Rattle.cjc_world.specs.Files.{Files}
 use Rattle.cjc_world.specs.Classes.{all_classes}
 use Rattle.cjc_world.specs.Subtype.{is_subtype}
