@@ -20,7 +20,7 @@ use Rattle.cjc_types.specs.declared.cell.Cell.{Cell}
 use Rattle.cjc_types.specs.declared.cell.Cell.TheVariants.{Refs}
 use Rattle.cjc_types.specs.Types.{parts, value_of}
 use Rattle.cjc_types.specs.Flow.{Body, body_of, arguments}
-use Rattle.cjc_types.specs.Tables.{IsMethodOf}
+use Rattle.cjc_types.specs.Tables.{IsMethodOf, IsLeastTable, Breach}
 use Rattle.cjc_types.proofs.Ascending.{insns_ascend}
 use Rattle.cjc_types.proofs.Few.{insns_at_most}
 use Rattle.cjc_type_laws.proofs.Standing as standing
@@ -118,10 +118,13 @@ module _ (files : Files) (image : StaticImage) (near : List MemberId) (tables : 
       decoded_here : IsDecoded (body_in files (method_by h.class h.method (Some h.tree)))
       decoded_here = subst IsDecoded (sym same) (is_decoded h.code h.class h.method h.tree h.of_package)
 
+      least : IsLeastTable (body_of h.class h.method h.tree (let code = h.code in code.insns)) (tables.types m)
+      least = subst (IsLeastTable (body_of h.class h.method h.tree (let code = h.code in code.insns))) (sym h.types) (let t = h.is_table in t.stands.least)
+
       sound_m : IsSound (all_classes files) (constant_named files (all_classes files)) (record { body = body_of h.class h.method h.tree (let code = h.code in code.insns); types = tables.types m; ranges = tables.ranges m })
       sound_m = record {
-        types = least_closed (body_of h.class h.method h.tree (let code = h.code in code.insns)) (tables.types m) h.types (insns_at_most files h.code h.class h.method h.tree h.of_package);
-        unbroken = h.unbroken;
+        types = least_closed (body_of h.class h.method h.tree (let code = h.code in code.insns)) (tables.types m) least (insns_at_most files h.code h.class h.method h.tree h.of_package);
+        unbroken = λ place rule breach. (let t = h.is_table in t.unbroken place rule (subst (λ rows. Breach (all_classes files) (body_of h.class h.method h.tree (let code = h.code in code.insns)) rows place rule) h.types breach));
         ranges = h.ranges.closed;
         passes = h.passes;
       }
