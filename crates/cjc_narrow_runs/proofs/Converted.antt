@@ -1,13 +1,13 @@
 -- What is asked of a package is what whole runs ask of its tables.
 use Rattle.std.proofs.Common.{◌≡◌, ℕ, zero, suc, Bool, true, false, ◌&&◌, List, [], ◌∷◌, map, slice_get, Option, Some, None, option_map, refl, sym, ap, subst, ◌∙◌}
-use Rattle.std.specs.Prelude.{if◌then◌else◌, codes, is_some, option_and_then}
+use Rattle.std.specs.Prelude.{if◌then◌else◌, codes, is_some}
 use Rattle.std.specs.List.{AllByRecursion}
 use Rattle.cjc_bytes.specs.Descriptor.{Part, IsClassName}
 use Rattle.cjc_bytes.specs.declared.fault.MemberId.{MemberId}
 use Rattle.cjc_script.specs.declared.value.Value.TheVariants.{Num}
 use Rattle.cjc_script.specs.declared.report.FieldValue.{FieldValue}
 use Rattle.cjc_script.specs.declared.report.Thing.TheVariants as things
-use Rattle.cjc_script.specs.Sorts.{Shape, OfClass, OfReferences, Reference, array_name, shape_name, shape_named, sort_of}
+use Rattle.cjc_script.specs.Sorts.{Shape, OfClass, Reference, array_name, shape_name, sort_of}
 use Rattle.cjc_world.specs.Classes.{Class, all_classes, class_named}
 use Rattle.cjc_world.specs.Files.{Files}
 use Rattle.cjc_world.specs.Subtype.{is_subtype}
@@ -15,16 +15,15 @@ use Rattle.cjc_world.specs.declared.image.ArrayCell.{ArrayCell}
 use Rattle.cjc_world.specs.declared.image.StaticImage.{StaticImage}
 use Rattle.cjc_types.specs.Types.{parts}
 use Rattle.cjc_bytecode.specs.Effects.{HeapObject}
-use Rattle.cjc_world.proofs.Cycles.{class_named-name}
 use Rattle.cjc_world.proofs.Subtypes.{reflexive, transitive}
 use Rattle.cjc_ncode.specs.ByLabel.{Named, by_label, shown_slot}
 use Rattle.cjc_by_name.specs.Linked.{Method, Linked}
 use Rattle.cjc_by_name.specs.Effects.{Fault, Arithmetic, NullPointer, IndexOutside, NegativeSize, ClassCast, ArrayStore, exception_class}
-use Rattle.cjc_by_name.specs.OnePackage.{is_made, object_fields, made_of, is_plain_import, static_array, cells}
+use Rattle.cjc_by_name.specs.OnePackage.{is_plain_import, static_array, cells}
 use Rattle.cjc_by_name.specs.ByName.{linked}
-use Rattle.cjc_shrink.specs.Relation.{Heap, IsMadeOf, HasObjects, made, bare, ThingFits, numbers, Stores, shown}
+use Rattle.cjc_shrink.specs.Relation.{Heap, HasObjects, made, bare, ThingFits, numbers, Stores, shown}
 use Rattle.cjc_shrink.specs.Rows.{is_word_sort, narrow_fault}
-use Rattle.cjc_shrink.specs.Replies.{is_of_some, AsksAlike, may_be_thrown, ThrowsAlike}
+use Rattle.cjc_shrink.specs.Replies.{is_of_some, may_be_thrown, ThrowsAlike}
 use Rattle.cjc_shrink.specs.Entries.{AreGiven, no_parameter, a_parameter}
 use Rattle.cjc_shrink.specs.Acts.{ActsAreTold}
 use Rattle.cjc_shrink.proofs.ActsDone.{acts_alike}
@@ -35,21 +34,19 @@ use Rattle.cjc_table_rules.specs.Analysis.{TypesAreTold, table_of}
 use Rattle.cjc_table_rules.specs.Arrays.{ClassesAreNamed}
 use Rattle.cjc_table_rules.specs.Package.{IsEntered, IsScripted, IsPackage}
 use Rattle.cjc_table_rules.specs.Package as whole_package
-use Rattle.cjc_table_rules.specs.Calls.{IsWhole, IsReachedBy}
+use Rattle.cjc_table_rules.specs.Calls.{IsReachedBy}
 use Rattle.cjc_table_rules.proofs.Spelt.{shape_spelt, class_read}
 use Rattle.cjc_table_rules.proofs.Points.{point_from}
-use Rattle.cjc_narrow.specs.Package.{fault_name, name_there, plain_import, throwable_import, start_of, first_array, first_cell, element_of_kind, named}
+use Rattle.cjc_narrow.specs.Package.{fault_name, name_there, plain_import, start_of, first_array, first_cell, element_of_kind, named}
 use Rattle.cjc_narrow_runs.specs.Tables.{Tables, narrow_codes, look_ups, analysis, HasTables}
-use Rattle.cjc_narrow_runs.specs.Converted.{IsException, IsBegun, IsMember, IsFound, IsFirstArray, IsConverted}
-use Rattle.cjc_narrow_runs.specs.Types.{IsThere, of_class, of_numbers, of_references}
+use Rattle.cjc_narrow_runs.specs.Converted.{IsMember, IsFound, IsFirstArray, IsConverted}
+use Rattle.cjc_narrow_runs.specs.Types.{IsThere}
+use Rattle.cjc_narrow_runs.specs.Begun.{IsBegun}
 use Rattle.cjc_narrow_runs.specs.Converted as converted
 use Rattle.cjc_narrow_runs.proofs.Whole.{is_whole}
+use Rattle.cjc_narrow_runs.proofs.Calls.{there_by_name, asks}
 use Rattle.cjc_narrow_runs.proofs.Named.{made_is_there, is_supported}
 use Rattle.cjc_types.specs.Search.{cells_of}
-
--- a class that some file has is there by its name
-there_by_name : (w : List Class) (name : List ℕ) (c : Class) → class_named w name ≡ Some c → name_there w name ≡ Some name
-there_by_name w name c is = ap (option_map (λ (c : Class). c.name)) is ∙ ap Some (class_named-name w name c is)
 
 -- an imported class, no interface, is one that some file has
 class_there : (o : Option Class) → is_plain_import o ≡ true → (c : Class) × (o ≡ Some c)
@@ -169,21 +166,9 @@ module _ (files : Files) (image : StaticImage) (near : List MemberId) (tables : 
 
   -- ---- what scripts name
 
-  asks : (kind : Shape (List ℕ)) → IsThere w kind → AsksAlike by l kind
-  unfolding by_label linked named
-  asks _ (of_class {class = class} c there) = record {
-    tells = λ of. ap (λ o. is_of_some l of (option_map OfClass o)) (sym (there_by_name w class c there));
-    same = λ other e. (let same : Some (OfClass class) ≡ Some other = ap (option_map OfClass) (sym (there_by_name w class c there)) ∙ e in cc);
-  }
-  asks _ (of_numbers {element = element}) = record { tells = λ of. refl; same = λ other e. cc }
-  asks _ (of_references {class = class} c there) = record {
-    tells = λ of. ap (λ o. is_of_some l of (option_map OfReferences o)) (sym (there_by_name w class c there));
-    same = λ other e. (let same : Some (OfReferences class) ≡ Some other = ap (option_map OfReferences) (sym (there_by_name w class c there)) ∙ e in cc);
-  }
-
   given : (ps : List Part) → AllByRecursion (λ p. is_word_sort (sort_of p) ≡ true) ps → AllByRecursion (λ type. (kind : Shape (List ℕ)) → type ≡ Reference kind → IsThere w kind) (map sort_of ps) → AreGiven by l (map sort_of ps)
   given [] words known = no_parameter
-  given (p ∷ ps) words known = a_parameter words.0 (λ kind e. asks kind (known.0 kind e)) (given ps words.1 known.1)
+  given (p ∷ ps) words known = a_parameter words.0 (λ kind e. asks files image near tables kind (known.0 kind e)) (given ps words.1 known.1)
 
   begun : (on : Bool) (desc : List ℕ) (m : Method) → IsBegun files tables on desc m → IsReachedBy by l w (analysis files image near tables) on desc m
   begun on desc m h = record { whole = is_whole files image near tables m h.has_tables; desc = h.desc; flags = h.flags }

@@ -1,3 +1,4 @@
 pub mod Whole
+pub mod Calls
 pub mod Named
 pub mod Converted

@@ -1,14 +1,13 @@
 -- What the class files say of the names in an instruction is told alike on both sides.
-use Rattle.std.proofs.Common.{◌≡◌, ℕ, Bool, true, false, List, [], ◌∷◌, map, Option, Some, None, refl, sym, ap, subst, ◌∙◌, ℤ}
+use Rattle.std.proofs.Common.{◌≡◌, ℕ, true, false, List, [], ◌∷◌, map, Option, Some, None, refl, sym, ap, subst, ◌∙◌, ℤ}
 use Rattle.std.specs.Prelude.{is_some, if◌then◌else◌, ◌++◌, option_map, option_and_then}
 use Rattle.std.specs.List.{list_all}
 use Rattle.cjc_bytes.specs.Descriptor.{IsClassName}
 use Rattle.cjc_bytes.specs.declared.fault.MemberId.{MemberId}
 use Rattle.cjc_code.specs.declared.insn.JOp.{JOp}
-use Rattle.cjc_code.specs.declared.insn.JOp.TheVariants as jop
 use Rattle.cjc_script.specs.declared.value.Value.{Value}
 use Rattle.cjc_script.specs.declared.report.FieldValue.{FieldValue}
-use Rattle.cjc_script.specs.Sorts.{Shape, OfClass, OfReferences, shape_name, shape_named, field_sort}
+use Rattle.cjc_script.specs.Sorts.{Shape, OfReferences, shape_name, shape_named, field_sort}
 use Rattle.cjc_world.specs.Classes.{Class, all_classes, class_named}
 use Rattle.cjc_world.specs.Files.{Files}
 use Rattle.cjc_world.specs.Subtype.{starts, is_subtype}
@@ -23,7 +22,6 @@ use Rattle.cjc_by_name.specs.Linked.{Method, Linked, Constant, Static, Instance}
 use Rattle.cjc_by_name.specs.Effects.{Store, is_type}
 use Rattle.cjc_by_name.specs.OnePackage.{Hit, field_named, is_made, object_fields, made_of, cells}
 use Rattle.cjc_by_name.specs.ByName.{linked}
-use Rattle.cjc_shrink.specs.Relation.{HasArrays}
 use Rattle.cjc_shrink.specs.Rows.{lists, HasField, FieldIsThere}
 use Rattle.cjc_shrink.specs.Objects.{is_field, IsMade, IsClassThere, IsTypeThere}
 use Rattle.cjc_shrink.specs.Cells.{CellIsThere, IsConstant}
@@ -33,12 +31,13 @@ use Rattle.cjc_table_rules.specs.Package as supported
 use Rattle.cjc_table_rules.specs.Names as resolved
 use Rattle.cjc_table_rules.proofs.Spelt.{shape_spelt, class_read}
 use Rattle.cjc_narrow.specs.Resolved.{resolved_field, by_owner, field_found, resolution}
-use Rattle.cjc_narrow.specs.Package.{name_there, first_cell, named}
+use Rattle.cjc_narrow.specs.Package.{first_cell, named}
 use Rattle.cjc_narrow.proofs.Fields.{fields_agree}
 use Rattle.cjc_narrow_runs.specs.Tables.{Tables, look_ups, analysis}
 use Rattle.cjc_narrow_runs.specs.Types.{IsThere, of_class as class_there, of_numbers, of_references}
 use Rattle.cjc_narrow_runs.specs.Names.{IsFieldOf, IsStaticOf, IsNamed}
 use Rattle.cjc_narrow_runs.specs.Names as names
+use Rattle.cjc_narrow_runs.proofs.Calls.{static_called, receiver_called}
 
 -- a class of which objects are made is one that some file has
 pub made_is_there : (w : List Class) (name : List ℕ) (fields : List MemberId) → made_of w name ≡ Some fields → (c : Class) × (class_named w name ≡ Some c)
@@ -152,4 +151,5 @@ module _ (files : Files) (image : StaticImage) (near : List MemberId) (tables : 
   is_supported stack _ names.shorts = supported.is_resolved resolved.shorts
   is_supported stack _ (names.a_cast {type = type} kind named there) = supported.is_resolved (resolved.a_cast (type_is_there type kind named there))
   is_supported stack _ (names.a_test {type = type} kind named there) = supported.is_resolved (resolved.a_test (type_is_there type kind named there))
-  is_supported stack op (names.calls is) = supported.calls is
+  is_supported stack _ (names.a_static_call {id = id} h) = supported.calls (static_called files image near tables m id stack h)
+  is_supported stack _ (names.a_call_on_receiver {op = op} {id = id} h) = supported.calls (receiver_called files image near tables m stack op id h)

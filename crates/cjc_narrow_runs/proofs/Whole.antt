@@ -1,18 +1,16 @@
 -- Each method that has least tables is whole.
-use Rattle.std.proofs.Common.{◌≡◌, ◌+◌, ◌-◌, ℕ, suc, Bool, true, false, cond, List, [], ◌∷◌, ◌++◌, map, length, slice_get, Option, Some, None, refl, sym, ap, subst, ◌∙◌, arith}
-use Rattle.std.specs.Prelude.{if◌then◌else◌, codes, Ok}
-use Rattle.std.specs.List.{AllByRecursion, Contains}
+use Rattle.std.proofs.Common.{◌≡◌, ◌+◌, ◌-◌, ℕ, Bool, true, false, List, [], ◌∷◌, ◌++◌, map, length, Some, refl, sym, ap, subst, ◌∙◌, arith}
+use Rattle.std.specs.Prelude.{if◌then◌else◌}
+use Rattle.std.specs.List.{AllByRecursion}
 use Rattle.cjc_bytes.specs.AccessFlags.{is_static}
 use Rattle.cjc_bytes.specs.Descriptor.{Part}
 use Rattle.cjc_bytes.specs.declared.fault.MemberId.{MemberId}
 use Rattle.cjc_classfile.specs.Code.{CodeTree}
-use Rattle.cjc_classfile.specs.declared.tree.Catch.{Catch}
 use Rattle.cjc_classfile.specs.declared.tree.ClassTree.{ClassTree}
 use Rattle.cjc_classfile.specs.declared.tree.MethodTree.{MethodTree}
-use Rattle.cjc_code.specs.declared.insn.JInsn.{JInsn}
 use Rattle.cjc_code.specs.declared.method_code.MethodCode.{MethodCode}
-use Rattle.cjc_code.specs.Decoded.{decoding, decoded, insns_of, of_code, of_method}
-use Rattle.cjc_script.specs.Sorts.{Shape, Sort, sort_of, signature_of}
+use Rattle.cjc_code.specs.Decoded.{decoded, insns_of, of_code, of_method}
+use Rattle.cjc_script.specs.Sorts.{Sort, sort_of}
 use Rattle.cjc_script.specs.Sorts as sorts
 use Rattle.cjc_bytecode.specs.Arguments.{width, widths}
 use Rattle.cjc_world.specs.Files.{Files}
@@ -22,7 +20,7 @@ use Rattle.cjc_types.specs.declared.cell.Cell.{Cell}
 use Rattle.cjc_types.specs.declared.cell.Cell.TheVariants.{Refs}
 use Rattle.cjc_types.specs.Types.{parts, value_of}
 use Rattle.cjc_types.specs.Flow.{Body, body_of, arguments}
-use Rattle.cjc_types.specs.Tables.{IsMethodOf}
+use Rattle.cjc_types.specs.Tables.{IsMethodOf, IsLeastTable, Breach}
 use Rattle.cjc_types.proofs.Ascending.{insns_ascend}
 use Rattle.cjc_types.proofs.Few.{insns_at_most}
 use Rattle.cjc_type_laws.proofs.Standing as standing
@@ -31,14 +29,13 @@ use Rattle.cjc_by_name.specs.Linked.{Method}
 use Rattle.cjc_by_name.specs.OnePackage.{method_by}
 use Rattle.cjc_by_name.specs.ByName.{linked}
 use Rattle.cjc_shrink.specs.Rows.{is_word_sort}
-use Rattle.cjc_shrink.specs.Calls.{IsNarrowed}
 use Rattle.cjc_table_rules.specs.Analysis.{IsDecoded, IsSound, IsRead, CatchesAreTold, HasRoomToBegin}
-use Rattle.cjc_table_rules.specs.Calls.{IsWordDesc, types_of, IsWhole}
+use Rattle.cjc_table_rules.specs.Calls.{IsWordDesc, IsWhole}
 use Rattle.cjc_table_rules.proofs.Called.{signature_is}
 use Rattle.cjc_table_rules.proofs.Spelt.{class_read}
 use Rattle.cjc_narrow.specs.Resolved.{method_found, constant_named, resolution, receiver_words, parameter_words, argument_words}
 use Rattle.cjc_narrow.specs.Package.{flags_of, named}
-use Rattle.cjc_narrow_runs.specs.Tables.{Tables, narrow_codes, look_ups, body_in, analysis, HasTables}
+use Rattle.cjc_narrow_runs.specs.Tables.{Tables, look_ups, body_in, analysis, HasTables}
 
 -- ---- words of arguments
 
@@ -53,7 +50,7 @@ one_word sort e = go sort e
     go (sorts.Reference shape) e = refl
     go sorts.NoValue e = cc
 
-words_of_all : (ps : List Part) → AllByRecursion (λ p. is_word_sort (sort_of p) ≡ true) ps → widths (map sort_of ps) ≡ length (map value_of ps)
+pub words_of_all : (ps : List Part) → AllByRecursion (λ p. is_word_sort (sort_of p) ≡ true) ps → widths (map sort_of ps) ≡ length (map value_of ps)
 words_of_all [] h = refl
 words_of_all (p ∷ ps) h = let first = one_word (sort_of p) h.0 in let more = words_of_all ps h.1 in omega (arith, first, more)
 
@@ -121,10 +118,13 @@ module _ (files : Files) (image : StaticImage) (near : List MemberId) (tables : 
       decoded_here : IsDecoded (body_in files (method_by h.class h.method (Some h.tree)))
       decoded_here = subst IsDecoded (sym same) (is_decoded h.code h.class h.method h.tree h.of_package)
 
+      least : IsLeastTable (body_of h.class h.method h.tree (let code = h.code in code.insns)) (tables.types m)
+      least = subst (IsLeastTable (body_of h.class h.method h.tree (let code = h.code in code.insns))) (sym h.types) (let t = h.is_table in t.stands.least)
+
       sound_m : IsSound (all_classes files) (constant_named files (all_classes files)) (record { body = body_of h.class h.method h.tree (let code = h.code in code.insns); types = tables.types m; ranges = tables.ranges m })
       sound_m = record {
-        types = least_closed (body_of h.class h.method h.tree (let code = h.code in code.insns)) (tables.types m) h.types (insns_at_most files h.code h.class h.method h.tree h.of_package);
-        unbroken = h.unbroken;
+        types = least_closed (body_of h.class h.method h.tree (let code = h.code in code.insns)) (tables.types m) least (insns_at_most files h.code h.class h.method h.tree h.of_package);
+        unbroken = λ place rule breach. (let t = h.is_table in t.unbroken place rule (subst (λ rows. Breach (all_classes files) (body_of h.class h.method h.tree (let code = h.code in code.insns)) rows place rule) h.types breach));
         ranges = h.ranges.closed;
         passes = h.passes;
       }

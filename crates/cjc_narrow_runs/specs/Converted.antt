@@ -1,7 +1,6 @@
 -- What is asked of a package so that its class files and the narrow code that is written for them run alike.
-use Rattle.std.specs.Prelude.{◌≡◌, ◌≤◌, ℕ, Bool, true, false, not, List, [], length, codes, Some, None}
+use Rattle.std.specs.Prelude.{◌≡◌, ◌≤◌, ℕ, true, false, List, [], length, codes, Some, None}
 use Rattle.std.specs.List.{All, AllByRecursion}
-use Rattle.cjc_bytes.specs.AccessFlags.{is_static}
 use Rattle.cjc_bytes.specs.Descriptor.{IsClassName}
 use Rattle.cjc_bytes.specs.declared.fault.MemberId.{MemberId}
 use Rattle.cjc_range.specs.Span.{Holds}
@@ -20,10 +19,10 @@ use Rattle.cjc_by_name.specs.Effects.{Fault, exception_class}
 use Rattle.cjc_by_name.specs.OnePackage.{is_plain_import, entry_named, sent_named, array_desc}
 use Rattle.cjc_shrink.specs.Relation.{IsMadeOf, element_range, SlotsFit}
 use Rattle.cjc_table_rules.specs.Calls.{IsWordDesc, types_of}
-use Rattle.cjc_narrow.specs.Resolved.{method_found}
-use Rattle.cjc_narrow.specs.Package.{flags_of, element_of_kind, first_memory}
+use Rattle.cjc_narrow.specs.Package.{element_of_kind, first_memory}
 use Rattle.cjc_narrow_runs.specs.Tables.{Tables, look_ups, HasTables}
 use Rattle.cjc_narrow_runs.specs.Types.{IsThere}
+use Rattle.cjc_narrow_runs.specs.Begun.{IsBegun}
 use Rattle.cjc_narrow_runs.specs.Names.{AreNamed}
 
 -- An imported class, no interface, that is a java/lang/Throwable.
@@ -32,12 +31,6 @@ pub record IsException (w : List Class) (class : List ℕ) : Type 0 where
   pub throwable : is_subtype w class (codes "java/lang/Throwable") ≡ true
 
 -- ---- what scripts name
-
--- The method that an entry begins has tables, and the entry's descriptor; it has a receiver or none.
-pub record IsBegun (files : Files) (tables : Tables) (has_receiver : Bool) (written : List ℕ) (m : Method) : Type 0 where
-  pub has_tables : HasTables files tables m
-  pub desc : (let id = m.id in id.desc) ≡ written
-  pub flags : (let id = m.id in is_static (flags_of (method_found (all_classes files) id))) ≡ not has_receiver
 
 -- A member of a script: its parameters are one word each, of types that are there, and methods of the package are begun, on objects of the
 -- classes that declare them.
@@ -69,8 +62,7 @@ pub record IsFirst (l : Named) (files : Files) (image : StaticImage) : Type 0 wh
 -- ---- a package
 
 -- Methods with a reached instruction have least tables that break no rule, classes have names of classes, and the machine's own exceptions are
--- imported. What code and scripts name is found in the class files and export files, and whom calls reach is told alike by both
--- machines; what the image says is of sound types.
+-- imported. What code and scripts name is found in the class files and export files, and what the image says is of sound types.
 pub record IsConverted (files : Files) (image : StaticImage) (near : List MemberId) (tables : Tables) : Type 0 where
   pub methods : (m : Method) (at : ℕ) (t : State) → HasRow (tables.types m) at t → HasTables files tables m
   pub names : (name : List ℕ) (c : Class) → class_named (all_classes files) name ≡ Some c → IsClassName name

@@ -1,4 +1,4 @@
--- What the class files say of the names in an instruction, and of calls what both sides say.
+-- What the class files and export files say of the names in an instruction.
 use Rattle.std.specs.Prelude.{◌≡◌, ℕ, Bool, true, false, List, [], ◌∷◌, map, slice_get, Some, ℤ}
 use Rattle.std.specs.List.{list_all}
 use Rattle.cjc_bytes.specs.declared.fault.MemberId.{MemberId}
@@ -19,7 +19,6 @@ use Rattle.cjc_types.specs.Steps.{operand}
 use Rattle.cjc_types.specs.Types.{parts, result_of}
 use Rattle.cjc_by_name.specs.Linked.{Method, Constant, Static, Instance}
 use Rattle.cjc_by_name.specs.OnePackage.{field_named, made_of, cells}
-use Rattle.cjc_by_name.specs.ByName.{linked}
 use Rattle.cjc_shrink.specs.Relation.{IsMadeOf}
 use Rattle.cjc_shrink.specs.Rows.{is_word_sort, lists, HasField}
 use Rattle.cjc_shrink.specs.Objects.{is_field}
@@ -27,9 +26,9 @@ use Rattle.cjc_table_rules.specs.Kinds.{is_one_of}
 use Rattle.cjc_table_rules.specs.Supported.{IsPlain, IsReturn}
 use Rattle.cjc_table_rules.specs.Arrays.{IsOnArray}
 use Rattle.cjc_table_rules.specs.Names.{IsDesc}
-use Rattle.cjc_table_rules.specs.Calls.{IsCalled}
-use Rattle.cjc_narrow_runs.specs.Tables.{Tables, look_ups, analysis, HasTables}
+use Rattle.cjc_narrow_runs.specs.Tables.{Tables, look_ups}
 use Rattle.cjc_narrow_runs.specs.Types.{IsThere}
+use Rattle.cjc_narrow_runs.specs.Calls.{IsStaticOn, IsReceiverOn}
 
 -- The descriptor of a field whose values are one word.
 pub record IsWordField (desc : List ℕ) : Type 0 where
@@ -49,8 +48,7 @@ module _ (files : Files) (image : StaticImage) (near : List MemberId) (tables : 
     pub found : field_named files (all_classes files) named ≡ Some (Static f)
     pub has : lists (map (λ cell. cell.field) (cells image files.classes)) f ≡ true
 
-  -- An instruction in code of m, on a stack of these types: it names nothing, or what the class files have; of calls both sides say alike whom they
-  -- reach.
+  -- An instruction in code of m, on a stack of these types: it names nothing, or what the class files and export files have.
   pub data IsNamed (stack : List Cell) : JOp → Type 0 where
     names_nothing : {op : JOp} → IsPlain op → IsNamed stack op
     is_on_array : {op : JOp} → IsOnArray op → IsNamed stack op
@@ -67,7 +65,8 @@ module _ (files : Files) (image : StaticImage) (near : List MemberId) (tables : 
     shorts : IsNamed stack (jop.NewArray 9)
     a_cast : {type : List ℕ} (kind : Shape (List ℕ)) → shape_named type ≡ Some kind → IsThere (all_classes files) kind → IsNamed stack (jop.CheckCast type)
     a_test : {type : List ℕ} (kind : Shape (List ℕ)) → shape_named type ≡ Some kind → IsThere (all_classes files) kind → IsNamed stack (jop.InstanceOf type)
-    calls : {op : JOp} → IsCalled (linked files image) (look_ups files image near tables) (all_classes files) (analysis files image near tables) m stack op → IsNamed stack op
+    a_static_call : {id : MemberId} → IsStaticOn files tables id → IsNamed stack (jop.Call 0xB8 id)
+    a_call_on_receiver : {op : ℕ} {id : MemberId} → IsReceiverOn files (look_ups files image near tables) tables (let id = m.id in id.class) stack op id → IsNamed stack (jop.Call op id)
 
   -- each reached instruction
   abbrev pub AreNamed : Type 0

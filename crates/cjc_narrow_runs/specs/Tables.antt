@@ -1,5 +1,5 @@
 -- The methods of a package with their least tables, the narrow code that is written for them, and its look-ups.
-use Rattle.std.specs.Prelude.{◌≡◌, ◌<◌, ◌≤◌, ℕ, Bool, List, [], ◌∷◌, length, codes, Option, Some}
+use Rattle.std.specs.Prelude.{◌≡◌, ℕ, List, codes, Option, Some}
 use Rattle.std.specs.List.{Contains}
 use Rattle.cjc_bytes.specs.Descriptor.{IsClassName}
 use Rattle.cjc_bytes.specs.declared.fault.MemberId.{MemberId}
@@ -8,7 +8,7 @@ use Rattle.cjc_classfile.specs.declared.tree.Catch.{Catch}
 use Rattle.cjc_classfile.specs.declared.tree.ClassTree.{ClassTree}
 use Rattle.cjc_classfile.specs.declared.tree.MethodTree.{MethodTree}
 use Rattle.cjc_code.specs.declared.method_code.MethodCode.{MethodCode}
-use Rattle.cjc_script.specs.Sorts.{Shape, shape_name, result_by}
+use Rattle.cjc_script.specs.Sorts.{shape_name, result_by}
 use Rattle.cjc_world.specs.Files.{Files}
 use Rattle.cjc_world.specs.Classes.{all_classes}
 use Rattle.cjc_world.specs.Subtype.{is_subtype}
@@ -16,8 +16,8 @@ use Rattle.cjc_world.specs.declared.image.StaticImage.{StaticImage}
 use Rattle.cjc_types.specs.declared.state.State.{State}
 use Rattle.cjc_types.specs.Types.{parts}
 use Rattle.cjc_types.specs.Flow.{Body, body_of}
-use Rattle.cjc_types.specs.Tables.{IsMethodOf, IsLeastTable}
-use Rattle.cjc_types.specs.Tables as typed
+use Rattle.cjc_types.specs.declared.table.TypeTable.{TypeTable}
+use Rattle.cjc_types.specs.Tables.{IsMethodOf, rows_of, IsTypeTable}
 use Rattle.cjc_range_flow.specs.Frames.{RangeState}
 use Rattle.cjc_range_flow.specs.Tables.{IsLeastRanges, Passes}
 use Rattle.cjc_ncode.specs.declared.narrow.NMethod.{NMethod}
@@ -65,8 +65,8 @@ analysis files image near tables = record {
   may_throw = λ kind. is_subtype (all_classes files) (shape_name kind) (codes "java/lang/Throwable");
 }
 
--- A method of the package with code: it is decoded, its types are the least and break none of the rules 501 to 503, and its intervals are the
--- least over them and break none of 601 to 609. It is found by its own name (202) in a class of the package (201), each of its parameters
+-- A method of the package with code: it is decoded, its type table is the least, as inference answers it, which breaks none of the rules 501 to
+-- 503, and its intervals are the least over it and break none of 601 to 609. It is found by its own name (202) in a class of the package (201), each of its parameters
 -- and its result is one word (301 and 302), its parameters have locals (103), and its handlers catch classes (203).
 pub record HasTables (files : Files) (tables : Tables) (m : Method) : Type 0 where
   pub code : MethodCode
@@ -75,8 +75,9 @@ pub record HasTables (files : Files) (tables : Tables) (m : Method) : Type 0 whe
   pub tree : CodeTree
   pub of_package : IsMethodOf files code class method tree
   pub is : m ≡ method_by class method (Some tree)
-  pub types : IsLeastTable (body_of class method tree code.insns) (tables.types m)
-  pub unbroken : (place rule : ℕ) → typed.Breach (all_classes files) (body_of class method tree code.insns) (tables.types m) place rule → ⊥
+  pub table : TypeTable
+  pub is_table : IsTypeTable (all_classes files) (body_of class method tree code.insns) table
+  pub types : tables.types m ≡ rows_of (body_of class method tree code.insns) table
   pub ranges : IsLeastRanges (body_of class method tree code.insns) (constant_named files (all_classes files)) (tables.types m) (tables.ranges m)
   pub passes : Passes (body_of class method tree code.insns) (tables.types m) (tables.ranges m)
   pub found : flags_of (method_found (all_classes files) (record { class = class.name; name = method.name; desc = method.desc })) ≡ method.flags

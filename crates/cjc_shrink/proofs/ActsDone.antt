@@ -1,5 +1,5 @@
 -- An act of a script does the same to heaps that agree.
-use Rattle.std.proofs.Common.{◌≡◌, ℕ, ◌<◌, ◌≤◌, refl, sym, ap, subst, ◌∙◌, arith, Bool, true, false, ◌&&◌, List, [], ◌∷◌, ◌++◌, map, length, replicate, Option, Some, None, option_map, nat_le, nat_lt, All, ℤ, pos, negsuc}
+use Rattle.std.proofs.Common.{◌≡◌, ℕ, ◌≤◌, refl, sym, ap, subst, ◌∙◌, arith, Bool, true, false, ◌&&◌, List, [], ◌∷◌, ◌++◌, map, length, replicate, Option, Some, None, option_map, nat_le, nat_lt, All, ℤ, pos, negsuc}
 use Rattle.std.specs.Prelude.{slice_get, slice_set, option_and_then, if◌then◌else◌}
 use Rattle.std.proofs.lemmas.Bool.Decides.{nat_tests}
 use Rattle.cjc_bytes.specs.declared.fault.MemberId.{MemberId}
@@ -7,18 +7,16 @@ use Rattle.cjc_bytes.specs.Spots.{desc_of, bad_at, after}
 use Rattle.cjc_range.specs.Span.{Holds}
 use Rattle.cjc_script.specs.declared.value.Value.{Value}
 use Rattle.cjc_script.specs.declared.value.Value.TheVariants.{Num, Null, Obj}
-use Rattle.cjc_script.specs.declared.script.Act.{Act}
 use Rattle.cjc_script.specs.declared.script.Act.TheVariants as acts
 use Rattle.cjc_script.specs.declared.report.Thing.{Thing}
 use Rattle.cjc_script.specs.declared.report.Thing.TheVariants as things
-use Rattle.cjc_script.specs.Sorts.{Element, Booleans, Bytes, Shorts, Ints, Shape, OfClass, OfNumbers, OfReferences, Sort, Reference, array_name, shape_name, shape_named, zero_of, element_sort, fits}
+use Rattle.cjc_script.specs.Sorts.{Element, Booleans, Bytes, Shorts, Ints, Shape, OfClass, OfNumbers, OfReferences, Reference, array_name, shape_name, shape_named, zero_of, element_sort, fits}
 use Rattle.cjc_bytecode.specs.Effects.{HeapObject, Numbers, References, Object, shape}
 use Rattle.cjc_bytecode.specs.Machine as narrow
 use Rattle.cjc_bytecode.specs.Renaming.{option_as}
 use Rattle.cjc_bytecode.proofs.Natural.{get_map, set_map, map_last, length_as}
 use Rattle.cjc_ncode.specs.ByLabel.{Named, by_label}
 use Rattle.cjc_by_name.specs.Linked.{Linked}
-use Rattle.cjc_by_name.specs.Effects.{type_of}
 use Rattle.cjc_by_name.specs.Machine.{object_fits, is_of, item_sort, array_with, item_put, put_in, heap_after_act}
 use Rattle.cjc_shrink.specs.Relation.{Heap, CellFits, a_null, an_object, no_slots, bare, HasArrays, element_range, ThingFits, numbers, references, of_class, HeapFits, shown}
 use Rattle.cjc_shrink.specs.Acts.{SameHeaps, unfit, changed, ActsAlike, ActsAreTold}
@@ -26,7 +24,7 @@ use Rattle.cjc_shrink.proofs.Begins.{type_shown}
 use Rattle.cjc_shrink.proofs.Items.{all_with, long_with}
 use Rattle.cjc_shrink.proofs.Keeps.{grown_keeps, grown_fits, set_keeps, set_fits}
 use Rattle.cjc_shrink.proofs.News.{zeros_shown, all_same, zero_held, few_of}
-use Rattle.cjc_shrink.proofs.Replies.{both_so, held_if}
+use Rattle.cjc_shrink.proofs.Replies.{held_if}
 
 -- numbers fit alike, whatever objects are
 number_fits : (one other : ℕ → Shape (List ℕ) → Bool) (e : Element) (z : ℤ) → fits one (element_sort e) (Num z) ≡ fits other (element_sort e) (Num z)

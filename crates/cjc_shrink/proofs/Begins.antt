@@ -10,7 +10,7 @@ use Rattle.cjc_script.specs.Sorts.{Shape, Sort, Signature, shape_name, signature
 use Rattle.cjc_bytecode.specs.Runs.{Move, On}
 use Rattle.cjc_bytecode.specs.Effects.{Invoke, HeapObject, Numbers, References, Object, shape}
 use Rattle.cjc_bytecode.specs.Renaming.{option_as}
-use Rattle.cjc_bytecode.specs.Machine.{Start, Reached, Within, Next, StuckAt}
+use Rattle.cjc_bytecode.specs.Machine.{Start, Within, Next, StuckAt}
 use Rattle.cjc_bytecode.specs.Machine as narrow
 use Rattle.cjc_bytecode.proofs.Natural.{get_map}
 use Rattle.cjc_ncode.specs.declared.narrow.NMethod.{NMethod}

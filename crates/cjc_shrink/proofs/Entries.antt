@@ -14,14 +14,14 @@ use Rattle.cjc_script.specs.Sorts.{Shape, Sort, Boolean, Byte, Short, Int, Refer
 use Rattle.cjc_bytecode.specs.Runs.{Move}
 use Rattle.cjc_bytecode.specs.Arguments.{value_words, both_words, words_of, first_and}
 use Rattle.cjc_bytecode.specs.Effects.{HeapObject, shape}
-use Rattle.cjc_bytecode.specs.Machine.{Start, Next, Ended, shape_of}
+use Rattle.cjc_bytecode.specs.Machine.{Start}
 use Rattle.cjc_bytecode.specs.Machine as narrow
 use Rattle.cjc_bytecode.specs.Renaming.{option_as}
 use Rattle.cjc_bytecode.proofs.Natural.{get_map}
 use Rattle.cjc_ncode.specs.declared.narrow.NMethod.{NMethod}
 use Rattle.cjc_ncode.specs.ByLabel.{Named, by_label}
 use Rattle.cjc_by_name.specs.Linked.{Method, Linked}
-use Rattle.cjc_by_name.specs.Machine.{State, heap_of, frame_for_call, report, object_fits, entry_method, args_fit, entry_begins, sent_to, sent_on, after_acts}
+use Rattle.cjc_by_name.specs.Machine.{State, heap_of, frame_for_call, object_fits, entry_method, args_fit, entry_begins, sent_to, sent_on}
 use Rattle.cjc_by_name.specs.Machine as named
 use Rattle.cjc_by_name.specs.Effects.{type_of}
 use Rattle.cjc_shrink.specs.Relation.{OnBoth, no_cell, a_range, a_reference as both_reference, Kind, Range, Refers, Heap, Agrees, number, null, object, Stacks, bottom, cell, shown}

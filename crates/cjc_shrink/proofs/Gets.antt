@@ -21,7 +21,7 @@ use Rattle.cjc_by_name.specs.Linked.{Method, Instance, Linked}
 use Rattle.cjc_by_name.specs.Effects.{Store, value_in, effect}
 use Rattle.cjc_by_name.specs.Effects as by_name
 use Rattle.cjc_shrink.specs.Relation.{Kind, Refers, Heap, NMemory, Agrees, null, object, Stacks, bottom, cell, left_out, Locals, ThingFits, of_class, shown, IsMadeOf, Stores, HasObjects}
-use Rattle.cjc_shrink.specs.Rows.{HasRoom, NEffect, Same, goes, raises, RowAgrees, HasField, is_word_sort, kind_of, lists, FieldIsThere}
+use Rattle.cjc_shrink.specs.Rows.{HasRoom, NEffect, Same, goes, raises, RowAgrees, HasField, is_word_sort, kind_of, FieldIsThere}
 use Rattle.cjc_shrink.proofs.Keeps.{made_there}
 use Rattle.cjc_shrink.proofs.Plain.{RowIs, as_written}
 use Rattle.cjc_shrink.proofs.Fields.{value_shown, Found, found, cell_agrees, letter_of, get_means, words_here}

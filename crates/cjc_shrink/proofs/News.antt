@@ -13,7 +13,7 @@ use Rattle.cjc_script.specs.declared.value.Value.TheVariants.{Num, Null, Obj}
 use Rattle.cjc_script.specs.declared.report.Thing.{Thing}
 use Rattle.cjc_script.specs.declared.report.Thing.TheVariants as things
 use Rattle.cjc_script.specs.Sorts.{Element, Booleans, Bytes, Shorts, Ints, Shape, OfClass, OfNumbers, OfReferences, Sort, Boolean, Byte, Short, Int, Reference, NoValue, field_sort, zero_of, shape_name, array_name}
-use Rattle.cjc_bytecode.specs.Effects.{Slot, HeapObject, Numbers, References, Object, shape}
+use Rattle.cjc_bytecode.specs.Effects.{HeapObject, Numbers, References, Object, shape}
 use Rattle.cjc_bytecode.specs.Effects as narrow
 use Rattle.cjc_bytecode.specs.Meanings.{meaning}
 use Rattle.cjc_bytecode.specs.Renaming.{keys}

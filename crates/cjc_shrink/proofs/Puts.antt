@@ -24,7 +24,7 @@ use Rattle.cjc_ncode.specs.PoolOrder.{same_member}
 use Rattle.cjc_ncode.specs.Written.{Resolution, static_by, static_access, field_access}
 use Rattle.cjc_ncode.specs.ByLabel.{Named, by_label, classes, naming, put_static, put_cell, shown_slot}
 use Rattle.cjc_by_name.specs.Linked.{Method, Static, Instance, Linked}
-use Rattle.cjc_by_name.specs.Effects.{Store, effect, value_in, values_with, is_same_kind, is_same_field}
+use Rattle.cjc_by_name.specs.Effects.{Store, effect, value_in, values_with, is_same_kind}
 use Rattle.cjc_by_name.specs.Effects as by_name
 use Rattle.cjc_shrink.specs.Relation.{Kind, Refers, Away, Heap, NMemory, Agrees, number, null, object, Stacks, cell, left_out, Locals, CellFits, a_boolean, a_byte, a_short, an_int, a_null, an_object, SlotsFit, no_slots, slot, ThingFits, of_class, shown, IsMadeOf, Stores, HasObjects}
 use Rattle.cjc_shrink.specs.Rows.{NEffect, Same, goes, raises, RowAgrees, HasField, is_word_sort, kind_of, lists, FieldIsThere}

@@ -17,7 +17,7 @@ use Rattle.cjc_script.specs.Sorts.{Shape, Sort, Boolean, Byte, Short, Int, Refer
 use Rattle.cjc_bytecode.specs.Runs.{Move, Over}
 use Rattle.cjc_bytecode.specs.Arguments.{result_words}
 use Rattle.cjc_bytecode.specs.Effects.{HeapObject, shape}
-use Rattle.cjc_bytecode.specs.Machine.{Next, Ended, shape_of}
+use Rattle.cjc_bytecode.specs.Machine.{Ended, shape_of}
 use Rattle.cjc_bytecode.specs.Machine as narrow
 use Rattle.cjc_bytecode.specs.Renaming.{option_as}
 use Rattle.cjc_bytecode.proofs.Natural.{get_map}

@@ -14,7 +14,7 @@ use Rattle.cjc_bytecode.proofs.Natural.{length_as}
 use Rattle.cjc_ncode.specs.Written.{Resolution, place_in}
 use Rattle.cjc_ncode.specs.ByLabel.{Named, by_label}
 use Rattle.cjc_by_name.specs.Linked.{Linked}
-use Rattle.cjc_by_name.specs.Effects.{Fault, exception_class, type_of}
+use Rattle.cjc_by_name.specs.Effects.{Fault, exception_class}
 use Rattle.cjc_by_name.specs.Effects as effects
 use Rattle.cjc_by_name.specs.Machine.{Frame, State, heap_of, with_frames, with_note, with_last, offset, after_throw, after_raise, after_athrow, after_effect}
 use Rattle.cjc_shrink.specs.Relation.{Kind, Heap, no_slots, of_class, shown, Stores, bare}

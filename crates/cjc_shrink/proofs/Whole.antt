@@ -16,12 +16,12 @@ use Rattle.cjc_script.specs.declared.report.Outcome.{Outcome}
 use Rattle.cjc_script.specs.declared.report.Outcome.TheVariants.{Done, Running, Waiting as WaitingOutcome, Unfit, Stuck}
 use Rattle.cjc_script.specs.declared.report.Report.{Report}
 use Rattle.cjc_script.specs.Sorts.{Shape, OfClass, shape_name}
-use Rattle.cjc_bytecode.specs.Runs.{Move, On, Over, Alike, led, device, run, last, first, Steps, silent, ends, Simulates, Agree}
+use Rattle.cjc_bytecode.specs.Runs.{Move, On, Alike, led, device, run, last, first, Steps, silent, ends, Simulates, Agree}
 use Rattle.cjc_bytecode.specs.Runs as runs
 use Rattle.cjc_bytecode.specs.Effects.{HeapObject, Object, shape}
 use Rattle.cjc_bytecode.specs.Effects as effects
 use Rattle.cjc_bytecode.specs.Meanings.{meaning}
-use Rattle.cjc_bytecode.specs.Machine.{Next, Ended, StuckAt}
+use Rattle.cjc_bytecode.specs.Machine.{Next, StuckAt}
 use Rattle.cjc_bytecode.specs.Machine as narrow
 use Rattle.cjc_bytecode.proofs.Natural.{length_as}
 use Rattle.cjc_bytecode.proofs.Follows.{from_there, agree, agree_through}
@@ -31,7 +31,7 @@ use Rattle.cjc_ncode.specs.declared.narrow.NInsn.TheVariants as insns
 use Rattle.cjc_ncode.specs.ByLabel.{Named, by_label, classes, operation}
 use Rattle.cjc_ncode.specs.ByLabel as labels
 use Rattle.cjc_by_name.specs.Linked.{Linked}
-use Rattle.cjc_by_name.specs.Effects.{Fault, NullPointer, exception_class, Store, place, type_of, effect}
+use Rattle.cjc_by_name.specs.Effects.{Fault, NullPointer, exception_class, Store, place, effect}
 use Rattle.cjc_by_name.specs.Effects as by_name
 use Rattle.cjc_by_name.specs.Machine.{Frame, State, heap_of, with_frames, with_note, with_last, offset, room, stuck_at, at_handler, after_throw, after_raise, after_athrow, after_effect, spend, spend_unless_stuck, begins, step, and_then, idle}
 use Rattle.cjc_by_name.specs.Machine as named

@@ -13,7 +13,7 @@ use Rattle.cjc_bytecode.specs.Machine as narrow
 use Rattle.cjc_ncode.specs.declared.narrow.NMethod.{NMethod}
 use Rattle.cjc_ncode.specs.Written.{Resolution, written, place_in, catches_at}
 use Rattle.cjc_ncode.specs.ByLabel.{Callee, Named, on_object, by_label}
-use Rattle.cjc_by_name.specs.Linked.{Method, Inside, Call, OnClass, OnObject, Linked}
+use Rattle.cjc_by_name.specs.Linked.{Method, Inside, OnClass, OnObject, Linked}
 use Rattle.cjc_by_name.specs.Linked
 use Rattle.cjc_by_name.specs.Effects.{Fault, place}
 use Rattle.cjc_by_name.specs.Machine.{Frame, State, with_frames, frame_for_call, after_fault, after_throw, offset, holder_of, room}

@@ -1,34 +1,33 @@
 -- Of which types arrays are, by the types of a cell.
-use Rattle.std.proofs.Common.{◌≡◌, ◌+◌, ℕ, zero, suc, Bool, true, false, not, ◌&&◌, ◌||◌, List, [], ◌∷◌, ◌++◌, length, take, Option, Some, None, refl, sym, ap, subst, ◌∙◌, inl, inr, ◌⊎◌, ⊎_elim, nat_le, arith}
+use Rattle.std.proofs.Common.{◌≡◌, ◌+◌, ℕ, Bool, true, false, not, ◌&&◌, ◌||◌, List, [], ◌∷◌, ◌++◌, length, take, Option, Some, None, refl, sym, ap, subst, ◌∙◌, inl, inr, ◌⊎◌, ⊎_elim, nat_le, arith}
 use Rattle.std.proofs.lemmas.Int.{ints}
-use Rattle.std.proofs.lemmas.List.{length-append, take_at}
 use Rattle.std.specs.Prelude.{if◌then◌else◌, ◌-◌, ◌==◌}
 use Rattle.std.specs.List.{list_all, list_any}
 use Rattle.std.specs.Str.{bytes_eq}
 use Rattle.cjc_range.specs.Span.{Span, Within, byte_range, short_range}
 use Rattle.cjc_range.proofs.Order.{within_refl}
-use Rattle.cjc_script.specs.Sorts.{Shape, OfClass, OfNumbers, OfReferences, Element, Booleans, Bytes, Shorts, Ints, array_name, shape_name, shape_named}
+use Rattle.cjc_script.specs.Sorts.{Shape, OfClass, OfNumbers, OfReferences, Element, Booleans, Bytes, Shorts, Ints, array_name, shape_name}
 use Rattle.cjc_bytes.specs.Descriptor.{IsClassName}
 use Rattle.cjc_world.specs.Classes.{Class, class_named}
 use Rattle.cjc_world.specs.Kin.{End, known_as, grown, kin, stands}
 use Rattle.cjc_world.proofs.Subtypes.{reaches}
 use Rattle.cjc_table_rules.proofs.Spelt.{class_read, held_spelt, all_but_last}
 use Rattle.cjc_world.specs.Subtype.{starts, inner, element, array_is, is_subclass, is_element, is_subtype}
-use Rattle.cjc_world.proofs.Settled.{bytes-true, bytes-refl}
+use Rattle.cjc_world.proofs.Settled.{bytes-true}
 use Rattle.cjc_types.specs.declared.cell.Cell.{Cell}
 use Rattle.cjc_types.specs.declared.cell.Cell.TheVariants.{Number, Refs, Unusable}
 use Rattle.cjc_types.specs.Names.{In}
 use Rattle.cjc_types.specs.Types.{held, held_by, with_held, elements}
 use Rattle.cjc_types.specs.Cells.{refs, most_names}
 use Rattle.cjc_types.specs.Working.NameLaws.{insert_new, insert_old}
-use Rattle.cjc_types.specs.Rules.{is_array_by, is_array_for, is_some, all_types}
+use Rattle.cjc_types.specs.Rules.{is_array_by, is_some, all_types}
 use Rattle.cjc_ncode.specs.ByLabel.{Named}
 use Rattle.cjc_range_flow.specs.Values.{boolean_range, is_boolean_array, byte_element_range}
-use Rattle.cjc_shrink.specs.Relation.{Kind, Refers, Wider, more_types, reference_free, IsMadeOf, element_range}
+use Rattle.cjc_shrink.specs.Relation.{Refers, Wider, more_types, reference_free, IsMadeOf, element_range}
 use Rattle.cjc_shrink.specs.Elements.{IsBytes, IsShorts, IsReferences, AreAll, AreArrays, ElementsLie, ItemsPass}
 use Rattle.cjc_shrink.specs.Elements as of
 use Rattle.cjc_shrink.specs.Replies.{is_of_some}
-use Rattle.cjc_table_rules.specs.Kinds.{is_named, is_one_of, kind_of_cell}
+use Rattle.cjc_table_rules.specs.Kinds.{is_one_of, kind_of_cell}
 use Rattle.cjc_table_rules.specs.Analysis.{TypesAreTold}
 use Rattle.cjc_table_rules.specs.Arrays.{ClassesAreNamed}
 use Rattle.cjc_table_rules.proofs.Told.{one_of_in}

@@ -1,18 +1,17 @@
 -- Each call keeps its rule.
-use Rattle.std.proofs.Common.{◌≡◌, ◌<◌, ◌≤◌, ◌+◌, ◌-◌, ℕ, zero, suc, Bool, true, false, not, ◌||◌, List, [], ◌∷◌, ◌++◌, map, length, take, drop, reverse, replicate, get_or, slice_get, Option, Some, None, nat_lt, cond, refl, sym, ap, subst, ◌∙◌, arith}
+use Rattle.std.proofs.Common.{◌≡◌, ◌<◌, ◌≤◌, ◌+◌, ◌-◌, ℕ, zero, suc, Bool, true, false, not, ◌||◌, List, [], ◌∷◌, ◌++◌, map, length, take, drop, reverse, replicate, get_or, Some, None, nat_lt, cond, refl, sym, ap, subst, ◌∙◌, arith}
 use Rattle.std.specs.Prelude.{if◌then◌else◌, ◌==◌, option_and_then}
 use Rattle.std.specs.List.{AllZip, AllByRecursion}
 use Rattle.std.proofs.lemmas.Bool.Decides.{nat_tests}
-use Rattle.std.proofs.lemmas.List.{reverse-append, reverse-reverse, length-reverse, take_more}
+use Rattle.std.proofs.lemmas.List.{reverse-append, reverse-reverse, take_more}
 use Rattle.cjc_bytes.specs.AccessFlags.{is_static}
 use Rattle.cjc_bytes.specs.Descriptor.{Part}
 use Rattle.cjc_bytes.specs.declared.fault.MemberId.{MemberId}
-use Rattle.cjc_range.specs.Span.{Span, Within, full}
-use Rattle.cjc_code.specs.declared.insn.JInsn.{JInsn}
+use Rattle.cjc_range.specs.Span.{Span, full}
 use Rattle.cjc_code.specs.declared.insn.JOp.{JOp}
 use Rattle.cjc_code.specs.declared.insn.JOp.TheVariants as jop
 use Rattle.cjc_fixpoint.specs.Tables.{HasRow}
-use Rattle.cjc_script.specs.Sorts.{Shape, Sort, Reference, Signature, signature_by, signature_of, shape_name, sort_of, result_by}
+use Rattle.cjc_script.specs.Sorts.{Shape, signature_by, signature_of, sort_of, result_by}
 use Rattle.cjc_world.specs.Classes.{Class}
 use Rattle.cjc_types.specs.declared.cell.Cell.{Cell}
 use Rattle.cjc_types.specs.declared.cell.Cell.TheVariants.{Refs, Unusable}
@@ -25,32 +24,30 @@ use Rattle.cjc_bytecode.specs.Machine.{Within as WithinPackage, Abroad}
 use Rattle.cjc_ncode.specs.declared.narrow.NInsn.{NInsn}
 use Rattle.cjc_ncode.specs.declared.narrow.NInsn.TheVariants as insns
 use Rattle.cjc_ncode.specs.Written.{nargs_of, called}
-use Rattle.cjc_ncode.specs.ByLabel.{Callee, Named, on_object}
-use Rattle.cjc_by_name.specs.Linked.{Method, Linked, OnClass, OnObject, Inside}
+use Rattle.cjc_ncode.specs.ByLabel.{Callee, Named}
+use Rattle.cjc_by_name.specs.Linked.{Method, Linked, OnClass, Inside}
 use Rattle.cjc_by_name.specs.Linked as linked
 use Rattle.cjc_range_flow.specs.Frames.{RangeState, spans_of}
-use Rattle.cjc_range_flow.specs.Values.{range_of, result_ranges}
+use Rattle.cjc_range_flow.specs.Values.{range_of}
 use Rattle.cjc_range_flow.specs.Steps.{operand}
-use Rattle.cjc_range_flow.specs.Flow.{argument_ranges}
-use Rattle.cjc_range_flow.specs.Bounds.{IsBoundOf, an_argument}
-use Rattle.cjc_shrink.specs.Relation.{Kind, Refers, Free, Wider, more_types, AllWider, one_wider, IsMadeOf}
+use Rattle.cjc_range_flow.specs.Bounds.{an_argument}
+use Rattle.cjc_shrink.specs.Relation.{Kind, Refers, Free, more_types, AllWider, one_wider, IsMadeOf}
 use Rattle.cjc_shrink.specs.Rows.{HasRoom, is_word_sort}
-use Rattle.cjc_shrink.specs.Calls.{first_locals, IsNarrowed, IsStaticCall, IsReceiverCall, Selects}
+use Rattle.cjc_shrink.specs.Calls.{first_locals, IsNarrowed}
 use Rattle.cjc_shrink.specs.Callees.{Names}
-use Rattle.cjc_shrink.specs.Replies.{result_kinds, IsImport, IsStaticImport, SelectsImport}
+use Rattle.cjc_shrink.specs.Replies.{result_kinds, IsImport}
 use Rattle.cjc_shrink.specs.Tables.{MayRaise, class_of_code, spot, Arrives}
 use Rattle.cjc_shrink.specs.Reached.{IsCallAt, MayBeCalled, MayBeAnswered, MaySelectOn, IsAnswered}
 use Rattle.cjc_shrink.specs.Reached as reached_spec
 use Rattle.cjc_shrink.proofs.Callees.{call_written}
 use Rattle.cjc_shrink.proofs.Reached.{static_rule, import_rule, object_rule}
-use Rattle.cjc_table_rules.specs.Kinds.{is_named, is_one_of, kind_of_cell, kinds_from, kinds, point_of}
+use Rattle.cjc_table_rules.specs.Kinds.{is_named, is_one_of, kind_of_cell, kinds, point_of}
 use Rattle.cjc_table_rules.specs.Analysis.{Analysis, IsDecoded, IsSound, IsRead, CatchesAreTold, TypesAreTold, declared_kinds, table_of}
-use Rattle.cjc_table_rules.specs.Calls.{IsWordDesc, types_of, count_of, IsWhole, IsReachedBy, IsAsked, IsStaticNamed, IsObjectNamed, IsSelected, IsCalled}
+use Rattle.cjc_table_rules.specs.Calls.{IsWordDesc, types_of, count_of, IsReachedBy, IsAsked, IsStaticNamed, IsObjectNamed, IsSelected, IsCalled}
 use Rattle.cjc_table_rules.specs.Calls as call
-use Rattle.cjc_table_rules.proofs.Told.{kinds_append, kinds_length, taken_length}
+use Rattle.cjc_table_rules.proofs.Told.{kinds_append, taken_length}
 use Rattle.cjc_table_rules.proofs.Begins.{begins}
 use Rattle.cjc_table_rules.proofs.Resolved.{of_reference, same_long}
-use Rattle.cjc_table_rules.proofs.Methods.{tb}
 use Rattle.cjc_table_rules.proofs.Passed.{IsPassed, one_passed, passed_for, passes_from, short_from, long_from, begins_wider, result_given, word_result}
 use Rattle.cjc_table_rules.proofs.Rows.{lengths_alike, all_wider_itself, all_wider_through, wider_append, first_there, stack_before, rest, roomy_wider, arrives_wider, catches_here}
 use Rattle.cjc_table_rules.proofs.Plain.{t, Stands, IsRow, Keeps, typed_here, word, within}

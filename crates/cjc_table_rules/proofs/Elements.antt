@@ -1,15 +1,13 @@
 -- Each instruction on arrays keeps its rule.
-use Rattle.std.proofs.Common.{◌≡◌, ◌<◌, ◌+◌, ℕ, true, List, [], ◌∷◌, take, drop, slice_get, Option, Some, refl, sym, ap, subst, ◌∙◌, arith}
+use Rattle.std.proofs.Common.{◌≡◌, ℕ, List, [], ◌∷◌, take, drop, refl, sym, ap, subst, ◌∙◌, arith}
 use Rattle.cjc_range.specs.Span.{Span, Within, short_range, full}
 use Rattle.cjc_code.specs.declared.insn.JOp.{JOp}
 use Rattle.cjc_code.specs.declared.insn.JOp.TheVariants as jop
 use Rattle.cjc_fixpoint.specs.Tables.{HasRow}
-use Rattle.cjc_script.specs.Sorts.{Shape, OfNumbers, Booleans}
 use Rattle.cjc_world.specs.Classes.{Class}
 use Rattle.cjc_world.specs.Subtype.{starts}
 use Rattle.cjc_types.specs.declared.cell.Cell.{Cell}
 use Rattle.cjc_types.specs.declared.cell.Cell.TheVariants.{Number, Refs}
-use Rattle.cjc_types.specs.Cells.{refs}
 use Rattle.cjc_types.specs.Rules.{is_array_for}
 use Rattle.cjc_types.specs.Steps as typed
 use Rattle.cjc_types.specs.Types.{elements, element_of}

@@ -1,7 +1,6 @@
 -- A package keeps the rules of whole runs: its instructions, and the entries of scripts.
-use Rattle.std.proofs.Common.{◌≡◌, ◌<◌, ◌+◌, ℕ, suc, Bool, ◌||◌, true, false, List, [], ◌∷◌, map, length, slice_get, Option, Some, None, refl, sym, ap, subst, ◌∙◌, arith}
+use Rattle.std.proofs.Common.{◌≡◌, ◌+◌, ℕ, suc, Bool, ◌||◌, true, false, List, [], ◌∷◌, map, length, slice_get, Option, Some, None, refl, sym, ap, subst, ◌∙◌, arith}
 use Rattle.std.specs.List.{AllZip, AllByRecursion}
-use Rattle.std.proofs.lemmas.Int.{ints}
 use Rattle.cjc_bytes.specs.Descriptor.{Part}
 use Rattle.cjc_bytes.specs.declared.fault.MemberId.{MemberId}
 use Rattle.cjc_bytes.specs.declared.names.Kind.{Kind as PartKind}
@@ -11,7 +10,7 @@ use Rattle.cjc_range_flow.specs.Values.{boolean_range}
 use Rattle.cjc_range.proofs.Order.{within_refl}
 use Rattle.cjc_code.specs.declared.insn.JInsn.{JInsn}
 use Rattle.cjc_script.specs.declared.script.Entry.{Entry}
-use Rattle.cjc_script.specs.Sorts.{Shape, Sort, Boolean, Byte, Short, Reference, shape_name, shape_named, sort_by, sort_of, reference_to, result_by}
+use Rattle.cjc_script.specs.Sorts.{Shape, Sort, Boolean, Byte, Short, Reference, shape_named, sort_by, sort_of, reference_to, result_by}
 use Rattle.cjc_world.specs.Classes.{Class}
 use Rattle.cjc_types.specs.Types.{parts}
 use Rattle.cjc_bytecode.specs.Machine as narrow
@@ -28,11 +27,11 @@ use Rattle.cjc_shrink.specs.Entries.{kinds_of, entry_kinds, IsEntry, MayEnter}
 use Rattle.cjc_shrink.specs.Entries as entries_spec
 use Rattle.cjc_shrink.specs.Reached.{MayBegin}
 use Rattle.cjc_shrink.specs.Tables.{Point}
-use Rattle.cjc_shrink.specs.Runs.{Rule, Begins, IsFine}
+use Rattle.cjc_shrink.specs.Runs.{Begins, IsFine}
 use Rattle.cjc_shrink.proofs.Reached.{entry_rule, no_entry_rule}
 use Rattle.cjc_table_rules.specs.Kinds.{is_one_of}
 use Rattle.cjc_table_rules.specs.Analysis.{Analysis, table_of}
-use Rattle.cjc_table_rules.specs.Calls.{IsWordDesc, is_word_result, types_of, count_of, IsReachedBy}
+use Rattle.cjc_table_rules.specs.Calls.{is_word_result, types_of, IsReachedBy}
 use Rattle.cjc_table_rules.specs.Package.{IsEntered, IsScripted, IsPackage}
 use Rattle.cjc_table_rules.specs.Package as supported_by
 use Rattle.cjc_table_rules.proofs.Arrivals.{within_list, item_there}

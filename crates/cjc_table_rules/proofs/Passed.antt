@@ -1,14 +1,14 @@
 -- What a call passes to the parameters of its method.
-use Rattle.std.proofs.Common.{◌≡◌, ◌||◌, ◌<◌, ◌+◌, ◌-◌, ℕ, zero, suc, Bool, true, false, List, [], ◌∷◌, ◌++◌, map, length, reverse, get_or, Option, Some, None, refl, sym, ap, subst, ◌∙◌, arith}
+use Rattle.std.proofs.Common.{◌≡◌, ◌||◌, ◌<◌, ◌+◌, ◌-◌, ℕ, suc, Bool, true, false, List, [], ◌∷◌, ◌++◌, map, length, reverse, get_or, Option, Some, None, refl, sym, ap, subst, ◌∙◌, arith}
 use Rattle.std.specs.List.{AllZip, AllByRecursion}
 use Rattle.std.proofs.lemmas.Int.{ints}
 use Rattle.std.proofs.lemmas.List.{reverse-append, reverse-reverse, length-reverse, get_or-reverse}
 use Rattle.cjc_bytes.specs.Descriptor.{Part}
 use Rattle.cjc_bytes.specs.declared.names.Kind.{Kind as PartKind}
 use Rattle.cjc_bytes.specs.declared.names.Kind.TheVariants as part_kinds
-use Rattle.cjc_range.specs.Span.{Span, Within, IsWord, short_range, byte_range, full}
+use Rattle.cjc_range.specs.Span.{Span, Within, IsWord, short_range, byte_range}
 use Rattle.cjc_range.proofs.Order.{within_refl, within_trans}
-use Rattle.cjc_script.specs.Sorts.{Shape, Sort, Boolean, Byte, Short, Reference, shape_named, sort_by, sort_of, reference_to, result_by}
+use Rattle.cjc_script.specs.Sorts.{Shape, Sort, Byte, Short, Reference, shape_named, sort_by, sort_of, reference_to, result_by}
 use Rattle.cjc_world.specs.Classes.{Class}
 use Rattle.cjc_types.specs.declared.cell.Cell.{Cell}
 use Rattle.cjc_types.specs.declared.cell.Cell.TheVariants.{Number, Refs, Unusable}

@@ -1,5 +1,5 @@
 -- The names of types are those that descriptors spell.
-use Rattle.std.proofs.Common.{◌≡◌, ◌+◌, ◌-◌, ℕ, Bool, true, false, not, ◌||◌, List, [], ◌∷◌, ◌++◌, length, take, Option, Some, None, refl, sym, ap, subst, ◌∙◌, arith}
+use Rattle.std.proofs.Common.{◌≡◌, ◌+◌, ◌-◌, ℕ, Bool, true, false, List, [], ◌∷◌, ◌++◌, length, take, Option, Some, None, refl, sym, ap, subst, ◌∙◌, arith}
 use Rattle.std.specs.Prelude.{if◌then◌else◌, ◌==◌, option_and_then, unwrap_or}
 use Rattle.std.proofs.lemmas.List.{length-append, take_at}
 use Rattle.cjc_bytes.specs.Descriptor.{Part, Parts, plain, base_kind, is_name_byte, IsName, IsClassName, IsType, base, object, array, IsDescriptor, field, method}
