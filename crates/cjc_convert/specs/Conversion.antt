@@ -49,7 +49,7 @@ pub record IsForm (list : ListTree) (files : List (List ℕ)) (lang : ExportTree
 
 -- what a package is tested for, beyond single files, the classes together and what instructions name
 abbrev pub tested : List Group
-tested = groups.Unsupported ∷ groups.Initialisers ∷ groups.Limits ∷ groups.Tokens ∷ groups.Types ∷ []
+tested = groups.Unsupported ∷ groups.Initialisers ∷ groups.Limits ∷ groups.Tokens ∷ groups.Ranges ∷ []
 
 -- No rule is broken, and the package is not of the form: that is not built yet.
 pub record IsNotBuilt (list : ListTree) (files : List (List ℕ)) : Type 0 where

@@ -142,7 +142,7 @@ fn convert_unbroken(
 ///
 /// The first broken rule: 101 or 102 of a class file, 103 of a method, 104 of an export file; else 201, 202, 203,
 /// 204, 207 or 208 of the classes and export files together; else 203, 205 or 206 of what instructions and catch types
-/// name; else 301 to 310, then 401 to 409 and 413; else 501 to 503 of a method; else 801 at the list where the package is
+/// name; else 301 to 310, then 401 to 409 and 413; else 501 to 503 of a method; else 601 to 609 of one; else 801 at the list where the package is
 /// not of the form that is converted so far.
 pub fn convert(alloc: Global, list: &List, files: &Row<Bytes>) -> Result<Converted, Fault>
     requires read { IsRead list.now }
@@ -156,7 +156,7 @@ pub fn convert(alloc: Global, list: &List, files: &Row<Bytes>) -> Result<Convert
         Group::Initialisers,
         Group::Limits,
         Group::Tokens,
-        Group::Types,
+        Group::Ranges,
     ];
     let judged = judge(alloc, list, files, &groups)?;
     convert_unbroken(alloc, list, files, &judged)

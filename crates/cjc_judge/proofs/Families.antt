@@ -20,11 +20,12 @@ use Rattle.cjc_subset.specs.Checks as checks
 use Rattle.cjc_subset.specs.Overriding.{is_inherited, method_against, class_against, kin_breaks, overriding_breaks}
 use Rattle.cjc_tokens.specs.Rules.{breaks_from, breaks_where, has_high_token, is_few, tested_breaks, token_breaks, at_class as token_at_class}
 use Rattle.cjc_world.specs.Exported.{is_exported}
+use Rattle.cjc_range_rules.proofs.Hundred.{of_sixth_hundred}
 use Rattle.cjc_types.specs.declared.state.State.{State}
 use Rattle.cjc_types.specs.Flow.{Body}
 use Rattle.cjc_types.specs.Rules.{Breaks, clash, wrong, off}
 use Rattle.cjc_judge.specs.declared.reading.Foreign.{Foreign}
-use Rattle.cjc_judge.specs.Rules.{foreign_break, foreign_breaks, BreaksType}
+use Rattle.cjc_judge.specs.Rules.{foreign_break, foreign_breaks, BreaksType, BreaksRange}
 use Rattle.cjc_judge.proofs.Each.{Each, each_none, each_more, each_append, each_at, each_of, each_code}
 
 -- ---- names
@@ -201,3 +202,11 @@ pub type_fifth : (files : Files) (code : MethodCode) (b : Break) → BreaksType 
 type_fifth files code b h =
     ap (λ (x : Break). x.rank.family) h.is
     ∙ type_rule _ _ _ _ _ h.breaks.first.breach.breaks
+
+-- ---- ranges
+
+-- 601 to 609 are of the sixth hundred
+pub range_sixth : (files : Files) (code : MethodCode) (b : Break) → BreaksRange files code b → b.rank.family ≡ 6
+range_sixth files code b h =
+    ap (λ (x : Break). x.rank.family) h.is
+    ∙ of_sixth_hundred files _ h.broken h.breaks

@@ -19,7 +19,7 @@ use Rattle.cjc_world.specs.Rules.{at_class, at_member, told, when, class_rules, 
 use Rattle.cjc_bytes.specs.Breaks.{Break, Among, IsFirst, Spot, broken_at, list_spot}
 use Rattle.cjc_judge.specs.Spelt.{FileTree, of_class, of_export, SpellsTree, SpellTrees, classes_of}
 use Rattle.cjc_clinit.specs.Rules.{BreaksImage, of_class, of_code}
-use Rattle.cjc_judge.specs.Rules.{FileBreach, no_class_file, no_instructions, no_export_file, file_rank, BreaksFile, files_spelt, AreWorld, BreaksWorld, BreaksNames, BreaksForeign, BreaksSubset, BreaksAnyType, BreaksTypes, BreaksTokens, BreaksInitialisers, BreaksGroup, AnyBreaks, foreign_breaks, settings_of, Breach, of_file, of_world, of_names, of_group, OnLevels, on_first, on_second, has_applets, IsFirstRefused, IsFirstBroken}
+use Rattle.cjc_judge.specs.Rules.{FileBreach, no_class_file, no_instructions, no_export_file, file_rank, BreaksFile, files_spelt, AreWorld, BreaksWorld, BreaksNames, BreaksForeign, BreaksSubset, BreaksAnyType, BreaksTypes, BreaksAnyRange, BreaksRanges, BreaksTokens, BreaksInitialisers, BreaksGroup, AnyBreaks, foreign_breaks, settings_of, Breach, of_file, of_world, of_names, of_group, OnLevels, on_first, on_second, has_applets, IsFirstRefused, IsFirstBroken}
 use Rattle.cjc_judge.specs.declared.groups.Group.{Group}
 use Rattle.cjc_judge.specs.declared.groups.Group.TheVariants as groups
 use Rattle.cjc_judge.specs.Working.Groups.{WorldBreaks}
@@ -32,7 +32,7 @@ use Rattle.cjc_subset.specs.Places.{at_class as at_spot}
 use Rattle.cjc_tokens.specs.Rules.{tested_breaks}
 use Rattle.cjc_tokens.specs.Rules as tokens
 use Rattle.cjc_judge.proofs.Each.{Each, each_none, each_more, each_append}
-use Rattle.cjc_judge.proofs.Families.{IsSecond, IsLanguage, names_second, foreigns_third, checks_language, tokens_fourth, type_fifth}
+use Rattle.cjc_judge.proofs.Families.{IsSecond, IsLanguage, names_second, foreigns_third, checks_language, tokens_fourth, type_fifth, range_sixth}
 use Rattle.cjc_judge.proofs.Files.{files_fine}
 
 -- ---- two groups
@@ -185,6 +185,9 @@ tokens_family list files b (trees, world, among) = (tokens_fourth (has_applets l
 types_family : (list : ListTree) (files : List (List ℕ)) (b : Break) → BreaksTypes list files b → b.rank.family ≡ 5
 types_family list files b (trees, world, (i, code, at, h)) = type_fifth (files_spelt list trees) code b h
 
+ranges_family : (list : ListTree) (files : List (List ℕ)) (b : Break) → BreaksRanges list files b → b.rank.family ≡ 6
+ranges_family list files b (trees, world, (i, code, at, h)) = range_sixth (files_spelt list trees) code b h
+
 initialisers_family : (list : ListTree) (files : List (List ℕ)) (b : Break) → BreaksInitialisers list files b → b.rank.family ≡ 3
 initialisers_family list files b (trees, world, of_class n c is h) = ap (λ (b : Break). b.rank.family) h.is
 initialisers_family list files b (trees, world, of_code i code at h) = ap (λ (b : Break). b.rank.family) h.is
@@ -197,6 +200,8 @@ late_family list files groups.Initialisers b h = let three = initialisers_family
 late_family list files groups.Limits b h = (subset_family list files b h).0
 late_family list files groups.Tokens b h = let four = tokens_family list files b h in omega (arith, four)
 late_family list files groups.Types b h = let five = types_family list files b h in omega (arith, five)
+late_family list files groups.Ranges b (inl h) = let five = types_family list files b h in omega (arith, five)
+late_family list files groups.Ranges b (inr h) = let six = ranges_family list files b h in omega (arith, six)
 
 behind_family : (list : ListTree) (files : List (List ℕ)) (tested : List Group) (b : Break) → Behind list files tested b → 3 ≤ b.rank.family
 behind_family list files tested b (i, g, at, h) = late_family list files g b h
@@ -307,6 +312,9 @@ module _ (list : ListTree) (files : List (List ℕ)) (tested : List Group) (tree
       of_checks a (us, world, among) =
           subst (λ (ts : List FileTree). Among a (check_breaks list.name (files_spelt list ts) (all_codes (classes_of ts)) (settings_of list))) (spelt_once us world.0) among
 
+      of_types : (a : Break) → BreaksTypes list files a → BreaksAnyType (files_spelt list trees) (all_codes (classes_of trees)) a
+      of_types a (us, world, h) = subst (λ (ts : List FileTree). BreaksAnyType (files_spelt list ts) (all_codes (classes_of ts)) a) (spelt_once us world.0) h
+
       are_world : AreWorld list files trees
       are_world = (all_spell list.lines files trees all, unbroken)
 
@@ -317,7 +325,9 @@ module _ (list : ListTree) (files : List (List ℕ)) (tested : List Group) (tree
       to_world groups.Initialisers a (us, world, h) = subst (λ (ts : List FileTree). BreaksImage (files_spelt list ts) (all_codes (classes_of ts)) a) (spelt_once us world.0) h
       to_world groups.Limits a h = of_checks a h
       to_world groups.Tokens a (us, world, among) = subst (λ (ts : List FileTree). Among a (tested_breaks (has_applets list) (files_spelt list ts))) (spelt_once us world.0) among
-      to_world groups.Types a (us, world, h) = subst (λ (ts : List FileTree). BreaksAnyType (files_spelt list ts) (all_codes (classes_of ts)) a) (spelt_once us world.0) h
+      to_world groups.Types a h = of_types a h
+      to_world groups.Ranges a (inl h) = inl (of_types a h)
+      to_world groups.Ranges a (inr (us, world, h)) = inr (subst (λ (ts : List FileTree). BreaksAnyRange (files_spelt list ts) (all_codes (classes_of ts)) a) (spelt_once us world.0) h)
 
       from_world : (g : Group) (a : Break) → Here g a → BreaksGroup list files g a
       from_world groups.Unsupported a i = (trees, all_spell list.lines files trees all, i)
@@ -326,6 +336,8 @@ module _ (list : ListTree) (files : List (List ℕ)) (tested : List Group) (tree
       from_world groups.Limits a i = (trees, are_world, i)
       from_world groups.Tokens a i = (trees, are_world, i)
       from_world groups.Types a h = (trees, are_world, h)
+      from_world groups.Ranges a (inl h) = inl (trees, are_world, h)
+      from_world groups.Ranges a (inr h) = inr (trees, are_world, h)
 
       abbrev HereAny : Break → Type 0
       HereAny = AnyBreaks Here tested

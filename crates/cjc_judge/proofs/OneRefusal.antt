@@ -12,15 +12,16 @@ use Rattle.cjc_classfile.specs.declared.tree.ClassTree.{ClassTree}
 use Rattle.cjc_code.specs.PackageCodes.{all_codes}
 use Rattle.cjc_export.specs.ExportFile.{export_file}
 use Rattle.cjc_list.specs.Listed.{ListTree}
+use Rattle.cjc_range_rules.specs.OutOfRange.{IsOutOfRange}
 use Rattle.cjc_judge.specs.Codes.{all_foreigns}
-use Rattle.cjc_judge.specs.Rules.{FileBreach, no_class_file, no_instructions, no_export_file, file_rank, file_refusal, code_refusal, method_rank, BreaksFile, BreaksWorld, BreaksNames, BreaksGroup, files_spelt, settings_of, has_applets, Breach, of_file, of_world, of_names, of_group, OnLevels, on_first, on_second, IsFirstRefused, IsFirstBroken}
+use Rattle.cjc_judge.specs.Rules.{FileBreach, no_class_file, no_instructions, no_export_file, file_rank, file_refusal, code_refusal, method_rank, BreaksFile, BreaksWorld, BreaksNames, HasWrongTypes, BreaksGroup, files_spelt, settings_of, has_applets, Breach, of_file, of_world, of_names, of_group, OnLevels, on_first, on_second, IsFirstRefused, IsFirstBroken}
 use Rattle.cjc_judge.specs.Spelt.{FileTree, of_class, of_export, SpellTrees, classes_of}
 use Rattle.cjc_judge.specs.declared.groups.Group.{Group}
 use Rattle.cjc_judge.specs.declared.groups.Group.TheVariants as groups
 use Rattle.cjc_judge.proofs.Firsts.{file_family, world_family, names_family, late_family, one_spelling}
 use Rattle.cjc_judge.proofs.Places.{IsTold, place_at, class_files}
 use Rattle.cjc_judge.proofs.ToldWorld.{world_told}
-use Rattle.cjc_judge.proofs.ToldRules.{image_told, names_told, foreigns_told, checks_told, tokens_told, type_told}
+use Rattle.cjc_judge.proofs.ToldRules.{image_told, names_told, foreigns_told, checks_told, tokens_told, method_told}
 
 -- ---- the rules of one file
 
@@ -100,7 +101,11 @@ module _ (list : ListTree) (files : List (List ℕ)) where
   group_spelt groups.Tokens b (trees, world, among) =
       (trees, world.0, (tokens_told list.name (files_spelt list trees) (class_lines list.lines files trees world.0) (has_applets list)).holds b among)
   group_spelt groups.Types b (trees, world, (i, code, at, h)) =
-      (trees, world.0, type_told list.name (files_spelt list trees) (class_lines list.lines files trees world.0) code b h)
+      (trees, world.0, method_told list.name (files_spelt list trees) (class_lines list.lines files trees world.0) HasWrongTypes code b h)
+  group_spelt groups.Ranges b (inl (trees, world, (i, code, at, h))) =
+      (trees, world.0, method_told list.name (files_spelt list trees) (class_lines list.lines files trees world.0) HasWrongTypes code b h)
+  group_spelt groups.Ranges b (inr (trees, world, (i, code, at, h))) =
+      (trees, world.0, method_told list.name (files_spelt list trees) (class_lines list.lines files trees world.0) IsOutOfRange code b h)
 
   one_told : (a b : Break) → IsSpelt list files a → IsSpelt list files b → a.rank ≡ b.rank → a.refusal ≡ b.refusal
   one_told a b (ts, spelt, told) (us, spelt', told') e =

@@ -1,6 +1,6 @@
 -- Type tables, one method after the other.
-use Rattle.std.proofs.Common.{◌≡◌, ℕ, ◌+◌, ◌<◌, ◌≤◌, List, [], ◌∷◌, ◌++◌, Option, Some, None, IfNone, length, get_or, take, refl, sym, ap, subst}
-use Rattle.std.specs.Prelude.{option_map}
+use Rattle.std.proofs.Common.{◌≡◌, ℕ, zero, suc, ◌+◌, ◌<◌, ◌≤◌, List, [], ◌∷◌, ◌++◌, Option, Some, None, IfNone, length, get_or, take, refl, sym, ap, subst, arith}
+use Rattle.std.specs.Prelude.{option_map, slice_get}
 use Rattle.std.proofs.lemmas.List.{take_all}
 use Rattle.cjc_code.specs.declared.method_code.MethodCode.{MethodCode}
 use Rattle.cjc_bytes.specs.Breaks.{IsFirstOf}
@@ -12,7 +12,7 @@ use Rattle.cjc_judge.specs.Types.{IsTableOf, AreTables}
 use Rattle.cjc_judge.specs.Working.Groups.{PutsTable}
 use Rattle.cjc_bytes.proofs.Firsts.{among_left, among_right}
 use Rattle.cjc_judge.proofs.Firsts.{none_among}
-use Rattle.cjc_judge.proofs.Items.{front_more}
+use Rattle.cjc_judge.proofs.Items.{item_at, front_more}
 
 -- ---- where nothing is broken
 
@@ -64,6 +64,28 @@ more_tables world codes i code old new lt is h (table, e, here) =
 -- all of them
 pub all_tables : (world : Files) (codes : List MethodCode) (i : ℕ) (tables : List TypeTable) → length codes ≤ i → AreTables world (take i codes) tables → AreTables world codes tables
 all_tables world codes i tables low h = subst (λ (cs : List MethodCode). AreTables world cs tables) (take_all i codes low) h
+
+-- as many as there are codes
+pub tables_sized : (world : Files) (codes : List MethodCode) (tables : List TypeTable) → AreTables world codes tables → length tables ≡ length codes
+tables_sized world [] tables h = ap (λ (ts : List TypeTable). length ts) h
+tables_sized world (c ∷ cs) [] h = absurd h
+tables_sized world (c ∷ cs) (t ∷ ts) h = ap suc (tables_sized world cs ts h.1)
+
+-- the table of the method at a place
+pub table_at : (world : Files) (codes : List MethodCode) (tables : List TypeTable) (i : ℕ) (code : MethodCode) (table : TypeTable) → AreTables world codes tables → slice_get codes i ≡ Some code → slice_get tables i ≡ Some table → IsTableOf world code table
+table_at world [] tables i code table h e f = absurd cc
+table_at world (c ∷ cs) [] i code table h e f = absurd h
+table_at world (c ∷ cs) (t ∷ ts) zero code table h e f =
+    let same_code : c ≡ code = cc in
+    let same_table : t ≡ table = cc in
+    subst (λ x. IsTableOf world x table) same_code (subst (IsTableOf world c) same_table h.0)
+table_at world (c ∷ cs) (t ∷ ts) (suc i) code table h e f = table_at world cs ts i code table h.1 e f
+
+-- that which is read there
+pub table_of : (world : Files) (codes : List MethodCode) (tables : List TypeTable) (i : ℕ) (code : MethodCode) (table : TypeTable) → AreTables world codes tables → i < length codes → code ≡ get_or codes i code → table ≡ get_or tables i table → IsTableOf world code table
+table_of world codes tables i code table h lt is_code is_table =
+    let sized = tables_sized world codes tables h in
+    table_at world codes tables i code table h (item_at codes i code lt is_code) (item_at tables i table (omega (arith, sized, lt)) is_table)
 
 -- ---- what is answered
 

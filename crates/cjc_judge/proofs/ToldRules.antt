@@ -1,8 +1,10 @@
--- What is told of the rules of names, of the language of the card, of limits, of tokens and of types.
+-- What is told of the rules of names, of the language of the card, of limits, of tokens, of types and of ranges.
 use Rattle.std.proofs.Common.{◌≡◌, ℕ, suc, ◌+◌, Bool, true, false, List, [], ◌∷◌, length, Some, refl, sym, ap, subst, ◌∙◌, arith}
 use Rattle.std.specs.Prelude.{slice_get, if◌then◌else◌}
 use Rattle.std.proofs.lemmas.Option.{slice_get_within}
+use Rattle.cjc_bytes.specs.declared.breaks.BrokenAt.{BrokenAt}
 use Rattle.cjc_bytes.specs.declared.settings.Settings.{Settings}
+use Rattle.cjc_types.specs.Flow.{Body}
 use Rattle.cjc_bytes.specs.Breaks.{Break, at, broken_at, each, list_spot}
 use Rattle.cjc_bytes.specs.Order.{FilePlace, file_of}
 use Rattle.cjc_classfile.specs.declared.tree.Catch.{Catch}
@@ -21,7 +23,7 @@ use Rattle.cjc_world.specs.Exported.{is_exported}
 use Rattle.cjc_world.specs.Files.{Files}
 use Rattle.cjc_clinit.specs.Rules.{BreaksImage, of_class, of_code}
 use Rattle.cjc_judge.specs.declared.reading.Foreign.{Foreign}
-use Rattle.cjc_judge.specs.Rules.{foreign_break, foreign_breaks, BreaksType}
+use Rattle.cjc_judge.specs.Rules.{foreign_break, foreign_breaks, BreaksMethod}
 use Rattle.cjc_judge.proofs.Each.{Each, each_none, each_more, each_append, each_at, each_of, each_code}
 use Rattle.cjc_judge.proofs.Places.{IsTold, IsFileOf, class_files, file_is_of, told_list, told_at_class, told_at_field, told_at_method}
 
@@ -185,8 +187,8 @@ module _ (list : List ℕ) (files : Files) (counted : length files.classes ≡ c
       subst Told (sym h.is)
       (told_at_method list files code.class h.class (file_of files.lines code.class) (there code.class h.class h.is_class) code.method h.method h.is_method h.offset 308)
 
-  -- 501 to 503
-  pub type_told : (code : MethodCode) (b : Break) → BreaksType files code b → Told b
-  type_told code b h =
+  -- 501 to 503, 601 to 609
+  pub method_told : (Breaks : Files → Body → BrokenAt → Type 0) (code : MethodCode) (b : Break) → BreaksMethod Breaks files code b → Told b
+  method_told Breaks code b h =
       subst Told (sym h.is)
       (told_at_method list files code.class h.class (file_of files.lines code.class) (there code.class h.class h.of_package.is_class) code.method h.method h.of_package.is_method h.broken.offset h.broken.rule)

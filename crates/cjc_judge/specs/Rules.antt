@@ -29,8 +29,9 @@ use Rattle.cjc_subset.specs.Checks.{check_breaks}
 use Rattle.cjc_clinit.specs.Rules.{BreaksImage}
 use Rattle.cjc_tokens.specs.Rules.{tested_breaks}
 use Rattle.cjc_subset.specs.Places.{at_method, of_code}
-use Rattle.cjc_types.specs.Flow.{body_of}
+use Rattle.cjc_types.specs.Flow.{Body, body_of}
 use Rattle.cjc_types.specs.Tables.{IsMethodOf, IsBrokenBy}
+use Rattle.cjc_range_rules.specs.OutOfRange.{IsOutOfRange}
 use Rattle.cjc_code.specs.PackageCodes.{all_codes}
 use Rattle.cjc_judge.specs.Codes.{all_foreigns}
 use Rattle.cjc_judge.specs.declared.groups.Group.{Group}
@@ -144,24 +145,42 @@ BreaksInitialisers list files b = (trees : List FileTree) × AreWorld list files
 abbrev pub AnyBreaks : {A : Type 0} → (A → Break → Type 0) → List A → Break → Type 0
 AnyBreaks {A} Breaks xs b = (i : ℕ) × (x : A) × (slice_get xs i ≡ Some x) × Breaks x b
 
--- 501 to 503: a method breaks the first of them at the first of its instructions that breaks one
-abbrev pub type_break : Files → MethodCode → ClassTree → MethodTree → BrokenAt → Break
-type_break files code class method x = broken_at (at_method (file_of files.lines code.class) class code.method method x.offset) x.rule
+-- A method breaks this at an instruction.
+abbrev pub method_break : Files → MethodCode → ClassTree → MethodTree → BrokenAt → Break
+method_break files code class method x = broken_at (at_method (file_of files.lines code.class) class code.method method x.offset) x.rule
 
-pub record BreaksType (files : Files) (code : MethodCode) (b : Break) : Type 0 where
+-- The first that a method breaks of some rules, by what its body breaks in the package.
+pub record BreaksMethod (Breaks : Files → Body → BrokenAt → Type 0) (files : Files) (code : MethodCode) (b : Break) : Type 0 where
   pub class : ClassTree
   pub method : MethodTree
   pub tree : CodeTree
   pub of_package : IsMethodOf files code class method tree
   pub broken : BrokenAt
-  pub breaks : IsBrokenBy (all_classes files) (body_of class method tree code.insns) broken
-  pub is : b ≡ type_break files code class method broken
+  pub breaks : Breaks files (body_of class method tree code.insns) broken
+  pub is : b ≡ method_break files code class method broken
+
+-- 501 to 503: a method breaks the first of them at the first of its instructions that breaks one
+abbrev pub HasWrongTypes : Files → Body → BrokenAt → Type 0
+HasWrongTypes files b broken = IsBrokenBy (all_classes files) b broken
+
+abbrev pub BreaksType : Files → MethodCode → Break → Type 0
+BreaksType files code b = BreaksMethod HasWrongTypes files code b
 
 abbrev pub BreaksAnyType : Files → List MethodCode → Break → Type 0
 BreaksAnyType files codes b = AnyBreaks (BreaksType files) codes b
 
 abbrev pub BreaksTypes : ListTree → List (List ℕ) → Break → Type 0
 BreaksTypes list files b = (trees : List FileTree) × AreWorld list files trees × BreaksAnyType (files_spelt list trees) (all_codes (classes_of trees)) b
+
+-- 601 to 609: a method that breaks none of 501 to 503 breaks the first of them at the first of its instructions that breaks one
+abbrev pub BreaksRange : Files → MethodCode → Break → Type 0
+BreaksRange files code b = BreaksMethod IsOutOfRange files code b
+
+abbrev pub BreaksAnyRange : Files → List MethodCode → Break → Type 0
+BreaksAnyRange files codes b = AnyBreaks (BreaksRange files) codes b
+
+abbrev pub BreaksRanges : ListTree → List (List ℕ) → Break → Type 0
+BreaksRanges list files b = (trees : List FileTree) × AreWorld list files trees × BreaksAnyRange (files_spelt list trees) (all_codes (classes_of trees)) b
 
 -- ---- groups that a command names
 
@@ -173,6 +192,7 @@ BreaksGroup list files groups.Initialisers b = BreaksInitialisers list files b
 BreaksGroup list files groups.Limits b = BreaksSubset list files b
 BreaksGroup list files groups.Tokens b = BreaksTokens list files b
 BreaksGroup list files groups.Types b = BreaksTypes list files b
+BreaksGroup list files groups.Ranges b = BreaksTypes list files b ⊎ BreaksRanges list files b
 
 -- ---- all rules
 

@@ -1,5 +1,6 @@
 -- The types of the methods of a package, where they were asked for.
-use Rattle.std.specs.Prelude.{◌≡◌, ℕ, List, [], ◌∷◌, Some, slice_get}
+use Rattle.std.specs.Prelude.{◌≡◌, Bool, true, false, List, [], ◌∷◌}
+use Rattle.std.specs.List.{list_any}
 use Rattle.cjc_classfile.specs.Code.{CodeTree}
 use Rattle.cjc_classfile.specs.declared.tree.ClassTree.{ClassTree}
 use Rattle.cjc_classfile.specs.declared.tree.MethodTree.{MethodTree}
@@ -24,6 +25,18 @@ AreTables world [] tables = tables ≡ []
 AreTables world (code ∷ codes) [] = ⊥
 AreTables world (code ∷ codes) (table ∷ tables) = IsTableOf world code table × AreTables world codes tables
 
--- Where types are among the groups, there are tables.
+-- ---- which groups ask for them
+
+-- ranges are found over types
+abbrev pub asks_types : Group → Bool
+asks_types groups.Types = true
+asks_types groups.Ranges = true
+asks_types _ = false
+
+abbrev pub asks_ranges : Group → Bool
+asks_ranges groups.Ranges = true
+asks_ranges _ = false
+
+-- Where one of the groups asks for types, there are tables.
 abbrev pub AreTablesWhereNamed : List Group → Files → List MethodCode → List TypeTable → Type 0
-AreTablesWhereNamed tested world codes tables = (i : ℕ) → slice_get tested i ≡ Some groups.Types → AreTables world codes tables
+AreTablesWhereNamed tested world codes tables = list_any asks_types tested ≡ true → AreTables world codes tables

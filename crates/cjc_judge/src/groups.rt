@@ -17,4 +17,6 @@ pub enum Group {
     Tokens,
     /// 501 to 503: types of operands.
     Types,
+    /// 601 to 609: ranges of operands, and with them types.
+    Ranges,
 }

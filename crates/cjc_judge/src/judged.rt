@@ -28,7 +28,7 @@ pub struct Judged<'a> {
     pub world: World<'a>,
     /// The instructions of its methods, in the order of the classes and of their methods.
     pub codes: Codes,
-    /// The types of each of these methods, where types were tested.
+    /// The types of each of these methods, where types or ranges were tested.
     pub types: Row<TypeTable>,
 }
 

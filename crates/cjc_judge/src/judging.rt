@@ -1,21 +1,27 @@
 //! The groups of rules that are tested over the world of a package, behind those of names: what the language of the card
-//! leaves out, limits, tokens, and types. Called by judged.rt.
+//! leaves out, limits, tokens, types, and ranges. Called by judged.rt.
 
 ghost use Rattle.std.specs.Prelude.{◌≡◌, ◌≤◌, All, IfOk, IfErr, IfNone, OnOk, [], List as Items, length, nat_lt, option_map};
 ghost use Rattle.cjc_bytes.specs.Told.{break_of};
 ghost use Rattle.cjc_bytes.specs.Breaks.{Among, IsFirstOf, Break as Broken};
-ghost use Rattle.cjc_types.specs.Tables.{IsOfPackage};
+ghost use Rattle.cjc_classfile.specs.Code.{CodeTree};
+ghost use Rattle.cjc_classfile.specs.declared.tree.ClassTree.{ClassTree};
+ghost use Rattle.cjc_classfile.specs.declared.tree.MethodTree.{MethodTree};
+ghost use Rattle.cjc_types.specs.Tables.{IsMethodOf, IsOfPackage};
 ghost use Rattle.cjc_tokens.specs.Rules.{tested_breaks};
-ghost use Rattle.cjc_judge.specs.Rules.{foreign_break, foreign_breaks, settings_of, BreaksType, BreaksAnyType, IsFirstIn, IsFirstFault, IsOfThirdHundred};
-ghost use Rattle.cjc_judge.specs.Types.{AreTables, AreTablesWhereNamed};
+ghost use Rattle.cjc_judge.specs.Rules.{foreign_break, foreign_breaks, settings_of, method_break, BreaksType, BreaksAnyType, BreaksRange, BreaksAnyRange, IsFirstIn, IsFirstFault, IsOfThirdHundred};
+ghost use Rattle.cjc_judge.specs.Types.{AreTables, AreTablesWhereNamed, IsTableOf, asks_ranges, asks_types};
 ghost use Rattle.std.specs.List.{list_any};
-ghost use Rattle.cjc_judge.specs.Working.Groups.{EarlyBreaks, EarlyBreaksAny, NamedTypeBreaks, WorldBreaksAny, PutsTable, is_types as is_types_group};
+ghost use Rattle.cjc_judge.specs.Working.Groups.{EarlyBreaks, EarlyBreaksAny, NamedTypeBreaks, NamedRangeBreaks, WorldBreaksAny, PutsTable};
 
 use crate::groups::Group;
 use crate::reading::Foreign;
-use cjc_bytes::{AppletLine, Break, Bytes, Fault, NoMemory, Row, Settings, answer, file_of, first};
+use cjc_bytes::{
+    AppletLine, Break, BrokenAt, Bytes, Fault, NoMemory, Row, Settings, answer, file_of, first,
+};
 use cjc_code::{Codes, MethodCode};
 use cjc_list::List;
+use cjc_range_rules::first_out_of_range;
 use cjc_subset::{class_spot, first_broken, method_spot};
 use cjc_tokens::first_high;
 use cjc_types::{InferError, TypeTable, infer_method};
@@ -96,6 +102,22 @@ fn tokens_break<'w>(
     }
 }
 
+// What a method breaks at an instruction, with its place.
+fn method_break<'w>(world: &'w World<'_>, code: &MethodCode, broken: BrokenAt) -> Break<'w>
+    requires { IsOfPackage world.now code.now }
+    ensures { (c : ClassTree) (m : MethodTree) (t : CodeTree) → IsMethodOf world.now code.now c m t → break_of result ≡ method_break world.now code.now c m broken }
+{
+    let class = &world.classes().items()[code.class as usize];
+    let place = code.method as usize;
+    let method = &class.methods.items()[place];
+    let file = file_of(world.lines().items(), code.class as usize);
+    let spot = class_spot(file, class);
+    Break {
+        rule: broken.rule,
+        spot: method_spot(spot, class, place, method, broken.offset),
+    }
+}
+
 // What of 501 to 503 a method breaks. Where it breaks none its types are put behind those that there are.
 fn type_break<'w>(
     alloc: Global,
@@ -107,22 +129,12 @@ fn type_break<'w>(
     ensures first { IfOk result (λ b. IsFirstIn (BreaksType world.now code.now) (option_map break_of b)) }
     ensures types { IfOk result (λ b. IfNone b (PutsTable world.now code.now types.old types.new)) }
 {
-    let class = &world.classes().items()[code.class as usize];
-    let place = code.method as usize;
-    let method = &class.methods.items()[place];
-    let file = file_of(world.lines().items(), code.class as usize);
     match infer_method(alloc, world, code) {
         Ok(table) => {
             types.push(table)?;
             Ok(None)
         }
-        Err(InferError::Broken(broken)) => {
-            let spot = class_spot(file, class);
-            Ok(Some(Break {
-                rule: broken.rule,
-                spot: method_spot(spot, class, place, method, broken.offset),
-            }))
-        }
+        Err(InferError::Broken(broken)) => Ok(Some(method_break(world, code, broken))),
         Err(InferError::NoMemory) => Err(NoMemory),
     }
 }
@@ -147,6 +159,42 @@ fn types_break<'w>(
     Ok(least)
 }
 
+// What of 601 to 609 a method breaks that has these types.
+fn range_break<'w>(
+    alloc: Global,
+    world: &'w World<'_>,
+    code: &MethodCode,
+    types: &TypeTable,
+) -> Result<Option<Break<'w>>, NoMemory>
+    requires code { IsOfPackage world.now code.now }
+    requires types { IsTableOf world.now code.now types.now }
+    ensures { IfOk result (λ b. IsFirstIn (BreaksRange world.now code.now) (option_map break_of b)) }
+{
+    match first_out_of_range(alloc, world, code, types)? {
+        Some(broken) => Ok(Some(method_break(world, code, broken))),
+        None => Ok(None),
+    }
+}
+
+// The first of the methods that break one of 601 to 609, where these are the types of all.
+fn ranges_break<'w>(
+    alloc: Global,
+    world: &'w World<'_>,
+    codes: &[MethodCode],
+    types: &[TypeTable],
+) -> Result<Option<Break<'w>>, NoMemory>
+    requires codes { All (IsOfPackage world.now) codes.now }
+    requires types { AreTables world.now codes.now types.now }
+    ensures { IfOk result (λ b. IsFirstIn (BreaksAnyRange world.now codes.now) (option_map break_of b)) }
+{
+    let mut least = None;
+    for (place, code) in codes.iter().enumerate() {
+        let broken = range_break(alloc, world, code, &types[place])?;
+        least = first(least, broken);
+    }
+    Ok(least)
+}
+
 // Of the first that is broken of 301 to 310 and 401 to 409, what is of the third hundred.
 fn of_third_hundred<'w>(broken: Option<Break<'w>>) -> Option<Break<'w>>
     ensures { (bs : Items Broken) → IsFirstOf bs (option_map break_of broken.entry) → ((b : Broken) → Among b bs → 3 ≤ b.rank.family) → IsFirstIn (λ b. Among b bs × IsOfThirdHundred b) (option_map break_of result) }
@@ -163,7 +211,8 @@ fn of_third_hundred<'w>(broken: Option<Break<'w>>) -> Option<Break<'w>>
     }
 }
 
-// What of a group is broken first. Types are left to `named_types`: every rule of another group stands before theirs.
+// What of a group is broken first. Types and ranges are left to `named_types` and `test_ranges`: every rule of another group
+// stands before theirs.
 fn group_break<'w>(
     alloc: Global,
     list: &'w List,
@@ -186,11 +235,11 @@ fn group_break<'w>(
         Group::Initialisers => cjc_clinit::first_broken(alloc, world, codes),
         Group::Limits => first_broken(alloc, list.name.items(), world, codes, settings),
         Group::Tokens => tokens_break(alloc, world, settings),
-        Group::Types => Ok(None),
+        Group::Types | Group::Ranges => Ok(None),
     }
 }
 
-// What of some groups is broken first, but for types.
+// What of some groups is broken first, but for types and ranges.
 fn groups_break<'w>(
     alloc: Global,
     list: &'w List,
@@ -211,28 +260,49 @@ fn groups_break<'w>(
     Ok(least)
 }
 
-fn is_types(group: Group) -> bool
-    ensures { result ≡ is_types_group group }
+fn asks_types(group: Group) -> bool
+    ensures { result ≡ asks_types group }
 {
     match group {
-        Group::Types => true,
+        Group::Types | Group::Ranges => true,
         _ => false,
     }
 }
 
-// Whether types are among the groups.
-fn has_types(groups: &[Group]) -> bool
-    ensures { result ≡ list_any is_types_group groups.now }
+fn asks_ranges(group: Group) -> bool
+    ensures { result ≡ asks_ranges group }
+{
+    match group {
+        Group::Ranges => true,
+        _ => false,
+    }
+}
+
+// Whether one of the groups asks for types.
+fn any_asks_types(groups: &[Group]) -> bool
+    ensures { result ≡ list_any asks_types groups.now }
 {
     for group in groups {
-        if is_types(*group) {
+        if asks_types(*group) {
             return true;
         }
     }
     false
 }
 
-// The types of all methods, where types are among the groups.
+// Whether one of the groups asks for ranges.
+fn any_asks_ranges(groups: &[Group]) -> bool
+    ensures { result ≡ list_any asks_ranges groups.now }
+{
+    for group in groups {
+        if asks_ranges(*group) {
+            return true;
+        }
+    }
+    false
+}
+
+// The types of all methods, where one of the groups asks for them.
 fn named_types(
     alloc: Global,
     world: &World<'_>,
@@ -245,7 +315,7 @@ fn named_types(
     ensures refused { IfErr result (IsFirstFault (NamedTypeBreaks world.now codes.now groups.now)) }
 {
     let mut types = Row::new(alloc);
-    if !has_types(groups) {
+    if !any_asks_types(groups) {
         return Ok(types);
     }
     let broken = types_break(alloc, world, codes.items(), &mut types)?;
@@ -253,9 +323,30 @@ fn named_types(
     Ok(types)
 }
 
+// Tests the ranges of all methods, where one of the groups asks for them.
+fn test_ranges(
+    alloc: Global,
+    world: &World<'_>,
+    codes: &Codes,
+    types: &Row<TypeTable>,
+    groups: &[Group],
+) -> Result<(), Fault>
+    requires codes { All (IsOfPackage world.now) codes.now }
+    requires types { AreTablesWhereNamed groups.now world.now codes.now types.now }
+    ensures unbroken { OnOk result ((b : Broken) → NamedRangeBreaks world.now codes.now groups.now b → ⊥) }
+    ensures refused { IfErr result (IsFirstFault (NamedRangeBreaks world.now codes.now groups.now)) }
+{
+    if !any_asks_ranges(groups) {
+        return Ok(());
+    }
+    let broken = ranges_break(alloc, world, codes.items(), types.items())?;
+    answer(alloc, broken)
+}
+
 /// Tests a world, whose methods have these codes and break 303 at these places, for groups of rules. A refusal is the first of
-/// what is broken; else these are the types of all methods, where types are among the groups. They are inferred only where no
-/// other rule is broken, so that what inference costs is bounded by the limits of methods.
+/// what is broken; else these are the types of all methods, where a group asks for them. They are inferred only where no
+/// other rule is broken, so that what inference costs is bounded by the limits of methods; and ranges are found over types
+/// that break no rule.
 pub(crate) fn test(
     alloc: Global,
     list: &List,
@@ -271,5 +362,7 @@ pub(crate) fn test(
 {
     let broken = groups_break(alloc, list, world, codes, foreigns, groups)?;
     answer(alloc, broken)?;
-    named_types(alloc, world, codes, groups)
+    let types = named_types(alloc, world, codes, groups)?;
+    test_ranges(alloc, world, codes, &types, groups)?;
+    Ok(types)
 }

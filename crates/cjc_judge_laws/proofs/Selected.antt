@@ -109,7 +109,7 @@ module _ (list : ListTree) (files : List (List ℕ)) (judged : Judged) (is : IsT
 
   module _ (code : MethodCode) (class : ClassTree) (method : MethodTree) (tree : CodeTree) (table : TypeTable) (one : IsOne judged code class method tree table) where
     types : IsTypeTable (all_classes judged.world) (body_of class method tree code.insns) table
-    types = both_at (IsTableOf judged.world) judged.codes judged.types one.place code table (tables_both judged.world judged.codes judged.types (is.judged_by.types is.types.0 is.types.1)) one.is_code one.is_table class method tree one.is_method
+    types = both_at (IsTableOf judged.world) judged.codes judged.types one.place code table (tables_both judged.world judged.codes judged.types (is.judged_by.types is.types)) one.is_code one.is_table class method tree one.is_method
 
     least : IsLeastTable (body_of class method tree code.insns) (states code class method tree table)
     least = types.stands.least

@@ -1,6 +1,6 @@
 -- Packages that were tested for the rules that selection rests on, and their methods with their types.
-use Rattle.std.specs.Prelude.{◌≡◌, ℕ, ◌≤◌, ◌<◌, ◌^◌, List, length, slice_get, Some, false, Option}
-use Rattle.std.specs.List.{AllByRecursion}
+use Rattle.std.specs.Prelude.{◌≡◌, ℕ, ◌≤◌, ◌<◌, ◌^◌, List, length, slice_get, Some, true, false, Option}
+use Rattle.std.specs.List.{AllByRecursion, list_any}
 use Rattle.cjc_classfile.specs.Code.{CodeTree}
 use Rattle.cjc_classfile.specs.declared.tree.ClassTree.{ClassTree}
 use Rattle.cjc_classfile.specs.declared.tree.MethodTree.{MethodTree}
@@ -9,6 +9,7 @@ use Rattle.cjc_judge.specs.declared.groups.Group.{Group}
 use Rattle.cjc_judge.specs.declared.groups.Group.TheVariants as groups
 use Rattle.cjc_judge.specs.declared.judged.Judged.{Judged}
 use Rattle.cjc_judge.specs.Judged.{IsJudged}
+use Rattle.cjc_judge.specs.Types.{asks_types}
 use Rattle.cjc_list.specs.Listed.{ListTree}
 use Rattle.cjc_types.specs.declared.state.State.{State}
 use Rattle.cjc_types.specs.declared.table.TypeTable.{TypeTable}
@@ -24,7 +25,7 @@ pub record IsTested (list : ListTree) (files : List (List ℕ)) (judged : Judged
   pub tested : List Group
   pub judged_by : IsJudged list files tested judged
   pub limits : (i : ℕ) × (slice_get tested i ≡ Some groups.Limits)
-  pub types : (i : ℕ) × (slice_get tested i ≡ Some groups.Types)
+  pub types : list_any asks_types tested ≡ true
   pub are_files : AreFiles files
   pub no_int : list.ints ≡ false
 

@@ -1,5 +1,6 @@
 -- What a world breaks of each group, and which types are kept.
-use Rattle.std.specs.Prelude.{◌≡◌, ℕ, Bool, true, false, List, [], ◌∷◌, ◌++◌, Some, slice_get}
+use Rattle.std.specs.Prelude.{◌≡◌, ◌⊎◌, true, List, [], ◌∷◌, ◌++◌}
+use Rattle.std.specs.List.{list_any}
 use Rattle.cjc_code.specs.declared.method_code.MethodCode.{MethodCode}
 use Rattle.cjc_list.specs.Listed.{ListTree}
 use Rattle.cjc_subset.specs.Checks.{check_breaks}
@@ -11,8 +12,8 @@ use Rattle.cjc_bytes.specs.Breaks.{Break, Among}
 use Rattle.cjc_judge.specs.declared.groups.Group.{Group}
 use Rattle.cjc_judge.specs.declared.groups.Group.TheVariants as groups
 use Rattle.cjc_judge.specs.declared.reading.Foreign.{Foreign}
-use Rattle.cjc_judge.specs.Types.{IsTableOf}
-use Rattle.cjc_judge.specs.Rules.{foreign_breaks, settings_of, has_applets, IsOfThirdHundred, BreaksAnyType, AnyBreaks}
+use Rattle.cjc_judge.specs.Types.{asks_types, asks_ranges, IsTableOf}
+use Rattle.cjc_judge.specs.Rules.{foreign_breaks, settings_of, has_applets, IsOfThirdHundred, BreaksAnyType, BreaksAnyRange, AnyBreaks}
 
 -- one line a group: the methods of the world have these codes, and these break 303
 abbrev pub WorldBreaks : ListTree → Files → List MethodCode → List Foreign → Group → Break → Type 0
@@ -22,16 +23,13 @@ WorldBreaks list world codes foreigns groups.Initialisers b = BreaksImage world 
 WorldBreaks list world codes foreigns groups.Limits b = Among b (check_breaks list.name world codes (settings_of list))
 WorldBreaks list world codes foreigns groups.Tokens b = Among b (tested_breaks (has_applets list) world)
 WorldBreaks list world codes foreigns groups.Types b = BreaksAnyType world codes b
+WorldBreaks list world codes foreigns groups.Ranges b = BreaksAnyType world codes b ⊎ BreaksAnyRange world codes b
 
 -- of some one of these groups
 abbrev pub WorldBreaksAny : ListTree → Files → List MethodCode → List Foreign → List Group → Break → Type 0
 WorldBreaksAny list world codes foreigns tested b = AnyBreaks (WorldBreaks list world codes foreigns) tested b
 
--- ---- types are tested last
-
-abbrev pub is_types : Group → Bool
-is_types groups.Types = true
-is_types _ = false
+-- ---- types are tested behind all others, and ranges behind types
 
 -- what is broken of a group before types are tested
 abbrev pub EarlyBreaks : ListTree → Files → List MethodCode → List Foreign → Group → Break → Type 0
@@ -41,14 +39,19 @@ EarlyBreaks list world codes foreigns groups.Initialisers b = BreaksImage world 
 EarlyBreaks list world codes foreigns groups.Limits b = Among b (check_breaks list.name world codes (settings_of list))
 EarlyBreaks list world codes foreigns groups.Tokens b = Among b (tested_breaks (has_applets list) world)
 EarlyBreaks list world codes foreigns groups.Types b = ⊥
+EarlyBreaks list world codes foreigns groups.Ranges b = ⊥
 
 -- of some one of these groups
 abbrev pub EarlyBreaksAny : ListTree → Files → List MethodCode → List Foreign → List Group → Break → Type 0
 EarlyBreaksAny list world codes foreigns tested b = AnyBreaks (EarlyBreaks list world codes foreigns) tested b
 
--- what is broken of types, where they are among these groups
+-- what is broken of types, where some one of these groups asks for them
 abbrev pub NamedTypeBreaks : Files → List MethodCode → List Group → Break → Type 0
-NamedTypeBreaks world codes tested b = (i : ℕ) × (slice_get tested i ≡ Some groups.Types) × BreaksAnyType world codes b
+NamedTypeBreaks world codes tested b = (list_any asks_types tested ≡ true) × BreaksAnyType world codes b
+
+-- what is broken of ranges, likewise
+abbrev pub NamedRangeBreaks : Files → List MethodCode → List Group → Break → Type 0
+NamedRangeBreaks world codes tested b = (list_any asks_ranges tested ≡ true) × BreaksAnyRange world codes b
 
 -- the types of one method more
 abbrev pub PutsTable : Files → MethodCode → (old new : List TypeTable) → Type 0

@@ -1,3 +1,4 @@
+use Rattle.std.proofs.Common.{inl, inr}
 use Rattle.std.specs.Prelude.{option_map}
 use Rattle.cjc_bytes.specs.Told.{break_of}
 use Rattle.cjc_judge.proofs.Families.{checks_language}
@@ -23,4 +24,4 @@ pub returns-in-Tokens : goal.returns-in-Tokens
 returns-in-Tokens c = rw c.in-Tokens.is (if_list break_of _ c.tokens_break.result (rw c.requires.settings at c.tokens_break.ensures))
 
 pub returns-in-Types : goal.returns-in-Types
-returns-in-Types c = rw c.in-Types.is none_early
+returns-in-Types c = elim c.in-Types.is [ inl e ↦ rw e none_early | inr e ↦ rw e none_early ]

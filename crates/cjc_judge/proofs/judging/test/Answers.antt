@@ -2,9 +2,8 @@ use Rattle.std.proofs.lemmas.Result.{err_from_is_err_and}
 use Rattle.std.specs.Prelude.{option_map}
 use Rattle.cjc_bytes.specs.Told.{break_of}
 use Rattle.cjc_judge.specs.Working.Groups.{EarlyBreaksAny}
-use Rattle.cjc_bytes.specs.Breaks.{Break}
-use Rattle.cjc_judge.proofs.Early.{early_fault, types_first, unbroken}
-use Rattle.cjc_judge.proofs.Folds.{none_of, first_of, on_ok, if_err}
+use Rattle.cjc_judge.proofs.Early.{early_fault, types_first, ranges_first, unbroken}
+use Rattle.cjc_judge.proofs.Folds.{none_of, first_of}
 use Rattle.cjc_judge.proofs.judging.test.Goals as goal
 
 pub returns-in_err-answer-clause-refused : goal.returns-in_err-answer-clause-refused
@@ -14,16 +13,22 @@ returns-in_err-answer-clause-refused c =
     rw (p.1, p.2) (early_fault c.args.list.now c.args.world.now c.args.codes.now c.args.foreigns.now c.args.groups.now _
     (first_of (EarlyBreaksAny c.args.list.now c.args.world.now c.args.codes.now c.args.foreigns.now c.args.groups.now) found.0 _ found.1 (c.in_err-answer.ensures.refused found.0 found.2)))
 
--- nothing is broken before types
-none : (c : goal.After-named_types) (b : Break) → EarlyBreaksAny c.args.list.now c.args.world.now c.args.codes.now c.args.foreigns.now c.args.groups.now b → ⊥
-none c =
+pub returns-in_err-types-clause-refused : goal.returns-in_err-types-clause-refused
+returns-in_err-types-clause-refused c =
     let found = c.in_ok-broken.ensures in
-    none_of (EarlyBreaksAny c.args.list.now c.args.world.now c.args.codes.now c.args.foreigns.now c.args.groups.now) (option_map break_of c.in_ok-broken.broken) found.0 found.1 (c.in_ok-answer.ensures.ok found.0 found.2)
+    let none = none_of (EarlyBreaksAny c.args.list.now c.args.world.now c.args.codes.now c.args.foreigns.now c.args.groups.now) (option_map break_of c.in_ok-broken.broken) found.0 found.1 (c.in_ok-answer.ensures.ok found.0 found.2) in
+    let p = err_from_is_err_and c.from_residual-in_err-types.result c.from_residual-in_err-types.ensures.1 in
+    rw (p.1, p.2) (types_first c.args.list.now c.args.world.now c.args.codes.now c.args.foreigns.now c.args.groups.now none _ c.in_err-types.ensures.refused)
+
+pub returns-in_err-test_ranges-clause-refused : goal.returns-in_err-test_ranges-clause-refused
+returns-in_err-test_ranges-clause-refused c =
+    let found = c.in_ok-broken.ensures in
+    let none = none_of (EarlyBreaksAny c.args.list.now c.args.world.now c.args.codes.now c.args.foreigns.now c.args.groups.now) (option_map break_of c.in_ok-broken.broken) found.0 found.1 (c.in_ok-answer.ensures.ok found.0 found.2) in
+    let p = err_from_is_err_and c.from_residual-in_err-test_ranges.result c.from_residual-in_err-test_ranges.ensures.1 in
+    rw (p.1, p.2) (ranges_first c.args.list.now c.args.world.now c.args.codes.now c.args.foreigns.now c.args.groups.now none c.in_ok-types.ensures.unbroken _ c.in_err-test_ranges.ensures.refused)
 
 pub returns-clause-unbroken : goal.returns-clause-unbroken
 returns-clause-unbroken c =
-    on_ok c.named_types.result (unbroken c.args.list.now c.args.world.now c.args.codes.now c.args.foreigns.now c.args.groups.now (none c)) c.named_types.ensures.unbroken
-
-pub returns-clause-refused : goal.returns-clause-refused
-returns-clause-refused c =
-    if_err c.named_types.result (types_first c.args.list.now c.args.world.now c.args.codes.now c.args.foreigns.now c.args.groups.now (none c)) c.named_types.ensures.refused
+    let found = c.in_ok-broken.ensures in
+    let none = none_of (EarlyBreaksAny c.args.list.now c.args.world.now c.args.codes.now c.args.foreigns.now c.args.groups.now) (option_map break_of c.in_ok-broken.broken) found.0 found.1 (c.in_ok-answer.ensures.ok found.0 found.2) in
+    unbroken c.args.list.now c.args.world.now c.args.codes.now c.args.foreigns.now c.args.groups.now none c.in_ok-types.ensures.unbroken c.in_ok-test_ranges.ensures.unbroken

@@ -1,0 +1,4 @@
+pub mod AreNumbers
+pub mod OneLeast
+pub mod OneFirst
+pub mod Hundred
