@@ -1,3 +1,5 @@
 pub mod Places
 pub mod Noting
 pub mod Spotted
+pub mod Trees
+pub mod Shares

@@ -1,5 +1,5 @@
 -- Places of classes, and rows that grow by what stands at each place.
-use Rattle.std.proofs.Common.{◌≡◌, ℕ, zero, suc, ◌+◌, ◌<◌, ◌≤◌, ◌∙◌, sym, ap, List, [], ◌∷◌, ◌++◌, length, get_or, drop, map, refl, add-one, append_assoc, append-nil, length-append}
+use Rattle.std.proofs.Common.{◌≡◌, ℕ, zero, suc, ◌+◌, ◌<◌, ◌≤◌, ◌∙◌, sym, ap, arith, List, [], ◌∷◌, ◌++◌, length, get_or, drop, map, refl, add-one, append_assoc, append-nil, length-append}
 use Rattle.std.specs.Prelude.{count_by, is_some, slice_get, option_to_list, Option, Some, None, cond}
 use Rattle.std.proofs.lemmas.List.Sums.{sum_by-cons}
 use Rattle.cjc_world.specs.Classes.{Class}
@@ -25,6 +25,11 @@ at : {A : Type 0} (xs : List A) (k : ℕ) (x : A) → slice_get xs k ≡ Some x 
 at [] k x e = cc
 at (y ∷ ys) zero x e = let same : y ≡ x = cc in ap (λ z. z ∷ ys) same
 at (y ∷ ys) (suc k) x e = at ys k x e
+
+pub get_past : {A : Type 0} (xs : List A) (k : ℕ) → length xs ≤ k → slice_get xs k ≡ None
+get_past [] k le = refl
+get_past (y ∷ ys) zero le = absurd (omega arith)
+get_past (y ∷ ys) (suc k) le = get_past ys k (omega arith)
 
 none_at : {A : Type 0} (xs : List A) (k : ℕ) → slice_get xs k ≡ None → drop k xs ≡ []
 none_at [] zero e = refl

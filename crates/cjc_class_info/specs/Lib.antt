@@ -1,2 +1,3 @@
 pub mod Refs
 pub mod Infos
+pub mod Entries

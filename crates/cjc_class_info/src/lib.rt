@@ -3,11 +3,17 @@
 //! no instruction and no rule.
 #![tactic(auto)]
 
+mod entries;
+mod fields;
+mod flags;
 mod infos;
 mod outside;
 mod refs;
 mod sizes;
 mod starts;
+mod tree;
 
+pub use entries::offset_in;
 pub use infos::{class_refs, refs_of_classes};
 pub use refs::ClassRefs;
+pub use tree::class_info;
