@@ -1,0 +1,3 @@
+pub mod Meant
+pub mod TypeTable
+pub mod Working
