@@ -1,0 +1,5 @@
+pub mod Piles
+pub mod ByNumber
+pub mod Methods
+pub mod Plains
+pub mod Shareable
