@@ -3,3 +3,4 @@ pub mod ByNumber
 pub mod Methods
 pub mod Plains
 pub mod Shareable
+pub mod Exporting

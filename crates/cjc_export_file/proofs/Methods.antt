@@ -142,3 +142,8 @@ supers-ended w c ms means i none = by (nat_le (length ms) i) (nat_le (length mea
     by true b e f = let h : length ms ≤ i = grind arith in ap (λ (xs : List Signature). supers_from w c i xs (drop i means)) (drop_of_length-le ms h)
     by false true e f = let h : length means ≤ i = grind arith in ap (λ (ys : List (Option Found)). supers_from w c i (drop i ms) ys) (drop_of_length-le means h) ∙ nothing (drop i ms)
     by false false e f = let h : i < length ms = grind arith in let g : i < length means = grind arith in absurd (none h g)
+
+pub own-number : (files : Files) (items : List Known) (n : ℕ) (k : Known) → map class_of items ≡ filter (is_of_kind false) (all_classes files) → slice_get items n ≡ Some k → class_at (all_classes files) false (class_of k).number ≡ Some (class_of k)
+own-number files items n k e at =
+    let there : class_at (all_classes files) false n ≡ Some (class_of k) = sym (class-by-number files false items n e) ∙ ap (option_map class_of) at in
+    ap (class_at (all_classes files) false) (at-kind (all_classes files) false n (class_of k) there).1 ∙ there

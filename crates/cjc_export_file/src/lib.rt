@@ -1,8 +1,10 @@
-//! The export file of a package (Java Card Virtual Machine Specification 2.2.2, chapter 5), as a tree, from its list, its world
-//! and its tokens. The converter writes it beside the components. It knows no offset, no code and no rule that a package breaks.
+//! What a package lets others use: its export file (Java Card Virtual Machine Specification 2.2.2, chapter 5) as a tree, from its
+//! list, its world and its tokens, and the component Export (section 6.12), from where its classes and members stand. The
+//! converter writes both. It knows no code and no rule that a package breaks.
 #![tactic(auto)]
 
 mod class;
+mod component;
 mod fields;
 mod inherited;
 mod method;
@@ -11,4 +13,5 @@ mod own;
 mod source;
 mod tree;
 
+pub use component::{Offsets, export};
 pub use tree::export_of;

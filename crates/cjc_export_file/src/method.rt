@@ -33,7 +33,7 @@ pub(crate) fn is_exposed(flags: u16) -> bool
     is_public(flags) || is_protected(flags)
 }
 
-fn is_initialiser(name: &[u8]) -> bool
+pub(crate) fn is_initialiser(name: &[u8]) -> bool
     ensures { result ≡ is_initialiser name.now }
 {
     name == INITIALISER
