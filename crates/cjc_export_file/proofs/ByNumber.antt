@@ -82,7 +82,7 @@ none-left (c ∷ w) n e = by c.is_imported e (none-left w n)
     by true e more = more e
     by false e more = cc
 
-past : {A : Type 0} (xs : List A) (c d : ℕ) → slice_get xs c ≡ None → c ≤ d → slice_get xs d ≡ None
+pub past : {A : Type 0} (xs : List A) (c d : ℕ) → slice_get xs c ≡ None → c ≤ d → slice_get xs d ≡ None
 past [] c d e le = refl
 past (x ∷ xs) zero d e le = cc
 past (x ∷ xs) (suc c) zero e le = absurd (omega arith)

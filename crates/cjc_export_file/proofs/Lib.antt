@@ -4,3 +4,4 @@ pub mod Methods
 pub mod Plains
 pub mod Shareable
 pub mod Exporting
+pub mod Few

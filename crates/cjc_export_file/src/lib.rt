@@ -7,6 +7,7 @@ mod class;
 mod component;
 mod fields;
 mod inherited;
+mod laws;
 mod method;
 mod numbered;
 mod own;
@@ -14,4 +15,5 @@ mod source;
 mod tree;
 
 pub use component::{Offsets, export};
+pub use laws::few_classes;
 pub use tree::export_of;
