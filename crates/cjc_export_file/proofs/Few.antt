@@ -17,18 +17,18 @@ use Rattle.cjc_export_file.proofs.ByNumber.{past}
 use Rattle.cjc_export_file.proofs.Piles.{drop-at, drop-behind}
 
 module _ (w : List Class) (applets : Bool) where
-  abbrev test : Class → Bool
+  abbrev pub test : Class → Bool
   test d = not d.is_imported && is_exported w applets d
 
   numbered-left : (i : ℕ) (cs : List ExportClass) (rest : List Class) → filter test (numbered i cs ++ rest) ≡ filter test rest
   numbered-left i [] rest = refl
   numbered-left i (c ∷ cs) rest = numbered-left (i + 1) cs rest
 
-  export-left : (i : ℕ) (o : Option ExportTree) (rest : List Class) → filter test (of_export_file i o ++ rest) ≡ filter test rest
+  pub export-left : (i : ℕ) (o : Option ExportTree) (rest : List Class) → filter test (of_export_file i o ++ rest) ≡ filter test rest
   export-left i None rest = refl
   export-left i (Some t) rest = numbered-left i t.classes rest
 
-  fewer : (trees : List ClassTree) (exports : List ExportTree) (c e i : ℕ) (lines : List FileLine) → length (filter test (classes_from trees exports c e i lines)) ≤ count_exported w applets c (drop c trees)
+  pub fewer : (trees : List ClassTree) (exports : List ExportTree) (c e i : ℕ) (lines : List FileLine) → length (filter test (classes_from trees exports c e i lines)) ≤ count_exported w applets c (drop c trees)
   unfolding classes_from
   fewer trees exports c e i [] = omega arith
   fewer trees exports c e i (line ∷ lines) = by line.class_file (fewer trees exports (c + 1) e i lines) (fewer trees exports c (e + 1) (i + size (slice_get exports e)) lines)

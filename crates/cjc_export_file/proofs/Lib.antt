@@ -5,3 +5,4 @@ pub mod Plains
 pub mod Shareable
 pub mod Exporting
 pub mod Few
+pub mod Tokened

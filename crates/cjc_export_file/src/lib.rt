@@ -15,5 +15,5 @@ mod source;
 mod tree;
 
 pub use component::{Offsets, export};
-pub use laws::few_classes;
+pub use laws::{few_classes, tokens_are_places};
 pub use tree::export_of;
