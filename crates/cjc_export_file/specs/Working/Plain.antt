@@ -1,0 +1,13 @@
+-- A package of which the list and the files alone count. The export file says nothing else of it.
+use Rattle.std.specs.Prelude.{[]}
+use Rattle.cjc_list.specs.Listed.{ListTree}
+use Rattle.cjc_world.specs.Files.{Files}
+use Rattle.cjc_components.specs.Package.{Package}
+
+abbrev pub plain : ListTree → Files → Package
+plain list files = record {
+  list = list;
+  files = files;
+  image = record { arrays = []; nulls = []; zeros = []; others = [] };
+  methods = [];
+}
