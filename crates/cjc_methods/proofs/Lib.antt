@@ -1,0 +1,10 @@
+mod Members
+mod Ordered
+mod Reach
+mod Placing
+mod Owned
+mod Coded
+mod Same
+mod Own
+mod Again
+mod Ownership

@@ -1,0 +1,72 @@
+-- What is known of a package whose methods are written: the instructions and the types of each, and that it can be selected and laid out.
+use Rattle.std.specs.Prelude.{◌≡◌, ℕ, ◌≤◌, List, length, map, slice_get, false, Option, Some, Ok}
+use Rattle.cjc_bytes.specs.declared.fault.MemberId.{MemberId}
+use Rattle.cjc_classfile.specs.Code.{CodeTree}
+use Rattle.cjc_classfile.specs.declared.tree.ClassTree.{ClassTree}
+use Rattle.cjc_classfile.specs.declared.tree.MethodTree.{MethodTree}
+use Rattle.cjc_code.specs.Decoded.{decoding}
+use Rattle.cjc_code.specs.PackageCodes.{all_codes}
+use Rattle.cjc_code.specs.declared.insn.JInsn.{JInsn}
+use Rattle.cjc_code.specs.declared.method_code.MethodCode.{MethodCode}
+use Rattle.cjc_types.specs.Flow.{body_of}
+use Rattle.cjc_types.specs.Tables.{IsMethodOf, IsTypeTable, rows_of}
+use Rattle.cjc_types.specs.declared.state.State.{State}
+use Rattle.cjc_types.specs.declared.table.TypeTable.{TypeTable}
+use Rattle.cjc_world.specs.declared.found.Found.{Found}
+use Rattle.cjc_world.specs.Classes.{Class, all_classes, class_at}
+use Rattle.cjc_world.specs.Files.{Files}
+use Rattle.cjc_world.specs.Order.{in_order}
+use Rattle.cjc_by_name.specs.Linked.{Method}
+use Rattle.cjc_by_name.specs.OnePackage.{method_by}
+use Rattle.cjc_narrow.specs.Package.{flags_of}
+use Rattle.cjc_narrow.specs.Resolved.{method_found}
+use Rattle.cjc_narrow.specs.Selected.{selected_code}
+use Rattle.cjc_written.specs.Rows.{has_rows, rows_by}
+use Rattle.cjc_select.specs.Select.{IsSelectable}
+use Rattle.cjc_layout.specs.Layouts.{IsWhole}
+
+-- ---- classes and members
+
+-- the numbers of the classes that are no interfaces, in the order of Class
+abbrev pub AreOrdered : Files → List ℕ → Type 0
+AreOrdered files order = map Some (in_order (all_classes files) false) ≡ map (class_at (all_classes files) false) order
+
+-- a member of a class of the package
+pub record IsOwn (files : Files) (f : Found) : Type 0 where
+  pub own : f.imported ≡ false
+  pub class : Class
+  pub is_class : class_at (all_classes files) f.imported f.class ≡ Some class
+
+-- ---- methods with their types
+
+-- the states before the instructions of a method
+abbrev pub states : MethodCode → ClassTree → MethodTree → CodeTree → TypeTable → List (Option State)
+states code class method tree table = rows_of (body_of class method tree code.insns) table
+
+-- the code of a method was decoded
+pub record IsDecoded (class : ClassTree) (method : MethodTree) (tree : CodeTree) : Type 0 where
+  pub bytes : length tree.bytes ≤ 65535
+  pub insns : List JInsn
+  pub decodes : decoding class method tree ≡ Ok insns
+
+-- The table is of the types of the method, and what is selected by it can be laid out, whichever field instructions have an index of one byte.
+pub record IsReady (files : Files) (code : MethodCode) (class : ClassTree) (method : MethodTree) (tree : CodeTree) (table : TypeTable) : Type 0 where
+  pub types : IsTypeTable (all_classes files) (body_of class method tree code.insns) table
+  pub selectable : IsSelectable method tree code.insns (has_rows (states code class method tree table))
+  pub whole : (near : List MemberId) → IsWhole (selected_code files near class method tree code.insns (rows_by (has_rows (states code class method tree table))))
+
+-- The instructions of all methods with code, and the types of each. A look-up of a method's own name finds one with its flags.
+pub record AreReady (files : Files) (codes : List MethodCode) (types : List TypeTable) : Type 0 where
+  pub codes_are : codes ≡ all_codes files.classes
+  pub decoded : (n i : ℕ) (class : ClassTree) (method : MethodTree) (tree : CodeTree) → slice_get files.classes n ≡ Some class → slice_get class.methods i ≡ Some method → method.code ≡ Some tree → IsDecoded class method tree
+  pub found : (n i : ℕ) (class : ClassTree) (method : MethodTree) → slice_get files.classes n ≡ Some class → slice_get class.methods i ≡ Some method
+      → flags_of (method_found (all_classes files) (record { class = class.name; name = method.name; desc = method.desc })) ≡ method.flags
+  pub count : length types ≡ length codes
+  pub each : (k : ℕ) (code : MethodCode) (table : TypeTable) → slice_get codes k ≡ Some code → slice_get types k ≡ Some table
+      → (class : ClassTree) (method : MethodTree) (tree : CodeTree) → IsMethodOf files code class method tree → IsReady files code class method tree table
+
+-- Of each method the rows are the states that its types stand for.
+abbrev pub AreRows : Files → List MethodCode → List TypeTable → (Method → List (Option State)) → Type 0
+AreRows files codes types rows =
+    (k : ℕ) (code : MethodCode) (table : TypeTable) → slice_get codes k ≡ Some code → slice_get types k ≡ Some table
+    → (class : ClassTree) (method : MethodTree) (tree : CodeTree) → IsMethodOf files code class method tree → rows (method_by class method (Some tree)) ≡ states code class method tree table

@@ -1,0 +1,47 @@
+//! The narrow code of all methods of a package. Which field instructions have an index of one byte depends on the pool,
+//! and the pool on what code names: so code is selected once to know the pool, and again by the indices that it has.
+
+ghost use Rattle.std.specs.Prelude.{◌≡◌, List, Option, All, map, IfOk};
+ghost use Rattle.cjc_types.specs.declared.state.State.{State as Before};
+ghost use Rattle.cjc_by_name.specs.Linked.{Method};
+ghost use Rattle.cjc_ncode.specs.PoolOrder.{pool_order};
+ghost use Rattle.cjc_narrow.specs.Selected.{near_fields};
+ghost use Rattle.cjc_components.specs.Written.{code_at};
+ghost use Rattle.cjc_methods.specs.Ready.{AreReady, AreRows, IsOwn};
+ghost use Rattle.cjc_methods.specs.Words.{HasRoom};
+
+use crate::places::class_places;
+use crate::selecting::{Sources, codes_at};
+use cjc_bytes::{NoMemory, Row};
+use cjc_code::MethodCode;
+use cjc_keys::{Numbers, number};
+use cjc_ncode::NMethod;
+use cjc_types::TypeTable;
+use cjc_world::{Found, World};
+use std::alloc::Global;
+
+/// The narrow code of these members of the package, which are its methods in the order of Method: each with the short
+/// form of a field instruction exactly where the field has an index of one byte in the pool of all. Abstract methods and
+/// those that a class gets from its interfaces have no instructions.
+pub fn narrow_codes(
+    alloc: Global,
+    world: &World<'_>,
+    codes: &[MethodCode],
+    types: &[TypeTable],
+    members: &[Found],
+) -> Result<Row<NMethod>, NoMemory>
+    requires ready { AreReady world.now codes.now types.now }
+    requires own { All (IsOwn world.now) members.now }
+    requires room { All (HasRoom world.now) members.now }
+    ensures { (rows : Method → List (Option Before)) → AreRows world.now codes.now types.now rows → IfOk result (λ ns. ns ≡ map (code_at world.now (near_fields (pool_order ns)) rows) members.now) }
+{
+    let places = class_places(alloc, world.classes().items())?;
+    let sources = Sources {
+        codes,
+        types,
+        places: places.items(),
+    };
+    let first = codes_at(alloc, world, sources, &Numbers::new(alloc), members)?;
+    let pool = number(alloc, first.items())?;
+    codes_at(alloc, world, sources, &pool, members)
+}

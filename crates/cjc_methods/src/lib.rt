@@ -1,0 +1,14 @@
+//! The methods of a package as they are written: in the order of Method (Java Card Virtual Machine Specification 2.2.2,
+//! section 6.9), the narrow code of each by the indices of the package's own constant pool. Whoever converts a package
+//! calls it. It knows no token and no offset.
+#![tactic(auto)]
+
+mod codes;
+mod method;
+mod order;
+mod places;
+mod reached;
+mod selecting;
+
+pub use codes::narrow_codes;
+pub use order::{method_order, methods_are_own};
