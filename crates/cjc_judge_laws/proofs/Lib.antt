@@ -1,1 +1,5 @@
 pub mod Selected
+mod Owners
+mod Tokens
+mod Called
+mod Emittable

@@ -13,8 +13,10 @@ use Rattle.cjc_code.specs.PackageCodes.{all_codes}
 use Rattle.cjc_code.specs.declared.method_code.MethodCode.{MethodCode}
 use Rattle.cjc_judge.specs.declared.groups.Group.TheVariants as groups
 use Rattle.cjc_judge.specs.declared.judged.Judged.{Judged}
-use Rattle.cjc_judge.specs.Rules.{AreWorld, files_spelt, of_group, of_world, settings_of, world_files}
-use Rattle.cjc_judge.specs.Spelt.{FileTree, SpellTrees, classes_of, of_class, of_export}
+use Rattle.cjc_export.specs.Writable.{IsWritable}
+use Rattle.cjc_export.specs.declared.tree.ExportTree.{ExportTree}
+use Rattle.cjc_judge.specs.Rules.{AreWorld, files_spelt, of_group, of_names, of_world, settings_of, world_files}
+use Rattle.cjc_judge.specs.Spelt.{FileTree, SpellTrees, classes_of, exports_of, of_class, of_export}
 use Rattle.cjc_judge.specs.Trees.{AllSpelt}
 use Rattle.cjc_judge.specs.Types.{AreTables, IsTableOf}
 use Rattle.cjc_layout.specs.Layouts.{IsWhole}
@@ -25,12 +27,15 @@ use Rattle.cjc_select_laws.specs.Keeps.{KeepsRules}
 use Rattle.cjc_select_laws.proofs.Selectable.{selectable}
 use Rattle.cjc_select_laws.proofs.Whole.{selected_whole}
 use Rattle.cjc_subset.specs.Checks.{check_breaks}
+use Rattle.cjc_subset.specs.Names.{name_breaks}
 use Rattle.cjc_types.specs.declared.table.TypeTable.{TypeTable}
 use Rattle.cjc_types.specs.Flow.{body_of}
 use Rattle.cjc_types.specs.Tables.{IsLeastTable, IsTypeTable}
 use Rattle.cjc_world.specs.Classes.{all_classes}
 use Rattle.cjc_world.specs.Files.{Files}
+use Rattle.cjc_world.specs.Kin.{IsAcyclic}
 use Rattle.cjc_world.specs.Rules.{breaks}
+use Rattle.cjc_world.proofs.Unbroken.{unbroken_is_acyclic}
 use Rattle.cjc_written.specs.Rows.{has_rows, rows_by}
 use Rattle.cjc_judge_laws.specs.Tested.{IsOne, IsTested, states}
 
@@ -83,6 +88,17 @@ tables_both world [] tables h = tt
 tables_both world (c ∷ codes) [] h = h
 tables_both world (c ∷ codes) (t ∷ tables) h = (h.0, tables_both world codes tables h.1)
 
+export_at : (lines : List FileLine) (files : List (List ℕ)) (trees : List FileTree) → AllSpelt lines files trees → (k : ℕ) (t : ExportTree) → slice_get (exports_of trees) k ≡ Some t → IsWritable t
+export_at [] files trees h k t e = let none : trees ≡ [] = h.1 in absurd (no_export k t (sym (ap (λ ts. slice_get (exports_of ts) k) none) ∙ e))
+  where
+    no_export : (k : ℕ) (t : ExportTree) → slice_get (exports_of []) k ≡ Some t → ⊥
+    no_export k t e = cc
+export_at (line ∷ lines) [] trees h k t e = absurd h
+export_at (line ∷ lines) (bytes ∷ files) [] h k t e = absurd h
+export_at (line ∷ lines) (bytes ∷ files) (of_class tree ∷ trees) h k t e = export_at lines files trees h.1 k t e
+export_at (line ∷ lines) (bytes ∷ files) (of_export tree ∷ trees) h zero t e = let same : tree ≡ t = cc in subst IsWritable same h.0.2
+export_at (line ∷ lines) (bytes ∷ files) (of_export tree ∷ trees) h (suc k) t e = export_at lines files trees h.1 k t e
+
 -- ---- the package
 
 module _ (list : ListTree) (files : List (List ℕ)) (judged : Judged) (is : IsTested list files judged) where
@@ -98,9 +114,26 @@ module _ (list : ListTree) (files : List (List ℕ)) (judged : Judged) (is : IsT
       let spelt = spells list.lines files trees is.judged_by.read.spelt in
       (spelt, none_among (breaks list.name (files_spelt list trees)) (λ b among. is.judged_by.unbroken b (of_world (trees, spelt, among))))
 
+  -- its export files can be written
+  pub judged_writable : (k : ℕ) (t : ExportTree) → slice_get judged.world.exports k ≡ Some t → IsWritable t
+  judged_writable k t e = export_at list.lines files trees is.judged_by.read.spelt k t (sym (ap (λ ts. slice_get ts k) is.judged_by.read.exports) ∙ e)
+
+  same_codes : judged.codes ≡ all_codes (classes_of trees)
+  same_codes = is.judged_by.read.codes_are ∙ ap all_codes is.judged_by.read.classes
+
+  -- no class stands above itself
+  pub judged_acyclic : IsAcyclic (all_classes judged.world)
+  judged_acyclic = unbroken_is_acyclic list.name judged.world (ap (breaks list.name) same_world ∙ is_world.1)
+
+  -- what instructions name is there and fits them
+  pub judged_names : name_breaks judged.world judged.codes ≡ []
+  judged_names =
+      ap (λ w. name_breaks w judged.codes) same_world
+      ∙ ap (name_breaks (files_spelt list trees)) same_codes
+      ∙ none_among (name_breaks (files_spelt list trees) (all_codes (classes_of trees))) (λ b among. is.judged_by.unbroken b (of_names (trees, is_world, among)))
+
   unbroken : check_breaks list.name judged.world judged.codes (settings_of list) ≡ []
   unbroken =
-      let same_codes : judged.codes ≡ all_codes (classes_of trees) = is.judged_by.read.codes_are ∙ ap all_codes is.judged_by.read.classes in
       let none = none_among (check_breaks list.name (files_spelt list trees) (all_codes (classes_of trees)) (settings_of list))
       (λ b among. is.judged_by.unbroken b (of_group (is.limits.0, groups.Limits, is.limits.1, (trees, is_world, among)))) in
       ap (λ w. check_breaks list.name w judged.codes (settings_of list)) same_world

@@ -152,11 +152,11 @@ module _ (r : Resolution) where
     -- ---- the code of a method
 
     -- the reached instruction for which a call is written
-    pub IsCalled : (kept : List JInsn) → MemberId → Type 0
+    abbrev pub IsCalled : (kept : List JInsn) → MemberId → Type 0
     IsCalled kept id = (k : ℕ) × (i : JInsn) × (m : MemberId) × (slice_get kept k ≡ Some i) × (i.op ≡ jop.Call 0xB9 m) × (id ≡ r.interface m)
 
     pub called_from : (kept : List JInsn) (k nargs : ℕ) (id : MemberId) → slice_get (flat_map (λ i. written r place i.op) kept) k ≡ Some (insns.Interface nargs id) → IsCalled kept id
-    unfolding IsCalled AllFrom IsFrom
+    unfolding AllFrom IsFrom
     called_from [] k nargs id e = cc
     called_from (i ∷ kept) k nargs id e = by (λ j f. called_from kept j nargs id f) (written r place i.op) (op_from i.op) k e
       where
