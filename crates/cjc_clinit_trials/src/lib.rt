@@ -3,6 +3,4 @@
 #![tactic(auto)]
 
 #[cfg(test)]
-mod package;
-#[cfg(test)]
 mod statics;

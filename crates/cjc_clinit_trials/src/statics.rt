@@ -1,7 +1,7 @@
 //! What initialisers leave in static fields, and which are refused, and where.
 
-use crate::package::{Field, world_of};
 use cjc_bytes::{Bytes, Fault, Kind, MemberId, NoMemory, Row};
+use cjc_cases::package;
 use cjc_clinit::{first_broken, image};
 use cjc_code::{Codes, JInsn, JOp, MethodCode};
 use cjc_world::{ArrayCell, StaticImage, ValueCell};
@@ -28,19 +28,14 @@ enum Op<'t> {
 /// An initialiser, and the place of the first instruction with which it is none.
 type Case<'t> = (&'t [Op<'t>], u32);
 
-/// A public class.
-const CLASS: u16 = 0x21;
+/// p/T has an initialiser, whose code is told apart from it.
+const CLASS: &str = "\
+21 p/T java/lang/Object - | 8 t [B | 8 o Ljava/lang/Object; | 8 z Z | 8 s S | 18 c S 9 | 8 v S 5 | 8 <clinit> ()V";
 
-const INTERFACE: u16 = 0x0601;
+const INTERFACE: &str = "601 p/T java/lang/Object - | 8 <clinit> ()V";
 
-const FIELDS: &[Field<'static>] = &[
-    (8, b"t", b"[B", None),
-    (8, b"o", b"Ljava/lang/Object;", None),
-    (8, b"z", b"Z", None),
-    (8, b"s", b"S", None),
-    (0x18, b"c", b"S", Some(9)),
-    (8, b"v", b"S", Some(5)),
-];
+/// The value of a field does not fit it.
+const UNFIT: &str = "21 p/T java/lang/Object - | 8 b B 128 | 8 <clinit> ()V";
 
 /// t = {1, 2, 3}; o = null; s = 7
 const STATEMENTS: &[Op<'static>] = &[
@@ -190,13 +185,8 @@ fn codes(alloc: Global, ops: &[Op<'_>]) -> Result<Codes, NoMemory> {
     Ok(codes)
 }
 
-fn answered(
-    alloc: Global,
-    flags: u16,
-    fields: &[Field<'_>],
-    ops: &[Op<'_>],
-) -> Result<StaticImage, Fault> {
-    let world = world_of(alloc, flags, fields)?;
+fn answered(alloc: Global, class: &str, ops: &[Op<'_>]) -> Result<StaticImage, Fault> {
+    let world = package(alloc, class)?;
     let codes = codes(alloc, ops)?;
     image(alloc, &world, &codes)
 }
@@ -251,7 +241,7 @@ fn holds_replaced(image: &StaticImage) -> bool {
 #[test]
 fn statics_hold_what_is_put(rt: HostRuntime) -> Result<(), Fail> {
     let alloc = rt.alloc();
-    let Ok(image) = answered(alloc, CLASS, FIELDS, STATEMENTS) else {
+    let Ok(image) = answered(alloc, CLASS, STATEMENTS) else {
         return Err(Fail::from("refused"));
     };
     assert!(rt; holds_statements(&image));
@@ -261,7 +251,7 @@ fn statics_hold_what_is_put(rt: HostRuntime) -> Result<(), Fail> {
 #[test]
 fn puts_replace_constant_values(rt: HostRuntime) -> Result<(), Fail> {
     let alloc = rt.alloc();
-    let Ok(image) = answered(alloc, CLASS, FIELDS, REPLACED) else {
+    let Ok(image) = answered(alloc, CLASS, REPLACED) else {
         return Err(Fail::from("refused"));
     };
     assert!(rt; holds_replaced(&image));
@@ -289,7 +279,7 @@ fn is_refused(answer: &Result<StaticImage, Fault>, offset: Option<u32>) -> bool 
 
 fn are_refused(alloc: Global, cases: &[Case<'_>]) -> bool {
     for case in cases {
-        let answer = answered(alloc, CLASS, FIELDS, case.0);
+        let answer = answered(alloc, CLASS, case.0);
         if !is_refused(&answer, Some(case.1.wrapping_add(10))) {
             return false;
         }
@@ -305,16 +295,16 @@ fn initialisers_are_refused(rt: HostRuntime) {
 #[test]
 fn classes_are_refused(rt: HostRuntime) {
     let alloc = rt.alloc();
-    let interface = answered(alloc, INTERFACE, &[], &[Op::Return]);
+    let interface = answered(alloc, INTERFACE, &[Op::Return]);
     assert!(rt; is_refused(&interface, None));
-    let unfit = answered(alloc, CLASS, &[(8, b"b", b"B", Some(128))], &[Op::Return]);
+    let unfit = answered(alloc, UNFIT, &[Op::Return]);
     assert!(rt; is_refused(&unfit, None));
 }
 
 #[test]
 fn the_first_break_is_found(rt: HostRuntime) -> Result<(), Fail> {
     let alloc = rt.alloc();
-    let Ok(world) = world_of(alloc, CLASS, FIELDS) else {
+    let Ok(world) = package(alloc, CLASS) else {
         return Err(Fail::from("refused"));
     };
     let wrong = codes(alloc, &[Op::Nop, Op::Return])?;

@@ -2,37 +2,45 @@
 
 ghost use Rattle.std.specs.Prelude.{◌≡◌, ℕ, true, Some, slice_get, IfOk};
 ghost use Rattle.cjc_code.specs.declared.insn.JInsn.{JInsn as Insn};
-ghost use Rattle.cjc_written.specs.Operands.{CanBeSaid, IsAscending};
+ghost use Rattle.cjc_ncode.specs.Written.{nargs_of};
+ghost use Rattle.cjc_written.specs.Operands.{CanBeSaid, IsAscending, IsByte};
 ghost use Rattle.cjc_select.specs.Select.{IsSelectable};
 
-use cjc_bytes::NoMemory;
+use cjc_bytes::{MemberId, NoMemory};
 use cjc_classfile::{Code, MethodTree};
 use cjc_code::{JInsn, JOp};
 use cjc_written::words_by;
 
-/// One byte can say the local of an instruction. Calls of interfaces' methods are not told.
-fn is_said(op: &JOp) -> bool
-    ensures { result ≡ true → CanBeSaid op.now }
+/// One byte can say the words that a method takes.
+fn is_called(method: &MemberId) -> Result<bool, NoMemory>
+    ensures { IfOk result (λ can. can ≡ true → IsByte (nargs_of method.now)) }
+{
+    Ok(words_by(method.desc.items())? < 256)
+}
+
+/// One byte can say the numbers of an instruction.
+fn is_said(op: &JOp) -> Result<bool, NoMemory>
+    ensures { IfOk result (λ can. can ≡ true → CanBeSaid op.now) }
 {
     match op {
-        JOp::Load { refs: _, local } => *local < 256,
-        JOp::Store { refs: _, local } => *local < 256,
-        JOp::Inc { local, by: _ } => *local < 256,
-        JOp::Call { op, method: _ } => *op != 0xB9,
-        _ => true,
+        JOp::Load { refs: _, local } => Ok(*local < 256),
+        JOp::Store { refs: _, local } => Ok(*local < 256),
+        JOp::Inc { local, by: _ } => Ok(*local < 256),
+        JOp::Call { op: _, method } => is_called(method),
+        _ => Ok(true),
     }
 }
 
-fn are_said(insns: &[JInsn]) -> bool
-    ensures { result ≡ true → (k : ℕ) (i : Insn) → slice_get insns.now k ≡ Some i → CanBeSaid i.op }
+fn are_said(insns: &[JInsn]) -> Result<bool, NoMemory>
+    ensures { IfOk result (λ can. can ≡ true → (k : ℕ) (i : Insn) → slice_get insns.now k ≡ Some i → CanBeSaid i.op) }
 {
     for k in 0..insns.len() {
         let insn = &insns[k];
-        if !is_said(&insn.op) {
-            return false;
+        if !is_said(&insn.op)? {
+            return Ok(false);
         }
     }
-    true
+    Ok(true)
 }
 
 fn are_ascending(insns: &[JInsn]) -> bool
@@ -48,8 +56,7 @@ fn are_ascending(insns: &[JInsn]) -> bool
     true
 }
 
-/// The method can be selected by which of these instructions are reached. One that calls an interface's method is not told
-/// to be.
+/// The method can be selected by which of these instructions are reached.
 pub fn can_be_selected(
     method: &MethodTree<'_>,
     code: &Code<'_>,
@@ -64,5 +71,8 @@ pub fn can_be_selected(
     if reaches.len() != insns.len() {
         return Ok(false);
     }
-    Ok(are_said(insns) && are_ascending(insns))
+    if !are_said(insns)? {
+        return Ok(false);
+    }
+    Ok(are_ascending(insns))
 }

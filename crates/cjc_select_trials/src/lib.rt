@@ -13,8 +13,6 @@ ghost use Rattle.cjc_select_trials.specs.Selected as Selected;
 #[cfg(test)]
 mod calls;
 mod fits;
-#[cfg(test)]
-mod package;
 
 pub use fits::can_be_selected;
 
