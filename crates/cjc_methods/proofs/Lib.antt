@@ -8,3 +8,4 @@ mod Same
 mod Own
 mod Again
 mod Ownership
+mod Spotted

@@ -75,7 +75,7 @@ at_is xs ys i x y same at is =
     let there : slice_get xs i ≡ Some y = ap (λ zs. slice_get zs i) same ∙ at in
     is ∙ get_or_from_slice_get xs i y x there
 
-on_ok : {A E : Type 0} {P Q : Type 0} (r : Result A E) → (P → Q) → OnOk r P → OnOk r Q
+pub on_ok : {A E : Type 0} {P Q : Type 0} (r : Result A E) → (P → Q) → OnOk r P → OnOk r Q
 on_ok (Ok x) f p = f p
 on_ok (Err e) f p = tt
 

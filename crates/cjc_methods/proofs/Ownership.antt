@@ -11,10 +11,10 @@ use Rattle.cjc_world.specs.Order.{in_order, method_order, methods_in_turn, metho
 use Rattle.cjc_vtable.proofs.Numbers.{at-kind}
 use Rattle.cjc_methods.specs.Ready.{AreOrdered, IsOwn}
 
-all_none : {X : Type 0} (P : X → Type 0) → All P []
+pub all_none : {X : Type 0} (P : X → Type 0) → All P []
 all_none P = λ i d lt. absurd (omega arith)
 
-all_cons : {X : Type 0} (P : X → Type 0) (x : X) (xs : List X) → P x → All P xs → All P (x ∷ xs)
+pub all_cons : {X : Type 0} (P : X → Type 0) (x : X) (xs : List X) → P x → All P xs → All P (x ∷ xs)
 all_cons P x xs p ps = All-append P (x ∷ []) xs (All-push P [] x (all_none P) p) ps
 
 module _ (files : Files) (c : Class) (own : c.is_imported ≡ false) (is : class_at (all_classes files) c.is_imported c.number ≡ Some c) where

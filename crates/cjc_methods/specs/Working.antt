@@ -2,3 +2,4 @@
 pub mod Members
 pub mod Places
 pub mod Methods
+pub mod Spots

@@ -9,6 +9,8 @@ mod order;
 mod places;
 mod reached;
 mod selecting;
+mod words;
 
 pub use codes::narrow_codes;
 pub use order::{method_order, methods_are_own};
+pub use words::test_words;
