@@ -1,2 +1,0 @@
--- What the code keeps for itself; a reader of the contracts may pass over it.
-pub mod Kinds
