@@ -286,6 +286,64 @@ fn of_methods(alloc: Global, count: u8, first: &str) -> Result<Vec<u8>, NoMemory
     Ok(class)
 }
 
+/// A class p/T up to the descriptor of its f, and from there on to the code of f. Its constant pool has the Integer 65535 at 8, the
+/// static fields s:S, b:B and z:Z at 12, 16 and 20, the static g(SBZ)V at 24, and k:S, which is the constant 5, at 28.
+const UP_TO_DESC: &[u8] = b"\
+    \xCA\xFE\xBA\xBE\x00\x00\x004\x00\x1E\
+    \x01\x00\x03p/T\x07\x00\x01\x01\x00\x10java/lang/Object\
+    \x07\x00\x03\x01\x00\x01f";
+
+const UP_TO_CODE: &[u8] = b"\
+    \x01\x00\x04Code\x03\x00\x00\xFF\xFF\
+    \x01\x00\x01s\x01\x00\x01S\x0C\x00\x09\x00\x0A\x09\x00\x02\x00\x0B\
+    \x01\x00\x01b\x01\x00\x01B\x0C\x00\x0D\x00\x0E\x09\x00\x02\x00\x0F\
+    \x01\x00\x01z\x01\x00\x01Z\x0C\x00\x11\x00\x12\x09\x00\x02\x00\x13\
+    \x01\x00\x01g\x01\x00\x06(SBZ)V\x0C\x00\x15\x00\x16\x0A\x00\x02\x00\x17\
+    \x03\x00\x00\x00\x05\x01\x00\x01k\x0C\x00\x1A\x00\x0A\x09\x00\x02\x00\x1B\
+    \x01\x00\x0DConstantValue\
+    \x00!\x00\x02\x00\x04\x00\x00\x00\x04\
+    \x00\x09\x00\x09\x00\x0A\x00\x00\x00\x09\x00\x0D\x00\x0E\x00\x00\x00\x09\x00\x11\x00\x12\x00\x00\
+    \x00\x19\x00\x1A\x00\x0A\x00\x01\x00\x1D\x00\x00\x00\x02\x00\x19\
+    \x00\x02\
+    \x00\x09\x00\x15\x00\x16\x00\x01\x00\x07\x00\x00\x00\x0D\x00\x00\x00\x03\x00\x00\x00\x01\xB1\x00\x00\x00\x00\
+    \x00\x09\x00\x05\x00\x06\x00\x01\x00\x07\x00\x00\x00";
+
+/// The bytes of words.
+fn octets(alloc: Global, words: &str) -> Result<Vec<u8>, NoMemory> {
+    let mut bytes = Vec::new(alloc);
+    for word in words.split(" ") {
+        bytes.push(octet(word)?)?;
+    }
+    Ok(bytes)
+}
+
+/// That class, whose static f has this descriptor and this code, with a stack of 4 and 4 locals.
+fn of_code(alloc: Global, desc: &str, words: &str) -> Result<Vec<u8>, NoMemory> {
+    let code = octets(alloc, words)?;
+    if desc.len() > 255 || code.len() > 243 {
+        return Err(NoMemory);
+    }
+    let length = code.len() as u8;
+    let mut class = Vec::from_slice(alloc, UP_TO_DESC)?;
+    class.extend_from_slice(&[0x01, 0x00, desc.len() as u8])?;
+    class.extend_from_slice(desc.as_bytes())?;
+    class.extend_from_slice(UP_TO_CODE)?;
+    class.extend_from_slice(&[
+        length + 12,
+        0x00,
+        0x04,
+        0x00,
+        0x04,
+        0x00,
+        0x00,
+        0x00,
+        length,
+    ])?;
+    class.extend_from_slice(code.as_slice())?;
+    class.extend_from_slice(&[0x00, 0x00, 0x00, 0x00, 0x00, 0x00])?;
+    Ok(class)
+}
+
 /// Lists that name other files than the example's.
 const TWICE: &[u8] = b"package p A000000001 1.0\nexport lang.exp\nclass T.class\nclass U.class\n";
 
@@ -390,11 +448,16 @@ fn many(alloc: Global, words: &str) -> Result<Vec<u8>, NoMemory> {
     }
 }
 
-/// The bytes of a file by its name and what is changed in it. `of-methods COUNT FIRST` is the class with so many.
+/// The bytes of a file by its name and what is changed in it. `of-methods COUNT FIRST` is the class with so many methods, and
+/// `of-code DESC CODE` the one whose f has this code, in hexadecimal words.
 pub(crate) fn bytes_of(alloc: Global, words: &str) -> Result<Vec<u8>, NoMemory> {
     let (name, changes) = cut(words, " ");
     if name == "of-methods" {
         return many(alloc, changes);
+    }
+    if name == "of-code" {
+        let (desc, code) = cut(changes, " ");
+        return of_code(alloc, desc, code);
     }
     let mut bytes = Vec::from_slice(alloc, file(name))?;
     if !changes.is_empty() {

@@ -114,6 +114,43 @@ words Convert list out = 0 0 usage
 list none ; lang.exp none ; T.class none = 0 0 absent list
 T.class none = 0 0 absent T.class";
 
+/// Rules 601 to 609, each where it is broken, and where an operand lies just inside: then the package is not of the form.
+const RANGES: &str = "\
+T.class of-code (S)S 1A 04 60 10 0A A2 00 05 04 AC 03 AC = 0 0 refused 601 T.class p/T f(S)S 5 # a + 1 < 10
+T.class of-code (S)S 1A 10 0A A2 00 05 04 AC 03 AC = 0 0 refused 801 list - - 0 # a < 10
+T.class of-code (S)S 1A 12 08 7E 08 A4 00 05 04 AC 03 AC = 0 0 refused 601 T.class p/T f(S)S 5 # (a & 0xFFFF) > 5
+T.class of-code (S)S 1A 12 08 7E 93 AC = 0 0 refused 801 list - - 0 # (short) (a & 0xFFFF)
+T.class of-code (B)S 1A 11 7F 80 60 99 00 05 04 AC 03 AC = 0 0 refused 801 list - - 0 # to 32,767
+T.class of-code (B)S 1A 11 7F 81 60 99 00 05 04 AC 03 AC = 0 0 refused 601 T.class p/T f(B)S 5
+T.class of-code (B)S 1A 11 80 80 60 99 00 05 04 AC 03 AC = 0 0 refused 801 list - - 0 # from -32,768
+T.class of-code (B)S 1A 11 80 7F 60 99 00 05 04 AC 03 AC = 0 0 refused 601 T.class p/T f(B)S 5
+T.class of-code (S)S 1A 08 7E B2 00 1C 60 99 00 05 04 AC 03 AC = 0 0 refused 801 list - - 0 # (a & 5) + k, a constant
+T.class of-code (S)S 1A 08 7E B2 00 0C 60 99 00 05 04 AC 03 AC = 0 0 refused 601 T.class p/T f(S)S 7 # (a & 5) + s
+T.class of-code (SS)S 1A 1B 60 05 6C 93 AC = 0 0 refused 602 T.class p/T f(SS)S 4 # (a + b) / 2
+T.class of-code (SS)S 1A 1B 68 05 70 93 AC = 0 0 refused 602 T.class p/T f(SS)S 4 # (a * b) % 2
+T.class of-code (SS)S 1A 1B 6C 93 AC = 0 0 refused 801 list - - 0 # a / b
+T.class of-code (S)S 1A 12 08 7E 04 7A 93 AC = 0 0 refused 603 T.class p/T f(S)S 5 # (a & 0xFFFF) >> 1
+T.class of-code (S)S 1A 12 08 7E 04 7C 93 AC = 0 0 refused 603 T.class p/T f(S)S 5 # (a & 0xFFFF) >>> 1
+T.class of-code (S)S 1A 10 14 7C 93 AC = 0 0 refused 801 list - - 0 # a >>> 20
+T.class of-code (S)S 1A 04 60 AB 00 00 00 09 00 00 00 00 03 AC = 0 0 refused 604 T.class p/T f(S)S 3
+T.class of-code (S)S 1A AB 00 00 00 00 00 0B 00 00 00 00 03 AC = 0 0 refused 801 list - - 0
+T.class of-code (S)[B 1A 1A 60 BC 08 B0 = 0 0 refused 605 T.class p/T f(S)[B 3 # new byte[a + a]
+T.class of-code (S)[B 1A BC 08 B0 = 0 0 refused 801 list - - 0
+T.class of-code ([BS)B 2A 1B 05 64 33 AC = 0 0 refused 606 T.class p/T f([BS)B 4 # b[o - 2]
+T.class of-code ([BS)B 2A 1B 04 64 33 AC = 0 0 refused 801 list - - 0 # b[o - 1]
+T.class of-code ([BS)B 2A 1B 12 08 7E 04 60 33 AC = 0 0 refused 606 T.class p/T f([BS)B 7 # to 65,536
+T.class of-code ([BS)B 2A 1B 12 08 7E 33 AC = 0 0 refused 801 list - - 0 # to 65,535
+T.class of-code (S)V 1A 04 60 B3 00 0C B1 = 0 0 refused 607 T.class p/T f(S)V 3 # s = a + 1
+T.class of-code (S)V 1A 04 60 11 00 80 05 B8 00 18 B1 = 0 0 refused 607 T.class p/T f(S)V 7 # g(a + 1, 128, 2)
+T.class of-code ()V 04 11 00 80 05 B8 00 18 B1 = 0 0 refused 608 T.class p/T f()V 5
+T.class of-code ()V 04 10 7F 05 B8 00 18 B1 = 0 0 refused 609 T.class p/T f()V 4
+T.class of-code ()V 04 10 7F 04 B8 00 18 B1 = 0 0 refused 801 list - - 0
+T.class of-code (S)B 1A AC = 0 0 refused 608 T.class p/T f(S)B 1
+T.class of-code ()V 05 B3 00 14 B1 = 0 0 refused 609 T.class p/T f()V 1 # z = 2
+T.class of-code ([ZS)V 2A 1B 05 54 B1 = 0 0 refused 609 T.class p/T f([ZS)V 3 # z[o] = 2
+T.class of-code ([ZS)V 2A 1B 04 54 B1 = 0 0 refused 801 list - - 0
+T.class of-code (S)S 1A 04 60 B3 00 0C 01 AC = 0 0 refused 502 T.class p/T f(S)S 7 # a wrong type comes before 607 at 3";
+
 /// Each call of the shelf fails, and each of the sink.
 const FAULTS: &str = "\
 shelf 0 = 0 0 shelf fault list
@@ -297,4 +334,9 @@ fn converts_or_refuses_and_writes_nothing(rt: HostRuntime) {
 #[test]
 fn each_call_fails(rt: HostRuntime) {
     assert_eq!(rt; first_wrong(rt.alloc(), FAULTS), "");
+}
+
+#[test]
+fn refuses_numbers_outside_their_ranges(rt: HostRuntime) {
+    assert_eq!(rt; first_wrong(rt.alloc(), RANGES), "");
 }
