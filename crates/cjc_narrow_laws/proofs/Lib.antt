@@ -6,3 +6,4 @@ pub mod Instructions
 pub mod WordTypes
 pub mod OwnTypes
 pub mod Whole
+pub mod Calls
