@@ -7,3 +7,4 @@ pub mod WordTypes
 pub mod OwnTypes
 pub mod Whole
 pub mod Calls
+pub mod Casts

@@ -21,6 +21,8 @@ ghost use Rattle.cjc_narrow.specs.Package.{flags_of};
 ghost use Rattle.cjc_narrow.specs.Resolved.{method_found};
 ghost use Rattle.cjc_narrow_runs.specs.Converted.{IsConverted};
 ghost use Rattle.cjc_narrow_runs.specs.Tables.{HasTables, Tables};
+ghost use Rattle.cjc_narrow_runs.specs.Types.{IsThere};
+ghost use Rattle.cjc_script.specs.Sorts.{Shape, shape_named};
 ghost use Rattle.cjc_table_rules.specs.Calls.{IsWordDesc};
 ghost use Rattle.cjc_types.specs.Flow.{arguments, body_of};
 ghost use Rattle.cjc_types.specs.Tables.{IsMethodOf};
@@ -98,4 +100,10 @@ pub fn calls_fit_their_methods()
     ensures found { (list : List ℕ) (files : Files) (codes : List MethodCode) (settings : Settings) → IsUnbroken list files codes settings → (class name desc : List ℕ) (f : Found) → find_method (all_classes files) class name desc ≡ Some f → (h : Hit) × (method_hit (all_classes files) f ≡ Some h) }
     ensures calls { (list : List ℕ) (files : Files) (codes : List MethodCode) (settings : Settings) → IsUnbroken list files codes settings → (class : ClassTree) (op : ℕ) (id : Member) → IsInsnOf files codes class (jop.Call op id)
         → (f : Found) (h : Hit) → find_method (all_classes files) id.class id.name id.desc ≡ Some f → method_hit (all_classes files) f ≡ Some h → CallFits op id.name h.flags }
+{}
+
+/// What a checkcast or an instanceof names is a class or an array of one dimension, and the class that it names is there.
+pub fn casts_name_types()
+    ensures casts { (list : List ℕ) (files : Files) (codes : List MethodCode) (settings : Settings) → IsUnbroken list files codes settings → AreSpelt files → (class : ClassTree) (name : List ℕ) → IsInsnOf files codes class (jop.CheckCast name) → (kind : Shape (List ℕ)) × (shape_named name ≡ Some kind) × IsThere (all_classes files) kind }
+    ensures tests { (list : List ℕ) (files : Files) (codes : List MethodCode) (settings : Settings) → IsUnbroken list files codes settings → AreSpelt files → (class : ClassTree) (name : List ℕ) → IsInsnOf files codes class (jop.InstanceOf name) → (kind : Shape (List ℕ)) × (shape_named name ≡ Some kind) × IsThere (all_classes files) kind }
 {}
