@@ -1,6 +1,6 @@
 -- The type that a checkcast or an instanceof names, in a method that breaks no rule of names and types.
-use Rattle.std.proofs.Common.{◌≡◌, ℕ, refl, sym, ap, subst, ◌∙◌, arith, Bool, true, false, List, [], ◌∷◌, ◌++◌, length}
-use Rattle.std.specs.Prelude.{not, ◌&&◌, ◌||◌, ◌==◌, ◌-◌, take, Option, Some, None, is_some, nat_lt, ◌^◌, option_and_then, if◌then◌else◌}
+use Rattle.std.proofs.Common.{◌≡◌, ℕ, refl, sym, ap, subst, ◌∙◌, arith, Bool, true, false, List, [], ◌∷◌, length}
+use Rattle.std.specs.Prelude.{not, ◌&&◌, ◌||◌, ◌==◌, Option, Some, None, is_some, nat_lt, ◌^◌, option_and_then, if◌then◌else◌}
 use Rattle.std.proofs.lemmas.Bool.{eqb-true}
 use Rattle.cjc_bytes.specs.Descriptor.{IsDescriptor, IsType, Parts, array, base, base_kind, field, method, object}
 use Rattle.cjc_bytes.specs.Spots.{desc_of, part_of}
@@ -16,14 +16,13 @@ use Rattle.cjc_narrow_laws.proofs.Instructions.{op_fit, op_there}
 use Rattle.cjc_narrow_laws.proofs.WordTypes.{by_letter}
 use Rattle.cjc_narrow_runs.specs.Types.{IsThere, of_class, of_numbers, of_references}
 use Rattle.cjc_script.specs.Sorts.{Booleans, Bytes, Ints, OfClass, OfNumbers, OfReferences, Shape, Shorts, array_by, shape_named}
-use Rattle.cjc_subset.specs.Members.{is_array, is_descriptor}
+use Rattle.cjc_subset.specs.Members.{is_descriptor}
 use Rattle.cjc_subset.specs.Names.{is_name_missing, names_missing}
 use Rattle.cjc_subset.specs.Types.{is_foreign_element, is_foreign_name, names_foreign}
 use Rattle.cjc_table_rules.proofs.Spelt.{all_but_last, class_read}
-use Rattle.cjc_world.specs.Classes.{Class, all_classes, class_named}
+use Rattle.cjc_world.specs.Classes.{Class, all_classes}
 use Rattle.cjc_world.specs.Files.{Files}
 use Rattle.cjc_world.specs.Rules.{is_element_missing, is_missing, is_type_missing}
-use Rattle.cjc_world.proofs.Trees.{all-back}
 
 -- the type is read, and what it names is there
 abbrev pub IsReadType : List Class → List ℕ → Type 0
