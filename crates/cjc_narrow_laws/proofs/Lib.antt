@@ -6,3 +6,5 @@ pub mod Instructions
 pub mod WordTypes
 pub mod OwnTypes
 pub mod Whole
+pub mod Calls
+pub mod Casts

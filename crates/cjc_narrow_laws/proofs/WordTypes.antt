@@ -26,7 +26,7 @@ or_right false b e = e
 -- ---- by the letter of a type
 
 -- what holds of the four letters of types that are not foreign holds of each letter whose kind is not foreign
-by_letter : (P : ℕ → Kind → Type 0) → P 66 kinds.Byte → P 73 kinds.Int → P 83 kinds.Short → P 90 kinds.Bool → (b : ℕ) (kind : Kind) → base_kind b ≡ Some kind → (is_foreign_element (b ∷ []) ≡ true → P b kind) → P b kind
+pub by_letter : (P : ℕ → Kind → Type 0) → P 66 kinds.Byte → P 73 kinds.Int → P 83 kinds.Short → P 90 kinds.Bool → (b : ℕ) (kind : Kind) → base_kind b ≡ Some kind → (is_foreign_element (b ∷ []) ≡ true → P b kind) → P b kind
 by_letter P byte int short bool b kind e foreign = go (b == 66) (b == 67) (b == 68) (b == 70) (b == 73) (b == 74) (b == 83) (b == 90) refl refl refl refl refl refl refl refl e
   where
     is : (c : ℕ) {k : Kind} → (b == c) ≡ true → Some k ≡ Some kind → P c k → P b kind

@@ -13,7 +13,7 @@ ghost use Rattle.cjc_classfile.specs.Code.{CodeTree};
 ghost use Rattle.cjc_classfile.specs.declared.tree.Catch.{Catch};
 ghost use Rattle.cjc_classfile.specs.declared.tree.ClassTree.{ClassTree};
 ghost use Rattle.cjc_classfile.specs.declared.tree.MethodTree.{MethodTree};
-ghost use Rattle.cjc_by_name.specs.OnePackage.{made_of, object_fields};
+ghost use Rattle.cjc_by_name.specs.OnePackage.{Hit, made_of, method_hit, object_fields};
 ghost use Rattle.cjc_by_name.specs.Linked.{Method};
 ghost use Rattle.cjc_code.specs.declared.insn.JOp.TheVariants as jop;
 ghost use Rattle.cjc_code.specs.declared.method_code.MethodCode.{MethodCode};
@@ -21,6 +21,8 @@ ghost use Rattle.cjc_narrow.specs.Package.{flags_of};
 ghost use Rattle.cjc_narrow.specs.Resolved.{method_found};
 ghost use Rattle.cjc_narrow_runs.specs.Converted.{IsConverted};
 ghost use Rattle.cjc_narrow_runs.specs.Tables.{HasTables, Tables};
+ghost use Rattle.cjc_narrow_runs.specs.Types.{IsThere};
+ghost use Rattle.cjc_script.specs.Sorts.{Shape, shape_named};
 ghost use Rattle.cjc_table_rules.specs.Calls.{IsWordDesc};
 ghost use Rattle.cjc_types.specs.Flow.{arguments, body_of};
 ghost use Rattle.cjc_types.specs.Tables.{IsMethodOf};
@@ -29,6 +31,7 @@ ghost use Rattle.cjc_world.specs.Lookup.{find_field, find_method};
 ghost use Rattle.cjc_world.specs.declared.found.Found.{Found};
 ghost use Rattle.cjc_world.specs.declared.image.StaticImage.{StaticImage};
 ghost use Rattle.cjc_world.specs.Files.{Files};
+ghost use Rattle.cjc_narrow_laws.specs.Calls.{CallFits};
 ghost use Rattle.cjc_narrow_laws.specs.Left.{HasLeast, IsLeft};
 ghost use Rattle.cjc_narrow_laws.specs.Unbroken.{AreSpelt, IsInsnOf, IsUnbroken};
 
@@ -89,4 +92,18 @@ pub fn unbroken_packages_are_converted()
         → (tables : Tables) (m : Method) → HasLeast files codes tables m → HasTables files tables m }
     ensures whole { (list : List ℕ) (files : Files) (codes : List MethodCode) (settings : Settings) → IsUnbroken list files codes settings → AreSpelt files
         → (image : StaticImage) (near : List Member) (tables : Tables) → IsLeft files image near codes tables → IsConverted files image near tables }
+{}
+
+/// A method that a look-up finds is a class's, and a call fits the method that it names: by its name, and by whether that is static and
+/// can be selected.
+pub fn calls_fit_their_methods()
+    ensures found { (list : List ℕ) (files : Files) (codes : List MethodCode) (settings : Settings) → IsUnbroken list files codes settings → (class name desc : List ℕ) (f : Found) → find_method (all_classes files) class name desc ≡ Some f → (h : Hit) × (method_hit (all_classes files) f ≡ Some h) }
+    ensures calls { (list : List ℕ) (files : Files) (codes : List MethodCode) (settings : Settings) → IsUnbroken list files codes settings → (class : ClassTree) (op : ℕ) (id : Member) → IsInsnOf files codes class (jop.Call op id)
+        → (f : Found) (h : Hit) → find_method (all_classes files) id.class id.name id.desc ≡ Some f → method_hit (all_classes files) f ≡ Some h → CallFits op id.name h.flags }
+{}
+
+/// What a checkcast or an instanceof names is a class or an array of one dimension, and the class that it names is there.
+pub fn casts_name_types()
+    ensures casts { (list : List ℕ) (files : Files) (codes : List MethodCode) (settings : Settings) → IsUnbroken list files codes settings → AreSpelt files → (class : ClassTree) (name : List ℕ) → IsInsnOf files codes class (jop.CheckCast name) → (kind : Shape (List ℕ)) × (shape_named name ≡ Some kind) × IsThere (all_classes files) kind }
+    ensures tests { (list : List ℕ) (files : Files) (codes : List MethodCode) (settings : Settings) → IsUnbroken list files codes settings → AreSpelt files → (class : ClassTree) (name : List ℕ) → IsInsnOf files codes class (jop.InstanceOf name) → (kind : Shape (List ℕ)) × (shape_named name ≡ Some kind) × IsThere (all_classes files) kind }
 {}
