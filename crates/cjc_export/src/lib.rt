@@ -14,5 +14,6 @@ mod writing;
 pub use file::{read, readings};
 pub use lookup::supers;
 pub use members::may_be_constant;
+pub use needs::pool_size;
 pub use tree::{ExportClass, ExportField, ExportMethod, ExportTree};
 pub use writing::write;

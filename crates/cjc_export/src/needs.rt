@@ -1,6 +1,6 @@
 //! Which constants a written file needs, in the order in which writing needs them.
 
-ghost use Rattle.std.specs.Prelude.{◌≡◌, IfOk, OnOk};
+ghost use Rattle.std.specs.Prelude.{◌≡◌, length, IfOk, OnOk};
 ghost use Rattle.std.specs.List.{flat_map};
 ghost use Rattle.indexmap.specs.IndexSet.{insert_all};
 ghost use Rattle.cjc_export.specs.Constant.{same};
@@ -113,4 +113,11 @@ pub(crate) fn constants(alloc: Global, tree: &ExportTree) -> Result<Pool<'_>, No
     pool.add(Constant::this())?;
     need_class_trees(tree.classes.items(), &mut pool)?;
     Ok(pool)
+}
+
+/// How many entries the pool of the tree's file has.
+pub fn pool_size(alloc: Global, tree: &ExportTree) -> Result<usize, NoMemory>
+    ensures { IfOk result (λ size. size ≡ length (constants tree.now)) }
+{
+    Ok(constants(alloc, tree)?.len())
 }

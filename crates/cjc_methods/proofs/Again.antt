@@ -54,7 +54,7 @@ module _ (files : Files) (rows : Method → List (Option State)) (before after :
       ap (λ b. b ∷ map has_catch_type (map (code_at files before rows) fs)) (types_of f (method_at files f))
       ∙ ap (λ rest. has_catch_type (code_at files after rows f) ∷ rest) (all_types fs)
 
-  same_pools : (fs : List Found) → pool_order (map (code_at files before rows) fs) ≡ pool_order (map (code_at files after rows) fs)
+  pub same_pools : (fs : List Found) → pool_order (map (code_at files before rows) fs) ≡ pool_order (map (code_at files after rows) fs)
   same_pools fs = same_pool (map (code_at files before rows) fs) (map (code_at files after rows) fs) (all_keys fs) (all_types fs)
 
 -- Code that is selected by its own pool.

@@ -1,16 +1,14 @@
 //! The method that a member of a class is: one of the class file, or one that the class gets from its interfaces. It
 //! knows no code.
 
-ghost use Rattle.std.specs.Prelude.{◌≡◌, ◌<◌, Some, length, IfOk};
-ghost use Rattle.cjc_narrow.specs.Resolved.{argument_words};
+ghost use Rattle.std.specs.Prelude.{◌≡◌, ◌<◌, Some, length};
 ghost use Rattle.cjc_world.specs.Classes.{Class, all_classes, class_at};
 ghost use Rattle.cjc_components.specs.Descriptor.{method_in};
 ghost use Rattle.cjc_methods.specs.Ready.{IsOwn};
 ghost use Rattle.cjc_methods.specs.Working.Methods.{added_in, IsLike};
 
-use cjc_bytes::{ACC_ABSTRACT, ACC_PUBLIC, NoMemory, is_static};
+use cjc_bytes::{ACC_ABSTRACT, ACC_PUBLIC};
 use cjc_world::{Found, World};
-use cjc_written::words_by;
 
 /// A method by its flags, its name and its descriptor.
 #[derive(Clone, Copy)]
@@ -18,19 +16,6 @@ pub(crate) struct Signature<'w> {
     pub flags: u16,
     pub name: &'w [u8],
     pub desc: &'w [u8],
-}
-
-/// How many words a method takes, its receiver counted.
-#[tactic(auto, using(cjc_narrow::proofs::Fields::counted))]
-pub(crate) fn argument_words(method: Signature<'_>) -> Result<u64, NoMemory>
-    ensures { IfOk result (λ words. words ≡ argument_words method.entry.flags method.entry.desc.now) }
-{
-    let words = words_by(method.desc)?;
-    if is_static(method.flags) {
-        Ok(words.saturating_sub(1))
-    } else {
-        Ok(words)
-    }
 }
 
 /// The method that a class gets, by its place among these.

@@ -20,14 +20,14 @@ ghost use Rattle.cjc_methods.specs.Ready.{AreReady, AreRows, IsOwn, IsReady, sta
 ghost use Rattle.cjc_methods.specs.Words.{HasRoom};
 ghost use Rattle.cjc_methods.specs.Working.Places.{class_places, place_in};
 
-use crate::method::{argument_words, method_in};
+use crate::method::method_in;
 use crate::places::place_in;
 use crate::reached::reached;
 use cjc_bytes::{NoMemory, Row};
 use cjc_code::MethodCode;
 use cjc_keys::Numbers;
 use cjc_ncode::NMethod;
-use cjc_select::select;
+use cjc_select::{argument_words, select};
 use cjc_types::TypeTable;
 use cjc_world::{Found, World};
 use std::alloc::Global;
@@ -117,7 +117,8 @@ fn code_at(
             )
         }
         None => {
-            let words = argument_words(method_in(world, member))?;
+            let method = method_in(world, member);
+            let words = argument_words(method.flags, method.desc)?;
             Ok(no_code(alloc, words as u8))
         }
     }

@@ -12,8 +12,9 @@ ghost use Rattle.cjc_methods.specs.Words.{HasRoom};
 ghost use Rattle.cjc_methods.specs.Working.Methods.{IsLike};
 ghost use Rattle.cjc_methods.specs.Working.Spots.{spot_in, word_breaks_in};
 
-use crate::method::{Signature, argument_words, method_in};
+use crate::method::{Signature, method_in};
 use cjc_bytes::{Break, Fault, NoMemory, Part, PlaceRef, Spot, answer, broken, file_of, first};
+use cjc_select::argument_words;
 use cjc_world::{Found, World};
 use std::alloc::Global;
 
@@ -49,7 +50,7 @@ fn words_break<'w>(world: &'w World<'_>, member: Found) -> Result<Option<Break<'
     ensures { IfOk result (λ b. IsFirstOf (word_breaks_in world.now member) (option_map break_of b)) }
 {
     let method = method_in(world, member);
-    let words = argument_words(method)?;
+    let words = argument_words(method.flags, method.desc)?;
     let spot = spot_in(world, member, method, 0);
     Ok(broken(words > MOST_WORDS, spot, 417))
 }

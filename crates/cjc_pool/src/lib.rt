@@ -7,4 +7,4 @@ mod calls;
 mod lookup;
 mod pool;
 
-pub use pool::{Pool, build};
+pub use pool::{MOST_ENTRIES, Pool, build};

@@ -14,7 +14,7 @@ use std::alloc::Global;
 use std::marker::Model;
 
 /// The most entries that a pool may have.
-const MOST_ENTRIES: usize = 16383;
+pub const MOST_ENTRIES: usize = 16383;
 
 /// A constant pool by its keys (Java Card Virtual Machine Specification 2.2.2, section 6.7), with the tokens of
 /// the methods of interfaces that code calls.

@@ -14,7 +14,7 @@ mod code;
 mod method;
 mod names;
 
-pub use method::select;
+pub use method::{argument_words, select};
 
 /// The methods of a package need the same pool whichever instance fields their code reads with an index of one byte. So
 /// code can be selected once to know the pool, and again by the indices that it has.

@@ -24,7 +24,7 @@ use std::alloc::Global;
 
 /// How many words a method with these flags and this descriptor takes, its receiver counted.
 #[tactic(auto, using(cjc_narrow::proofs::Fields::counted))]
-fn argument_words(flags: u16, desc: &[u8]) -> Result<u64, NoMemory>
+pub fn argument_words(flags: u16, desc: &[u8]) -> Result<u64, NoMemory>
     ensures { IfOk result (λ words. words ≡ argument_words flags desc.now) }
 {
     let words = words_by(desc)?;

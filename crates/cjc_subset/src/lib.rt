@@ -16,3 +16,4 @@ mod types;
 pub use checking::{check, first_broken};
 pub use naming::names;
 pub use places::{class_spot, method_spot};
+pub use types::is_int_desc;

@@ -149,7 +149,7 @@ fn is_any_int(desc: &Desc<'_>) -> bool
 
 /// Whether int stands in a descriptor.
 #[tactic(auto, unfolding(crate::specs::Types::is_int_desc))]
-pub(crate) fn is_int_desc(desc: &[u8]) -> bool
+pub fn is_int_desc(desc: &[u8]) -> bool
     ensures { result ≡ is_int_desc desc.now }
 {
     if desc.len() >= 0x1_0000_0000 {

@@ -1,6 +1,6 @@
 pub mod Places
 pub mod Named
-pub mod Placed
+pub mod Numbers
 pub mod Rising
 pub mod Settled
 pub mod Cycles

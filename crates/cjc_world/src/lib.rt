@@ -11,6 +11,7 @@ mod image;
 mod laws;
 mod lookup;
 mod names;
+mod numbers;
 mod roster;
 mod rules;
 mod spot;

@@ -2,7 +2,7 @@
 //! but `new`.
 
 ghost use Rattle.std.specs.Prelude.{◌≡◌, suc, [], ◌∷◌, length, slice_get, false, option_map, IfSome, IfOk};
-ghost use Rattle.cjc_world.specs.Classes.{all_classes, class_at, class_named, is_at};
+ghost use Rattle.cjc_world.specs.Classes.{all_classes, class_at, class_named};
 ghost use Rattle.cjc_world.specs.Working.Places.{place_named};
 ghost use Rattle.cjc_world.specs.Kin.{grown, is_below, kin, upwards, stands, stands_above};
 ghost use Rattle.cjc_world.specs.Files.{files_of};
@@ -17,6 +17,7 @@ ghost use Rattle.cjc_world.specs.Lookup.{first, own_field, own_method, field_in}
 use crate::class::Known;
 use crate::found::Found;
 use crate::names::{Names, names_of};
+use crate::numbers::{Numbers, numbers_of};
 use crate::spot::{Spot, index, known};
 use cjc_bytes::{Bytes, FileLine, NoMemory, Row};
 use cjc_classfile::ClassTree;
@@ -32,6 +33,7 @@ pub(crate) struct Roster<'a> {
     exports: Row<ExportTree>,
     spots: Row<Spot>,
     names: Names,
+    numbers: Numbers,
 }
 
 impl Drop for Roster<'_> {
@@ -43,6 +45,7 @@ impl Drop for Roster<'_> {
             exports: _exports,
             spots: _spots,
             names: _names,
+            numbers: _numbers,
         } = self;
     }
 }
@@ -55,7 +58,7 @@ impl<'a> Model for Roster<'a> {
 
     ghost view = { λ w. record { package_name = w.package; lines = w.lines; classes = w.classes; exports = w.exports } };
 
-    ghost invariant = { λ w. IsRoster w.lines w.classes w.exports w.spots w.names };
+    ghost invariant = { λ w. IsRoster w.lines w.classes w.exports w.spots w.names w.numbers };
 }
 
 impl<'a> Roster<'a> {
@@ -70,6 +73,7 @@ impl<'a> Roster<'a> {
     {
         let spots = index(alloc, lines.items(), classes.items(), exports.items())?;
         let names = names_of(alloc, spots.items(), classes.items(), exports.items())?;
+        let numbers = numbers_of(alloc, spots.items())?;
         let package = Bytes::copy_of(alloc, package_name)?;
         Ok(Roster {
             package,
@@ -78,6 +82,7 @@ impl<'a> Roster<'a> {
             exports,
             spots,
             names,
+            numbers,
         })
     }
 
@@ -137,14 +142,8 @@ impl<'a> Roster<'a> {
         ensures at { option_map class_of result ≡ class_at (all_classes self.now) imported class }
         ensures counted { IfSome result (λ k. IsCounted (class_of k)) }
     {
-        for spot in self.spots() {
-            if let Some(known) = self.at(spot) {
-                if is_at(known, imported, class) {
-                    return Some(known);
-                }
-            }
-        }
-        None
+        let place = self.numbers.get(imported, class)?;
+        self.class_in(place)
     }
 
     /// How many classes there are.
@@ -170,10 +169,4 @@ impl<'a> Roster<'a> {
     {
         self.names.get(name)
     }
-}
-
-fn is_at(known: Known<'_, '_>, imported: bool, class: u32) -> bool
-    ensures { result ≡ is_at imported class (class_of known.entry) }
-{
-    known.is_imported() == imported && known.number() == class
 }

@@ -1,13 +1,15 @@
 -- What the index of names answers.
-use Rattle.std.specs.Prelude.{◌≡◌, ℕ, suc, List, [], ◌∷◌, Bool, false, if◌then◌else◌, Option, Some, None, option_map}
+use Rattle.std.specs.Prelude.{◌≡◌, ℕ, suc, List, [], ◌∷◌, Bool, true, false, if◌then◌else◌, Option, Some, None, option_map}
 use Rattle.std.specs.HashMap.{get_by}
 use Rattle.std.specs.Str.{bytes_eq}
 use Rattle.cjc_bytes.specs.declared.settings.FileLine.{FileLine}
 use Rattle.cjc_classfile.specs.declared.tree.ClassTree.{ClassTree}
 use Rattle.cjc_export.specs.declared.tree.ExportTree.{ExportTree}
 use Rattle.cjc_world.specs.declared.names.Names.{Names}
+use Rattle.cjc_world.specs.declared.numbers.Numbers.{Numbers}
 use Rattle.cjc_world.specs.declared.spot.Spot.{Spot}
 use Rattle.cjc_world.specs.Classes.{Class, classes_from}
+use Rattle.cjc_world.specs.Working.Numbers.{places_of}
 use Rattle.cjc_world.specs.Working.Places.{place_named}
 use Rattle.cjc_world.specs.Working.Spots.{at, IsIndexed}
 
@@ -24,7 +26,9 @@ unfoldable pub spot_named : List ClassTree → List ExportTree → List Spot →
 spot_named classes exports [] name = None
 spot_named classes exports (s ∷ ss) name = if is_named (at classes exports s) name then Some 0 else option_map suc (spot_named classes exports ss name)
 
--- The spots are those of all classes, in order, and each name is noted at its first class.
-pub record IsRoster (lines : List FileLine) (classes : List ClassTree) (exports : List ExportTree) (spots : List Spot) (names : Names) : Type 0 where
+-- The spots are those of all classes, in order, each name is noted at its first class, and each number at the class of its kind.
+pub record IsRoster (lines : List FileLine) (classes : List ClassTree) (exports : List ExportTree) (spots : List Spot) (names : Names) (numbers : Numbers) : Type 0 where
   pub indexed : IsIndexed lines classes exports spots
   pub named : (name : List ℕ) → place_in names name ≡ place_named (classes_from classes exports 0 0 0 lines) name
+  pub declared : numbers.declared ≡ places_of false 0 spots
+  pub imported : numbers.imported ≡ places_of true 0 spots

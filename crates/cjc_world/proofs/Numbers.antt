@@ -1,0 +1,204 @@
+-- Classes of one kind are numbered in the order in which they stand, so that the list of their places finds a number.
+use Rattle.std.proofs.Common.{◌≡◌, ℕ, zero, suc, ◌<◌, ◌≤◌, ◌+◌, refl, sym, ap, subst, ◌∙◌, arith, Bool, true, false, List, [], ◌∷◌, ◌++◌, length, get_or, drop, add-one, append_assoc}
+use Rattle.std.specs.Prelude.{Option, Some, None, if◌then◌else◌, not, ◌&&◌, ◌==◌, option_map, option_and_then, option_to_list, slice_get}
+use Rattle.std.proofs.Math.Seq.{drop-cons}
+use Rattle.std.proofs.lemmas.List.{append-nil}
+use Rattle.std.proofs.lemmas.Grind.{common_steps}
+use Rattle.cjc_bytes.specs.declared.settings.FileLine.{FileLine}
+use Rattle.cjc_classfile.specs.declared.tree.ClassTree.{ClassTree}
+use Rattle.cjc_export.specs.declared.tree.ExportClass.{ExportClass}
+use Rattle.cjc_export.specs.declared.tree.ExportTree.{ExportTree}
+use Rattle.cjc_world.specs.declared.spot.Spot.{Spot}
+use Rattle.cjc_world.specs.Classes.{Class, declared, imported, of_class_file, of_export_file, numbered, size, classes_from, class_at, is_at}
+use Rattle.cjc_world.specs.Working.Numbers.{is_of_kind, places_of}
+use Rattle.cjc_world.specs.Working.Spots.{at, stood}
+use Rattle.cjc_world.proofs.Noted.{stood-few}
+
+-- ---- the walk over spots
+
+pub place-here : (b : Bool) (ss : List Spot) (i : ℕ) (d : Spot) → i < length ss → is_of_kind b (get_or ss i d).imported ≡ true → places_of b i (drop i ss) ≡ i ∷ places_of b (i + 1) (drop (i + 1) ss)
+unfolding places_of
+place-here b ss i d l e =
+    ap (places_of b i) (drop-cons ss i d l)
+    ∙ ap (λ t. if t then i ∷ places_of b (i + 1) (drop (suc i) ss) else places_of b (i + 1) (drop (suc i) ss)) e
+    ∙ ap (λ n. i ∷ places_of b (i + 1) (drop n ss)) (sym (add-one i))
+
+pub place-over : (b : Bool) (ss : List Spot) (i : ℕ) (d : Spot) → i < length ss → is_of_kind b (get_or ss i d).imported ≡ false → places_of b i (drop i ss) ≡ places_of b (i + 1) (drop (i + 1) ss)
+unfolding places_of
+place-over b ss i d l e =
+    ap (places_of b i) (drop-cons ss i d l)
+    ∙ ap (λ t. if t then i ∷ places_of b (i + 1) (drop (suc i) ss) else places_of b (i + 1) (drop (suc i) ss)) e
+    ∙ ap (λ n. places_of b (i + 1) (drop n ss)) (sym (add-one i))
+
+pub place-end : (b : Bool) (ss : List Spot) (i : ℕ) → length ss ≤ i → places_of b i (drop i ss) ≡ []
+unfolding places_of
+place-end b ss i past = let e : drop i ss ≡ [] = grind (arith, common_steps) in ap (places_of b i) e
+
+-- ---- spots and their classes
+
+classes_of : (b : Bool) → ℕ → List Class → List ℕ
+classes_of b n [] = []
+classes_of b n (c ∷ w) = if is_of_kind b c.is_imported then n ∷ classes_of b (n + 1) w else classes_of b (n + 1) w
+
+module _ (cs : List ClassTree) (es : List ExportTree) where
+  spot-kind : (s : Spot) (c : Class) → at cs es s ≡ Some c → s.imported ≡ c.is_imported
+  spot-kind s c e = by s.imported (slice_get cs s.tree) (option_and_then (λ t. slice_get t.classes s.class) (slice_get es s.tree)) e
+    where
+      by : (b : Bool) (o : Option ClassTree) (x : Option ExportClass) → (if b then option_map (λ c. imported s.number c) x else option_map (λ c. declared s.number c) o) ≡ Some c → b ≡ c.is_imported
+      by true o None e = cc
+      by true o (Some x) e = let is : imported s.number x ≡ c = cc in ap (λ (v : Class). v.is_imported) is
+      by false None x e = cc
+      by false (Some o) x e = let is : declared s.number o ≡ c = cc in ap (λ (v : Class). v.is_imported) is
+
+  pub spots-classes : (b : Bool) (n : ℕ) (ss : List Spot) → length ss ≡ length (stood cs es ss) → places_of b n ss ≡ classes_of b n (stood cs es ss)
+  unfolding places_of classes_of
+  spots-classes b n [] l = refl
+  spots-classes b n (s ∷ ss) l = by (at cs es s) refl l (spots-classes b (n + 1) ss)
+    where
+      by : (o : Option Class) → at cs es s ≡ o → suc (length ss) ≡ length (option_to_list o ++ stood cs es ss)
+          → (length ss ≡ length (stood cs es ss) → places_of b (n + 1) ss ≡ classes_of b (n + 1) (stood cs es ss))
+          → (if is_of_kind b s.imported then n ∷ places_of b (n + 1) ss else places_of b (n + 1) ss) ≡ classes_of b n (option_to_list o ++ stood cs es ss)
+      by None h l rest = let f = stood-few cs es ss in absurd (omega arith)
+      by (Some c) h l rest =
+          ap (λ ps. if is_of_kind b s.imported then n ∷ ps else ps) (rest (omega arith))
+          ∙ ap (λ k. if is_of_kind b k then n ∷ classes_of b (n + 1) (stood cs es ss) else classes_of b (n + 1) (stood cs es ss)) (spot-kind s c h)
+
+-- ---- the classes of a kind are numbered from a number on
+
+unfoldable IsRising : Bool → ℕ → List Class → Type 0
+IsRising b s [] = Unit {0}
+IsRising b s (c ∷ w) = if is_of_kind b c.is_imported then (c.number ≡ s) × IsRising b (s + 1) w else IsRising b s w
+
+rising-kind : (b : Bool) (s : ℕ) (c : Class) (w : List Class) → is_of_kind b c.is_imported ≡ true → IsRising b s (c ∷ w) → (c.number ≡ s) × IsRising b (s + 1) w
+unfolding IsRising
+rising-kind b s c w e r = subst (λ t. if t then (c.number ≡ s) × IsRising b (s + 1) w else IsRising b s w) e r
+
+rising-other : (b : Bool) (s : ℕ) (c : Class) (w : List Class) → is_of_kind b c.is_imported ≡ false → IsRising b s (c ∷ w) → IsRising b s w
+unfolding IsRising
+rising-other b s c w e r = subst (λ t. if t then (c.number ≡ s) × IsRising b (s + 1) w else IsRising b s w) e r
+
+same : (n : ℕ) → (n == n) ≡ true
+same zero = refl
+same (suc n) = same n
+
+unlike : (m n : ℕ) → m < n → (m == n) ≡ false
+unlike zero zero l = absurd (omega arith)
+unlike zero (suc n) l = refl
+unlike (suc m) zero l = absurd (omega arith)
+unlike (suc m) (suc n) l = unlike m n (omega arith)
+
+-- what a place among the classes and a number have in common
+Meets : List Class → Option Class → ℕ → Option ℕ → Type 0
+Meets w o m None = o ≡ None
+Meets w o m (Some q) = (p : ℕ) × (q ≡ m + p) × (slice_get w p ≡ o)
+
+meets-on : (c : Class) (w : List Class) (o : Option Class) (m : ℕ) (q : Option ℕ) → Meets w o (m + 1) q → Meets (c ∷ w) o m q
+unfolding Meets
+meets-on c w o m None e = e
+meets-on c w o m (Some q) e = (suc e.0, (let f = e.1 in omega arith), e.2)
+
+pub number-meets : (b : Bool) (s m : ℕ) (w : List Class) → IsRising b s w → (n : ℕ) → Meets w (class_at w b (s + n)) m (slice_get (classes_of b m w) n)
+unfolding Meets class_at classes_of
+number-meets b s m [] r n = refl
+number-meets b s m (c ∷ w) r n = by (is_of_kind b c.is_imported) refl n
+  where
+    by : (t : Bool) → is_of_kind b c.is_imported ≡ t → (n : ℕ) → Meets (c ∷ w) (if t && (c.number == (s + n)) then Some c else class_at w b (s + n)) m (slice_get (if t then m ∷ classes_of b (m + 1) w else classes_of b (m + 1) w) n)
+    by false e n = meets-on c w (class_at w b (s + n)) m (slice_get (classes_of b (m + 1) w) n) (number-meets b s (m + 1) w (rising-other b s c w e r) n)
+    by true e zero =
+        let is : c.number ≡ s + 0 = (rising-kind b s c w e r).0 ∙ (let z : s ≡ s + 0 = omega arith in z) in
+        (0, (let z : m ≡ m + 0 = omega arith in z), sym (ap (λ k. if k == (s + 0) then Some c else class_at w b (s + 0)) is ∙ ap (λ t. if t then Some c else class_at w b (s + 0)) (same (s + 0))))
+    by true e (suc n) =
+        let is = (rising-kind b s c w e r).0 in
+        let other : (c.number == (s + suc n)) ≡ false = unlike c.number (s + suc n) (omega arith) in
+        let next : s + 1 + n ≡ s + suc n = omega arith in
+        let rest = subst (λ k. Meets w (class_at w b k) (m + 1) (slice_get (classes_of b (m + 1) w) n)) next (number-meets b (s + 1) (m + 1) w (rising-kind b s c w e r).1 n) in
+        subst (λ t. Meets (c ∷ w) (if t then Some c else class_at w b (s + suc n)) m (slice_get (classes_of b (m + 1) w) n)) (sym other)
+        (meets-on c w (class_at w b (s + suc n)) m (slice_get (classes_of b (m + 1) w) n) rest)
+
+-- ---- so are those of the list
+
+over-numbered : (s i : ℕ) (xs : List ExportClass) (w : List Class) → IsRising false s w → IsRising false s (numbered i xs ++ w)
+unfolding IsRising
+over-numbered s i [] w r = r
+over-numbered s i (x ∷ xs) w r = over-numbered s (i + 1) xs w r
+
+on-numbered : (i : ℕ) (xs : List ExportClass) (w : List Class) → IsRising true (i + length xs) w → IsRising true i (numbered i xs ++ w)
+unfolding IsRising
+on-numbered i [] w r = subst (λ n. IsRising true n w) (let z : i + 0 ≡ i = omega arith in z) r
+on-numbered i (x ∷ xs) w r = (refl, on-numbered (i + 1) xs w (subst (λ n. IsRising true n w) (let z : i + suc (length xs) ≡ i + 1 + length xs = omega arith in z) r))
+
+past-end : {A : Type 0} (xs : List A) (n : ℕ) → slice_get xs n ≡ None → slice_get xs (n + 1) ≡ None
+past-end [] n e = refl
+past-end (x ∷ xs) zero e = cc
+past-end (x ∷ xs) (suc n) e = past-end xs n e
+
+module _ (cs : List ClassTree) (es : List ExportTree) where
+  -- no class file is left
+  none-left : (c e i s : ℕ) (lines : List FileLine) → slice_get cs c ≡ None → IsRising false s (classes_from cs es c e i lines)
+  unfolding classes_from IsRising
+  none-left c e i s [] h = tt
+  none-left c e i s (line ∷ lines) h = by line.class_file
+    where
+      by : (b : Bool) → IsRising false s (if b then of_class_file c (slice_get cs c) ++ classes_from cs es (c + 1) e i lines else of_export_file i (slice_get es e) ++ classes_from cs es c (e + 1) (i + size (slice_get es e)) lines)
+      by true = subst (λ o. IsRising false s (of_class_file c o ++ classes_from cs es (c + 1) e i lines)) (sym h) (none-left (c + 1) e i s lines (past-end cs c h))
+      by false = inner (slice_get es e)
+        where
+          inner : (o : Option ExportTree) → IsRising false s (of_export_file i o ++ classes_from cs es c (e + 1) (i + size o) lines)
+          inner None = none-left c (e + 1) (i + 0) s lines h
+          inner (Some t) = over-numbered s i t.classes (classes_from cs es c (e + 1) (i + length t.classes) lines) (none-left c (e + 1) (i + length t.classes) s lines h)
+
+  files-rise : (c e i : ℕ) (lines : List FileLine) → IsRising false c (classes_from cs es c e i lines)
+  unfolding classes_from IsRising
+  files-rise c e i [] = tt
+  files-rise c e i (line ∷ lines) = by line.class_file
+    where
+      by : (b : Bool) → IsRising false c (if b then of_class_file c (slice_get cs c) ++ classes_from cs es (c + 1) e i lines else of_export_file i (slice_get es e) ++ classes_from cs es c (e + 1) (i + size (slice_get es e)) lines)
+      by true = inner (slice_get cs c) refl
+        where
+          inner : (o : Option ClassTree) → slice_get cs c ≡ o → IsRising false c (of_class_file c o ++ classes_from cs es (c + 1) e i lines)
+          inner None h = none-left (c + 1) e i c lines (past-end cs c h)
+          inner (Some t) h = (refl, files-rise (c + 1) e i lines)
+      by false = inner (slice_get es e)
+        where
+          inner : (o : Option ExportTree) → IsRising false c (of_export_file i o ++ classes_from cs es c (e + 1) (i + size o) lines)
+          inner None = files-rise c (e + 1) (i + 0) lines
+          inner (Some t) = over-numbered c i t.classes (classes_from cs es c (e + 1) (i + length t.classes) lines) (files-rise c (e + 1) (i + length t.classes) lines)
+
+  imports-rise : (c e i : ℕ) (lines : List FileLine) → IsRising true i (classes_from cs es c e i lines)
+  unfolding classes_from IsRising
+  imports-rise c e i [] = tt
+  imports-rise c e i (line ∷ lines) = by line.class_file
+    where
+      by : (b : Bool) → IsRising true i (if b then of_class_file c (slice_get cs c) ++ classes_from cs es (c + 1) e i lines else of_export_file i (slice_get es e) ++ classes_from cs es c (e + 1) (i + size (slice_get es e)) lines)
+      by true = inner (slice_get cs c)
+        where
+          inner : (o : Option ClassTree) → IsRising true i (of_class_file c o ++ classes_from cs es (c + 1) e i lines)
+          inner None = imports-rise (c + 1) e i lines
+          inner (Some t) = imports-rise (c + 1) e i lines
+      by false = inner (slice_get es e)
+        where
+          inner : (o : Option ExportTree) → IsRising true i (of_export_file i o ++ classes_from cs es c (e + 1) (i + size o) lines)
+          inner None = subst (λ n. IsRising true n (classes_from cs es c (e + 1) (i + 0) lines)) (let z : i + 0 ≡ i = omega arith in z) (imports-rise c (e + 1) (i + 0) lines)
+          inner (Some t) = on-numbered i t.classes (classes_from cs es c (e + 1) (i + length t.classes) lines) (imports-rise c (e + 1) (i + length t.classes) lines)
+
+  rises : (b : Bool) (lines : List FileLine) → IsRising b 0 (classes_from cs es 0 0 0 lines)
+  rises true lines = imports-rise 0 0 0 lines
+  rises false lines = files-rise 0 0 0 lines
+
+  -- what the list of places answers
+  pub number-place : (b : Bool) (lines : List FileLine) (ss : List Spot) → stood cs es ss ≡ classes_from cs es 0 0 0 lines → length ss ≡ length (stood cs es ss) → (n p : ℕ)
+      → slice_get (places_of b 0 ss) n ≡ Some p → slice_get (classes_from cs es 0 0 0 lines) p ≡ class_at (classes_from cs es 0 0 0 lines) b n
+  unfolding Meets
+  number-place b lines ss all few n p e =
+      let w = classes_from cs es 0 0 0 lines in
+      let listed : slice_get (classes_of b 0 w) n ≡ Some p = ap (λ w. slice_get (classes_of b 0 w) n) (sym all) ∙ ap (λ ps. slice_get ps n) (sym (spots-classes cs es b 0 ss few)) ∙ e in
+      let met = subst (λ o. Meets w (class_at w b n) 0 o) listed (number-meets b 0 0 w (rises b lines) n) in
+      ap (slice_get w) met.1 ∙ met.2
+
+  pub number-none : (b : Bool) (lines : List FileLine) (ss : List Spot) → stood cs es ss ≡ classes_from cs es 0 0 0 lines → length ss ≡ length (stood cs es ss) → (n : ℕ)
+      → slice_get (places_of b 0 ss) n ≡ None → class_at (classes_from cs es 0 0 0 lines) b n ≡ None
+  unfolding Meets
+  number-none b lines ss all few n e =
+      let w = classes_from cs es 0 0 0 lines in
+      let listed : slice_get (classes_of b 0 w) n ≡ None = ap (λ w. slice_get (classes_of b 0 w) n) (sym all) ∙ ap (λ ps. slice_get ps n) (sym (spots-classes cs es b 0 ss few)) ∙ e in
+      subst (λ o. Meets w (class_at w b n) 0 o) listed (number-meets b 0 0 w (rises b lines) n)

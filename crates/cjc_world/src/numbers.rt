@@ -1,0 +1,54 @@
+//! The places of classes by the numbers that a look-up answers.
+
+ghost use Rattle.std.specs.Prelude.{◌≡◌, ◌<◌, ◌^◌, length, slice_get, IfOk};
+ghost use Rattle.cjc_world.specs.Working.Numbers.{places_in, places_of};
+
+use crate::spot::Spot;
+use cjc_bytes::{NoMemory, Row};
+use std::alloc::Global;
+
+/// Of each kind of class the places in the order of the list, by number.
+#[derive(Drop)]
+pub(crate) struct Numbers {
+    pub declared: Row<u32>,
+    pub imported: Row<u32>,
+}
+
+impl Numbers {
+    /// The place of the class of this kind and number.
+    pub(crate) fn get(&self, imported: bool, number: u32) -> Option<u32>
+        ensures { result ≡ slice_get (places_in imported self.now) number }
+    {
+        let places = if imported {
+            self.imported.items()
+        } else {
+            self.declared.items()
+        };
+        places.get(number as usize).copied()
+    }
+}
+
+/// The places of the spots of one kind, in order.
+fn places_of(alloc: Global, spots: &[Spot], imported: bool) -> Result<Row<u32>, NoMemory>
+    requires { length spots.now < 2 ^ 32 }
+    ensures { IfOk result (λ places. places ≡ places_of imported 0 spots.now) }
+{
+    let mut places = Vec::new(alloc);
+    for (place, spot) in spots.iter().enumerate() {
+        if spot.imported == imported {
+            places.push(place as u32)?;
+        }
+    }
+    Ok(Row::of(places))
+}
+
+/// The places of the spots of both kinds.
+pub(crate) fn numbers_of(alloc: Global, spots: &[Spot]) -> Result<Numbers, NoMemory>
+    requires { length spots.now < 2 ^ 32 }
+    ensures declared { IfOk result (λ n. n.declared ≡ places_of false 0 spots.now) }
+    ensures imported { IfOk result (λ n. n.imported ≡ places_of true 0 spots.now) }
+{
+    let declared = places_of(alloc, spots, false)?;
+    let imported = places_of(alloc, spots, true)?;
+    Ok(Numbers { declared, imported })
+}
