@@ -1,6 +1,6 @@
 pub mod Places
 pub mod Named
-pub mod Numbers
+pub mod Counted
 pub mod Rising
 pub mod Settled
 pub mod Cycles

@@ -98,7 +98,7 @@ module _ (cs : List ClassTree) (es : List ExportTree) where
             inner None = refl
             inner (Some p) = refl
 
-  stood-few : (ss : List Spot) → length (stood cs es ss) < suc (length ss)
+  pub stood-few : (ss : List Spot) → length (stood cs es ss) < suc (length ss)
   stood-few [] = omega arith
   stood-few (s ∷ ss) = by (at cs es s) (stood-few ss)
     where

@@ -1,7 +1,7 @@
 //! The places of classes by the numbers that a look-up answers.
 
-ghost use Rattle.std.specs.Prelude.{◌≡◌, ◌<◌, ◌^◌, length, slice_get, IfOk};
-ghost use Rattle.cjc_world.specs.Working.Numbers.{places_in, places_of};
+ghost use Rattle.std.specs.Prelude.{◌≡◌, ◌<◌, ◌^◌, false, true, length, slice_get, IfOk};
+ghost use Rattle.cjc_world.specs.Working.Numbers.{is_of_kind, places_in, places_of};
 
 use crate::spot::Spot;
 use cjc_bytes::{NoMemory, Row};
@@ -28,6 +28,13 @@ impl Numbers {
     }
 }
 
+/// Whether a class is of a kind.
+fn is_of_kind(imported: bool, spot: &Spot) -> bool
+    ensures { result ≡ is_of_kind imported spot.now.imported }
+{
+    if spot.imported { imported } else { !imported }
+}
+
 /// The places of the spots of one kind, in order.
 fn places_of(alloc: Global, spots: &[Spot], imported: bool) -> Result<Row<u32>, NoMemory>
     requires { length spots.now < 2 ^ 32 }
@@ -35,7 +42,7 @@ fn places_of(alloc: Global, spots: &[Spot], imported: bool) -> Result<Row<u32>, 
 {
     let mut places = Vec::new(alloc);
     for (place, spot) in spots.iter().enumerate() {
-        if spot.imported == imported {
+        if is_of_kind(imported, spot) {
             places.push(place as u32)?;
         }
     }

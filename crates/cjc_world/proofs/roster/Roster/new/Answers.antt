@@ -1,5 +1,6 @@
-use Rattle.std.proofs.Common.{length, sym, ap, subst, ◌∙◌}
+use Rattle.std.proofs.Common.{false, true, length, sym, ap, subst, ◌∙◌}
 use Rattle.cjc_world.specs.Working.Names.{spot_named}
+use Rattle.cjc_world.specs.Working.Numbers.{places_of}
 use Rattle.cjc_world.specs.Working.Places.{place_named}
 use Rattle.cjc_world.specs.Working.Spots.{IsIndexed}
 use Rattle.cjc_world.proofs.Noted.{spot-place}
@@ -20,4 +21,6 @@ invariant_of-result c =
           ∙ ap (λ v. spot_named c.args.classes c.args.exports v x) c.items-4.ensures
           ∙ spot-place c.args.classes c.args.exports c.in_ok-spots.spots (indexed.count ∙ ap length (sym indexed.all)) x
           ∙ ap (λ w. place_named w x) indexed.all;
+      declared = c.in_ok-numbers.ensures.declared ∙ ap (places_of false 0) c.items-7.ensures;
+      imported = c.in_ok-numbers.ensures.imported ∙ ap (places_of true 0) c.items-7.ensures;
     }
