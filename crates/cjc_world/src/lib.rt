@@ -1,5 +1,6 @@
 //! The classes of a package and of the export files that it stands on: subtypes, look-up and selection by
-//! name (Java Virtual Machine Specification, section 5.4). It knows no instruction and no token.
+//! name (Java Virtual Machine Specification, section 5.4). It knows no instruction, and no token but those that
+//! export files list.
 #![tactic(auto)]
 
 mod added;
