@@ -42,8 +42,8 @@ fn applets_of(alloc: Global, list: &List) -> Result<Row<AppletLine>, NoMemory>
     Ok(applets)
 }
 
-// What a list settles for all classes, in memory of its own.
-fn settings(alloc: Global, list: &List) -> Result<Settings, NoMemory>
+/// What a list settles for all classes, in memory of its own.
+pub fn settings(alloc: Global, list: &List) -> Result<Settings, NoMemory>
     ensures { IfOk result (λ s. s ≡ settings_of list.now) }
 {
     let applets = applets_of(alloc, list)?;

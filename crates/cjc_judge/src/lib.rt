@@ -10,4 +10,5 @@ mod reading;
 
 pub use groups::Group;
 pub use judged::{Judged, judge, test_files};
+pub use judging::settings;
 pub use laws::{files_first, one_refusal};
