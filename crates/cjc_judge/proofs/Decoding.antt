@@ -42,7 +42,7 @@ unfolding decoding
 code_rule tree m None b e = absurd cc
 code_rule tree m (Some code) b e = unfit_rule (least (unfit_code tree m code)) (all_named tree.pool (cut code.bytes).insns) b e
 
-method_rule : (tree : ClassTree) (o : Option MethodTree) (b : BrokenAt) → of_method tree o ≡ Err b → (b.rule ≡ 103) ⊎ (b.rule ≡ 303)
+pub method_rule : (tree : ClassTree) (o : Option MethodTree) (b : BrokenAt) → of_method tree o ≡ Err b → (b.rule ≡ 103) ⊎ (b.rule ≡ 303)
 method_rule tree None b e = absurd cc
 method_rule tree (Some m) b e = code_rule tree m m.code b e
 

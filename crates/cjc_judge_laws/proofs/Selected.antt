@@ -41,11 +41,11 @@ use Rattle.cjc_judge_laws.specs.Tested.{IsOne, IsTested, states}
 
 -- ---- lists
 
-none_among : (bs : List Break) → ((b : Break) → Among b bs → ⊥) → bs ≡ []
+pub none_among : (bs : List Break) → ((b : Break) → Among b bs → ⊥) → bs ≡ []
 none_among [] h = refl
 none_among (b ∷ bs) h = absurd (h b foremost)
 
-spells : (lines : List FileLine) (files : List (List ℕ)) (trees : List FileTree) → AllSpelt lines files trees → SpellTrees lines files trees
+pub spells : (lines : List FileLine) (files : List (List ℕ)) (trees : List FileTree) → AllSpelt lines files trees → SpellTrees lines files trees
 spells [] files trees h = h
 spells (line ∷ lines) [] trees h = h
 spells (line ∷ lines) (bytes ∷ files) [] h = h
@@ -106,10 +106,10 @@ module _ (list : ListTree) (files : List (List ℕ)) (judged : Judged) (is : IsT
   trees = is.judged_by.read.trees
 
   -- its world is what the files spell
-  same_world : judged.world ≡ files_spelt list trees
+  pub same_world : judged.world ≡ files_spelt list trees
   same_world = is.judged_by.world ∙ ap (λ cs. world_files list cs judged.world.exports) is.judged_by.read.classes ∙ ap (world_files list (classes_of trees)) is.judged_by.read.exports
 
-  is_world : AreWorld list files trees
+  pub is_world : AreWorld list files trees
   is_world =
       let spelt = spells list.lines files trees is.judged_by.read.spelt in
       (spelt, none_among (breaks list.name (files_spelt list trees)) (λ b among. is.judged_by.unbroken b (of_world (trees, spelt, among))))
@@ -118,7 +118,7 @@ module _ (list : ListTree) (files : List (List ℕ)) (judged : Judged) (is : IsT
   pub judged_writable : (k : ℕ) (t : ExportTree) → slice_get judged.world.exports k ≡ Some t → IsWritable t
   judged_writable k t e = export_at list.lines files trees is.judged_by.read.spelt k t (sym (ap (λ ts. slice_get ts k) is.judged_by.read.exports) ∙ e)
 
-  same_codes : judged.codes ≡ all_codes (classes_of trees)
+  pub same_codes : judged.codes ≡ all_codes (classes_of trees)
   same_codes = is.judged_by.read.codes_are ∙ ap all_codes is.judged_by.read.classes
 
   -- no class stands above itself
@@ -132,8 +132,8 @@ module _ (list : ListTree) (files : List (List ℕ)) (judged : Judged) (is : IsT
       ∙ ap (name_breaks (files_spelt list trees)) same_codes
       ∙ none_among (name_breaks (files_spelt list trees) (all_codes (classes_of trees))) (λ b among. is.judged_by.unbroken b (of_names (trees, is_world, among)))
 
-  unbroken : check_breaks list.name judged.world judged.codes (settings_of list) ≡ []
-  unbroken =
+  pub judged_checks : check_breaks list.name judged.world judged.codes (settings_of list) ≡ []
+  judged_checks =
       let none = none_among (check_breaks list.name (files_spelt list trees) (all_codes (classes_of trees)) (settings_of list))
       (λ b among. is.judged_by.unbroken b (of_group (is.limits.0, groups.Limits, is.limits.1, (trees, is_world, among)))) in
       ap (λ w. check_breaks list.name w judged.codes (settings_of list)) same_world
@@ -141,7 +141,7 @@ module _ (list : ListTree) (files : List (List ℕ)) (judged : Judged) (is : IsT
       ∙ none
 
   module _ (code : MethodCode) (class : ClassTree) (method : MethodTree) (tree : CodeTree) (table : TypeTable) (one : IsOne judged code class method tree table) where
-    types : IsTypeTable (all_classes judged.world) (body_of class method tree code.insns) table
+    pub types : IsTypeTable (all_classes judged.world) (body_of class method tree code.insns) table
     types = both_at (IsTableOf judged.world) judged.codes judged.types one.place code table (tables_both judged.world judged.codes judged.types (is.judged_by.types is.types)) one.is_code one.is_table class method tree one.is_method
 
     least : IsLeastTable (body_of class method tree code.insns) (states code class method tree table)
@@ -149,7 +149,7 @@ module _ (list : ListTree) (files : List (List ℕ)) (judged : Judged) (is : IsT
 
     keeps : KeepsRules list.name judged.world judged.codes (settings_of list) code (body_of class method tree code.insns) (states code class method tree table)
     keeps = record {
-      unbroken = unbroken;
+      unbroken = judged_checks;
       no_int = is.no_int;
       listed = (one.place, slice_get_within judged.codes one.place code one.is_code, get_or_from_slice_get judged.codes one.place code code one.is_code);
       typed = types.unbroken;
