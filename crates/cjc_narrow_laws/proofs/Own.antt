@@ -137,7 +137,7 @@ keeps_own files w n c (file, file_name, e) =
 
 -- ---- the first of its name
 
-first_here : {A : Type 0} (p : A → Bool) (xs : List A) (k : ℕ) (x : A) → slice_get xs k ≡ Some x → p x ≡ true → is_earlier (position p xs) k ≡ false → position p xs ≡ Some k
+pub first_here : {A : Type 0} (p : A → Bool) (xs : List A) (k : ℕ) (x : A) → slice_get xs k ≡ Some x → p x ≡ true → is_earlier (position p xs) k ≡ false → position p xs ≡ Some k
 first_here p [] k x e h once = cc
 first_here p (y ∷ xs) zero x e h once = let same : y ≡ x = cc in position-cons p y xs ∙ ap (λ b. if b then Some 0 else option_map suc (position p xs)) (ap p same ∙ h)
 first_here p (y ∷ xs) (suc k) x e h once = position-cons p y xs ∙ by (p y) (position p xs) (ap (λ o. is_earlier o (suc k)) (sym (position-cons p y xs)) ∙ once) (first_here p xs k x e h)
