@@ -1,0 +1,5 @@
+pub mod Few
+pub mod Decoded
+pub mod Sound
+pub mod Rows
+pub mod Parts
