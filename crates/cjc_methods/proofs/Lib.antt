@@ -6,6 +6,6 @@ mod Owned
 mod Coded
 mod Same
 mod Own
-mod Again
+pub mod Again
 mod Ownership
 mod Spotted
