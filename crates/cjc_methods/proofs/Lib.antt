@@ -9,3 +9,4 @@ mod Own
 mod Again
 mod Ownership
 mod Spotted
+mod Laid

@@ -68,7 +68,7 @@ pub overflow_cast-words : goal.overflow_cast-words
 overflow_cast-words c =
     let o = c.requires.own in
     let m = method_in (all_classes c.args.world.now) o.class c.args.member.member in
-    let few = few_words c.in_ok-words-in-None.words (argument_words m.flags m.desc) (c.in_ok-words-in-None.ensures ∙ words_like c.method_in.result m (c.method_in.ensures o.class o.is_class)) (c.requires.room o.class o.is_class) in
+    let few = few_words c.in_ok-words-in-None.words (argument_words m.flags m.desc) (c.in_ok-words-in-None.ensures ∙ words_like c.method_in-method.result m (c.method_in-method.ensures o.class o.is_class)) (c.requires.room o.class o.is_class) in
     omega (arith, few)
 
 pub returns-in-Some : goal.returns-in-Some
@@ -99,5 +99,5 @@ returns-in_ok-words-in-None c = λ rows are.
     let place = place_is f.member c.saturating_sub-method.result c.items-2.result.now c.index-items-member.result t c.saturating_sub-method.ensures c.items-2.ensures tree in
     let none = has_none files c.args.sources.codes.now c.args.sources.types.now f.class c.saturating_sub-method.result (f.member - length t.fields) t c.args.sources.places.now c.requires.ready is place c.requires.places c.in-None.ensures in
     c.no_code.ensures
-    ∙ ap no_code (c.in_ok-words-in-None.ensures ∙ words_like c.method_in.result m (c.method_in.ensures o.class o.is_class))
+    ∙ ap no_code (c.in_ok-words-in-None.ensures ∙ words_like c.method_in-method.result m (c.method_in-method.ensures o.class o.is_class))
     ∙ sym (without_code files (near_fields c.args.pool.now) rows c.args.sources.codes.now c.args.sources.types.now c.requires.ready f t o.class o.own is o.is_class (same o.class o.is_class) none)
