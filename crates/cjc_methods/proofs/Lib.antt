@@ -10,3 +10,4 @@ pub mod Again
 pub mod Ownership
 mod Spotted
 pub mod Alike
+mod Laid
