@@ -1,0 +1,59 @@
+//! The offsets to which switches lead.
+
+ghost use Rattle.std.specs.Prelude.{◌≡◌, ◌<◌, ◌≤◌, ◌^◌, ◌∷◌, ◌&&◌, drop, length};
+ghost use Rattle.std.specs.Int.RustNames.{int_le};
+ghost use Rattle.cjc_bytecode.specs.Effects.{arm_of};
+ghost use Rattle.cjc_card.specs.Operations.{paired};
+ghost use Rattle.cjc_decode.specs.Decoded.{numbers};
+ghost use Rattle.cjc_decode.specs.Shapes.{entry_size, match_of, matches_of, operand_of};
+
+use crate::jumps::moved;
+use cjc_decode::{Kind, operand};
+
+/// A match as an operand.
+fn match_kind(wide: bool) -> Kind
+    ensures { operand_of result ≡ match_of wide }
+{
+    if wide { Kind::Signed4 } else { Kind::Signed2 }
+}
+
+/// The bytes of a match with its offset.
+fn pair_size(wide: bool) -> usize
+    ensures { result ≡ entry_size (matches_of wide) }
+{
+    if wide { 6 } else { 4 }
+}
+
+/// A match and its offset at the front of a table's bytes.
+fn pair_at(wide: bool, bytes: &[u8]) -> (i32, i32)
+    requires { entry_size (matches_of wide) ≤ length bytes.now }
+    ensures { numbers (matches_of wide) bytes.now ≡ result.0 ∷ result.1 ∷ numbers (matches_of wide) (drop (entry_size (matches_of wide)) bytes.now) }
+{
+    let value = operand(match_kind(wide), bytes, 0);
+    let far = operand(Kind::Signed2, bytes, pair_size(wide) - 2);
+    (value, far)
+}
+
+/// Whether a match is the number.
+fn is_match(value: i32, x: i32) -> bool
+    ensures { result ≡ (int_le value x && int_le x value) }
+{
+    value <= x && x <= value
+}
+
+/// Where a switch over matches leads, of two bytes each or of four, by their table and the offset of its default.
+pub fn arm_of_pairs(at: usize, other: usize, wide: bool, table: &[u8], x: i32) -> usize
+    requires { at < 2 ^ 32 }
+    ensures { result ≡ arm_of other (paired at (numbers (matches_of wide) table.now)) x }
+{
+    let size = pair_size(wide);
+    let mut rest = table;
+    while rest.len() >= size {
+        let (value, far) = pair_at(wide, rest);
+        if is_match(value, x) {
+            return moved(at, far);
+        }
+        rest = &rest[size..];
+    }
+    other
+}
