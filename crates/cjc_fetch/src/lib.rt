@@ -8,4 +8,4 @@ mod switches;
 
 pub use fetch::{Code, fetched_by_bytes, insn_at};
 pub use jumps::moved;
-pub use switches::arm_of_pairs;
+pub use switches::{arm_of_pairs, arm_of_range};

@@ -1,10 +1,12 @@
 //! The offsets to which switches lead.
 
-ghost use Rattle.std.specs.Prelude.{◌≡◌, ◌<◌, ◌≤◌, ◌^◌, ◌∷◌, ◌&&◌, drop, length};
+ghost use Rattle.std.specs.Prelude.{◌≡◌, ◌<◌, ◌≤◌, ◌^◌, ◌∷◌, ◌&&◌, ◌+ℤ◌, ◌<ℤ◌, drop, length, pos, slice_get, IfSome};
+ghost use Rattle.std.specs.Prelude.{MatchOption};
 ghost use Rattle.std.specs.Int.RustNames.{int_le};
 ghost use Rattle.cjc_bytecode.specs.Effects.{arm_of};
-ghost use Rattle.cjc_card.specs.Operations.{paired};
+ghost use Rattle.cjc_card.specs.Operations.{paired, ranged};
 ghost use Rattle.cjc_decode.specs.Decoded.{numbers};
+ghost use Rattle.cjc_decode.specs.declared.table.Matches.TheVariants.{Counted};
 ghost use Rattle.cjc_decode.specs.Shapes.{entry_size, match_of, matches_of, operand_of};
 
 use crate::jumps::moved;
@@ -56,4 +58,42 @@ pub fn arm_of_pairs(at: usize, other: usize, wide: bool, table: &[u8], x: i32) -
         rest = &rest[size..];
     }
     other
+}
+
+/// How far a number is above the low one.
+fn distance(low: i32, x: i32) -> Option<usize>
+    ensures is { MatchOption result (x <ℤ low) (λ n. x ≡ low +ℤ pos n) }
+    ensures small { IfSome result (λ n. n < 2 ^ 33) }
+{
+    if x < low {
+        None
+    } else {
+        Some((i64::from(x) - i64::from(low)) as usize)
+    }
+}
+
+/// The number in a place of a table that is counted.
+fn far_in(table: &[u8], place: usize) -> Option<i32>
+    requires { place < 2 ^ 33 }
+    ensures { result ≡ slice_get (numbers Counted table.now) place }
+{
+    if 2 * place + 2 <= table.len() {
+        Some(operand(Kind::Signed2, table, 2 * place))
+    } else {
+        None
+    }
+}
+
+/// Where a switch over the numbers from a low one on leads, by its table and the offset of its default.
+pub fn arm_of_range(at: usize, other: usize, low: i32, table: &[u8], x: i32) -> usize
+    requires { at < 2 ^ 32 }
+    ensures { result ≡ arm_of other (ranged at low (numbers Counted table.now)) x }
+{
+    let Some(place) = distance(low, x) else {
+        return other;
+    };
+    let Some(far) = far_in(table, place) else {
+        return other;
+    };
+    moved(at, far)
 }
