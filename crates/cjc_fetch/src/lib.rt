@@ -1,5 +1,6 @@
 //! The instruction at an offset of a package's methods, as the machine by token fetches it, and the offsets to which
-//! jumps and switches lead. Whoever runs components calls it. Knows no frame, no heap and no entry of the constant pool.
+//! jumps and switches lead. Whoever runs components calls it. Knows no frame, no heap and no entry of the constant
+//! pool.
 #![tactic(auto)]
 
 mod fetch;
