@@ -1,5 +1,5 @@
 -- What the data of the code's table stands for.
-use Rattle.std.specs.Prelude.{ℕ, List, Option, Some, None, Bool, ℤ, pos}
+use Rattle.std.specs.Prelude.{ℕ, List, Option, Some, None, Bool, true, false, ℤ, pos}
 use Rattle.std.specs.Int.{Width, w16, w32, int_bit_and, int_bit_or, int_bit_xor}
 use Rattle.std.specs.Int.RustNames.{int_div, int_rem, int_lt, int_le}
 use Rattle.cjc_words.specs.Words.{low_word, low_byte}
@@ -168,3 +168,8 @@ meaning_of meanings.NewNumbers = Meanings.MakesNumbers
 meaning_of meanings.Cast = Meanings.Casts
 meaning_of meanings.Ask = Meanings.Asks
 meaning_of meanings.Nothing = Meanings.Nothing
+
+-- the operand is pushed as a word
+abbrev pub is_literal : MeaningData → Bool
+is_literal (meanings.Plain calculations.Literal) = true
+is_literal m = false

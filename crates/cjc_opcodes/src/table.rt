@@ -1,9 +1,9 @@
 //! What each opcode means, by its number (Java Card Virtual Machine Specification 2.2.2, chapter 7). Called by whoever
 //! runs code.
 
-ghost use Rattle.std.specs.Prelude.{◌≡◌, slice_get};
+ghost use Rattle.std.specs.Prelude.{◌≡◌, ◌⊎◌, slice_get, true};
 ghost use Rattle.cjc_bytecode.specs.Meanings.{meaning};
-ghost use Rattle.cjc_opcodes.specs.Meanings.{meaning_of};
+ghost use Rattle.cjc_opcodes.specs.Meanings.{is_literal, meaning_of};
 
 use crate::kinds::{
     Access, Calculation, Condition, Division, Kind, Letter, Meaning, Mode, Operation, Relation, Use,
@@ -220,7 +220,8 @@ fn row(rows: &[Meaning], number: u8) -> Option<Meaning>
 
 /// The meaning of an opcode.
 pub fn opcode_meaning(opcode: u8) -> Meaning
-    ensures { meaning_of result ≡ meaning opcode }
+    ensures is { meaning_of result ≡ meaning opcode }
+    ensures literal { is_literal result ≡ true → (opcode ≡ 0x10) ⊎ (opcode ≡ 0x11) }
 {
     match row(&MEANINGS, opcode) {
         Some(meaning) => meaning,
