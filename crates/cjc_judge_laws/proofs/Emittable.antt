@@ -18,6 +18,7 @@ use Rattle.cjc_keys.specs.Working.Same.{same_member-Decides}
 use Rattle.cjc_layout.proofs.Places.{all_wide}
 use Rattle.cjc_layout.specs.Forms.{HasForm}
 use Rattle.cjc_layout.specs.Layouts.{IsLayout, IsWhole}
+use Rattle.cjc_layout.specs.Sizes.{code_size}
 use Rattle.cjc_layout.specs.declared.layout.Layout.{Layout}
 use Rattle.cjc_list.specs.Listed.{ListTree}
 use Rattle.cjc_lower.specs.Naming.{Naming}
@@ -178,7 +179,7 @@ module _ (list : ListTree) (files : List (List ℕ)) (judged : Judged) (is : IsT
       let m = of_method.1 in
       let of_insn = any_at (calls id) m.insns of_method.3 in
       let call = call_of id of_insn.1 of_insn.3 in
-      call_token m (pooled.each of_method.0 m of_method.2) of_insn.0 call.0 id (of_insn.2 ∙ ap Some call.1)
+      call_token m (pooled.each of_method.0 m of_method.2 of_insn.0 of_insn.1 of_insn.2) of_insn.0 call.0 id (of_insn.2 ∙ ap Some call.1)
 
   pub calls_have_tokens : CallsHaveTokens judged.world (assigned applets judged.world) methods
   calls_have_tokens id e = let t = call_tokens id e in some_is _ t.0 t.1
@@ -191,30 +192,40 @@ module _ (list : ListTree) (files : List (List ℕ)) (judged : Judged) (is : IsT
       by true is e = let found = call_tokens id is in let same : found.0 ≡ t = let both = sym found.1 ∙ e in cc in subst (λ k. k < 256) same found.2
 
   module _ (n : Naming) (named : IsNamedBy pool.keys (token_in pool) n) (at : ℕ) (m : NMethod) (there : slice_get methods at ≡ Some m) where
-    abbrev of : IsSelected judged near m
-    of = pooled.each at m there
+    abbrev of : (k : ℕ) (i : NInsn) → slice_get m.insns k ≡ Some i → IsSelected judged near m
+    of k i e = pooled.each at m there k i e
 
     forms : (k : ℕ) (i : NInsn) → slice_get m.insns k ≡ Some i → HasForm i
-    forms k i e = all_have_forms (r m of) (place_in (r m of) (kept m of)) (kept m of) k i (in_code m of k i e)
+    forms k i e = let o = of k i e in all_have_forms (r m o) (place_in (r m o) (kept m o)) (kept m o) k i (in_code m o k i e)
 
     names : (k : ℕ) (i : NInsn) → slice_get m.insns k ≡ Some i → HasNames pool.keys (token_in pool) i
     names k i e = names_there judged.world (assigned applets judged.world) methods pool pooled.is_pool calls_have_tokens i (record { method = m; at = at; place = k; is_method = there; is_insn = e })
 
     can_be_said : m.widest ≤ 32767 → (k : ℕ) (i : NInsn) → slice_get m.insns k ≡ Some i → CanBeSaid n i
     can_be_said short k i e =
+        let o = of k i e in
         let small = by_pool_small pool.keys (token_in pool) n named pooled.few tokens_low in
-        let fit = all_fit (by_pool pool.keys (token_in pool) n named) pool.keys small judged.world of.class.name (place_in (r m of) (kept m of)) (kept m of) (said m of) k i (in_code m of k i e) in
-        all_said n (r m of) (place_in (r m of) (kept m of)) (kept m of) (fits m of short) k i (in_code m of k i e) (numbers_fit pool.keys (token_in pool) n named i (names k i e) fit)
+        let fit = all_fit (by_pool pool.keys (token_in pool) n named) pool.keys small judged.world o.class.name (place_in (r m o) (kept m o)) (kept m o) (said m o) k i (in_code m o k i e) in
+        all_said n (r m o) (place_in (r m o) (kept m o)) (kept m o) (fits m o short) k i (in_code m o k i e) (numbers_fit pool.keys (token_in pool) n named i (names k i e) fit)
 
     pub can_be_emitted : ((n : Naming) (m : NMethod) (l : Layout) (offset : ℕ) → IsLayout m l → l.length ≤ 32767 → ((k : ℕ) (i : NInsn) → slice_get m.insns k ≡ Some i → HasForm i) → ((k : ℕ) (i : NInsn) → slice_get m.insns k ≡ Some i → CanBeSaid n i) → CanBeWritten n (placed_at offset m l.wide))
         → (l : Layout) → IsLayout m l → m.widest ≤ 32767 → IsEmittable pool.keys (token_in pool) n m l.wide
     can_be_emitted law l layout short =
-        let whole : IsWhole m = subst IsWhole (sym of.is) (judged_whole list files judged is of.code of.class of.method of.tree of.table of.one near) in
-        let size = all_wide m.insns l.wide (length m.insns) in
-        let wide = whole.size in
-        let long = layout.length in
         record {
           named = named;
-          written = law n m l 0 layout (omega (arith, size, wide, long, short)) forms (can_be_said short);
+          written = law n m l 0 layout (by m.insns refl) forms (can_be_said short);
           names = names;
         }
+      where
+        by : (insns : List NInsn) → m.insns ≡ insns → l.length ≤ 32767
+        by [] e =
+            let none : code_size m.insns l.wide ≡ 0 = ap (λ is. code_size is l.wide) e in
+            let long = layout.length in
+            omega (arith, none, long)
+        by (i ∷ rest) e =
+            let o = of 0 i (ap (λ is. slice_get is 0) e) in
+            let whole : IsWhole m = subst IsWhole (sym o.is) (judged_whole list files judged is o.code o.class o.method o.tree o.table o.one near) in
+            let size = all_wide m.insns l.wide (length m.insns) in
+            let wide = whole.size in
+            let long = layout.length in
+            omega (arith, size, wide, long, short)
