@@ -1,0 +1,26 @@
+//! The offsets of a package's methods, by the number of a class and of its member, from where its methods stand.
+//! Whoever writes Class, Applet, ConstantPool and Export takes them. It knows no token and no byte.
+#![tactic(auto)]
+
+ghost use Rattle.std.specs.Prelude.{◌≡◌, ◌≤◌, ◌<◌, ◌+◌, ℕ, List, Some, false, length, map};
+ghost use Rattle.cjc_world.specs.Classes.{Class, all_classes, class_at};
+ghost use Rattle.cjc_world.specs.Lookup.{member_at};
+ghost use Rattle.cjc_world.specs.Order.{method_order};
+ghost use Rattle.cjc_components.specs.Methods.{method_offset};
+ghost use Rattle.cjc_components.specs.Package.{Package, world};
+ghost use Rattle.cjc_methods.specs.Ready.{AreOrdered};
+ghost use Rattle.cjc_class_info.specs.Entries.{AreOffsets};
+ghost use Rattle.cjc_export_file.specs.Offsets.{offset_at};
+ghost use Rattle.cjc_descriptor.specs.Made.{extents_of};
+
+mod offsets;
+
+pub use offsets::method_offsets;
+
+/// The offsets in the extents of a package, which Descriptor is made of, are those of the package's methods, as whoever writes Class, Applet,
+/// ConstantPool and Export asks: where its methods are those of its files in the order of Method.
+pub fn offsets_are_of_the_package()
+    ensures all { (p : Package) (order : List ℕ) → AreOrdered p.files order → map (λ m. m.member) p.methods ≡ method_order (world p) → AreOffsets p (map (map (λ e. e.offset)) (extents_of p)) }
+    ensures own { (p : Package) (n k : ℕ) (c : Class) → class_at (world p) false n ≡ Some c → length c.fields ≤ k → k < length c.fields + length c.methods
+        → offset_at (map (map (λ e. e.offset)) (extents_of p)) n k ≡ Some (method_offset p (member_at c k)) }
+{}
