@@ -52,6 +52,24 @@ impl Drop for Prepared {
     }
 }
 
+impl Prepared {
+    /// Its tokens, its image, its methods and their code.
+    pub fn into_parts(self) -> (Tokens, StaticImage, Row<Found>, Row<NMethod>)
+        ensures tokens { result.0 ≡ self.tokens }
+        ensures image { result.1 ≡ self.image }
+        ensures methods { result.2 ≡ self.methods }
+        ensures codes { result.3 ≡ self.codes }
+    {
+        let Prepared {
+            tokens,
+            image,
+            methods,
+            codes,
+        } = self;
+        (tokens, image, methods, codes)
+    }
+}
+
 /// The tokens of a package.
 fn tokens_of(alloc: Global, list: &List, judged: &Judged<'_>) -> Result<Tokens, Fault>
     requires { (files : Items (Items ℕ)) × IsSound list.now files judged.now }
