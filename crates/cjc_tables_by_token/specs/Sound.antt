@@ -1,0 +1,23 @@
+-- Packages of read files that break no rule of classes and names.
+use Rattle.std.specs.Prelude.{◌≡◌, ◌≤◌, ℕ, List, [], length, count_by, not, false, slice_get, Some}
+use Rattle.cjc_bytes.specs.declared.settings.FileLine.{FileLine}
+use Rattle.cjc_export.specs.declared.tree.ExportClass.{ExportClass}
+use Rattle.cjc_subset.specs.Members.{imports}
+use Rattle.cjc_world.specs.Subtype.{starts}
+use Rattle.cjc_world.specs.Files.{Files}
+use Rattle.cjc_world.specs.Rules.{breaks}
+use Rattle.cjc_vtable.specs.Kept.{AreRead}
+use Rattle.cjc_class_order.specs.Numbers.{class_count}
+
+-- how many lines name export files
+abbrev pub export_count : List FileLine → ℕ
+export_count lines = count_by (λ (line : FileLine). not line.class_file) lines
+
+-- The list names each class file and each export file, all are read ones, and the package breaks none of 201 to 204, 207 and 208. The list's name is that of its file.
+pub record IsSound (list : List ℕ) (files : Files) : Type 0 where
+  pub classes : length files.classes ≤ class_count files.lines
+  pub exports : length files.exports ≤ export_count files.lines
+  pub read : AreRead files
+  -- no class of an export file is named as an array is
+  pub names : (k : ℕ) (c : ExportClass) → slice_get (imports files.exports) k ≡ Some c → starts 91 c.name ≡ false
+  pub unbroken : breaks list files ≡ []
