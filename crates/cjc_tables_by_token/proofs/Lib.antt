@@ -3,3 +3,9 @@ pub mod Clean
 pub mod Order
 pub mod Infos
 pub mod Named
+pub mod Telling
+pub mod Interfaces
+pub mod Lists
+pub mod Above
+pub mod Spans
+pub mod Fields

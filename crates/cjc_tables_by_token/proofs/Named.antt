@@ -145,7 +145,7 @@ module _ (list : List ℕ) (p : Package) (sound : IsSound list p.files) where
     numbered : slice_get (imports exports) number ≡ Some (let f = in_file in f.entry)
     is : class_named w x ≡ Some (imported number (let f = in_file in f.entry))
 
-  has_imports : (trees : List ExportTree) (t : ExportTree) (e : ExportClass) → Has t trees → Has e t.classes → Has e (imports trees)
+  pub has_imports : (trees : List ExportTree) (t : ExportTree) (e : ExportClass) → Has t trees → Has e t.classes → Has e (imports trees)
   has_imports [] t e h g = elim h [ ]
   has_imports (u ∷ trees) t e at_front g = has-front e t.classes (imports trees) g
   has_imports (u ∷ trees) t e (behind h) g = has-back e u.classes (imports trees) (has_imports trees t e h g)

@@ -8,7 +8,8 @@ use Rattle.std.proofs.lemmas.Bool.Decides.{nat_tests}
 use Rattle.cjc_bytes.specs.AccessFlags.{is_interface}
 use Rattle.cjc_class_order.proofs.Standing.{is_in-more}
 use Rattle.cjc_tokens.proofs.Facts.{position-cons}
-use Rattle.cjc_vtable.proofs.Filed.{Has, at_front, behind}
+use Rattle.cjc_vtable.proofs.Filed.{Has, at_front, behind, has-get}
+use Rattle.cjc_vtable.proofs.SlotNames.{get-behind}
 use Rattle.cjc_world.specs.Files.{Files}
 use Rattle.cjc_world.specs.Classes.{Class, all_classes, class_named}
 use Rattle.cjc_world.specs.Kin.{Lists, foremost, after, IsAcyclic}
@@ -284,6 +285,70 @@ module _ (w : List Class) (i : Bool) where
               let less = left-less i placed w d at.0 d_waits in
               behind (more d (omega (arith, less, le)) (waits-by i (placed ++ d.number ∷ []) c p.0 p.1 (out-more placed d.number c.number p.2 g)))
 
+-- a superclass of the package stands before its subclass
+before_sub : (w : List Class) (i : Bool) → ((c d : Class) → Has c w → Has d w → c.is_imported ≡ false → d.is_imported ≡ false → c.number ≡ d.number → c ≡ d)
+    → (n : ℕ) (placed : List ℕ) (k : ℕ) (c : Class) → slice_get (lined_up w i n placed) k ≡ Some c
+    → (y : List ℕ) (d : Class) → Lists y c.supers → class_named w y ≡ Some d → d.is_imported ≡ false → is_of_kind i d ≡ true
+    → (is_in placed d.number ≡ true) ⊎ ((j : ℕ) × (j < k) × (slice_get (lined_up w i n placed) j ≡ Some d))
+unfolding lined_up may_stand
+before_sub w i one_of zero placed k c e y d l named own kind = cc
+before_sub w i one_of (suc n) placed k c e y d l named own kind = by (next w i placed w) refl e (λ b k f. before_sub w i one_of n (placed ++ b.number ∷ []) k c f y d l named own kind)
+  where
+    Rest : Type 0
+    Rest = (b : Class) (k : ℕ) → slice_get (lined_up w i n (placed ++ b.number ∷ [])) k ≡ Some c → (is_in (placed ++ b.number ∷ []) d.number ≡ true) ⊎ ((j : ℕ) × (j < k) × (slice_get (lined_up w i n (placed ++ b.number ∷ [])) j ≡ Some d))
+
+    -- what stands next waits for none
+    placed_one : (b : Class) → next w i placed w ≡ Some b → b ≡ c → is_in placed d.number ≡ true
+    placed_one b f is =
+        let stands = (next-in w i placed w b f).1 in
+        go (list_any (λ x. names_waiting i placed (class_named w x)) c.supers) refl (list_any (λ x. names_waiting i placed (class_named w x)) c.interfaces) (waits i placed c) (ap (may_stand w i placed) (sym is) ∙ stands)
+      where
+        none : (xs : List (List ℕ)) → list_any (λ x. names_waiting i placed (class_named w x)) xs ≡ false → Lists y xs → names_waiting i placed (class_named w y) ≡ false
+        none [] g m = elim m [ ]
+        none (x ∷ xs) g m = at (names_waiting i placed (class_named w x)) refl g (none xs) m
+          where
+            tail : (names_waiting i placed (class_named w x) ≡ false) → (Lists y xs → names_waiting i placed (class_named w y) ≡ false) → (z : List ℕ) → z ≡ y → Lists z (x ∷ xs) → names_waiting i placed (class_named w y) ≡ false
+            tail h rest z same foremost = ap (λ v. names_waiting i placed (class_named w v)) (sym same) ∙ h
+            tail h rest z same (after o) = rest (subst (λ v. Lists v xs) same o)
+
+            at : (b : Bool) → names_waiting i placed (class_named w x) ≡ b → (b || list_any (λ x. names_waiting i placed (class_named w x)) xs) ≡ false → (list_any (λ x. names_waiting i placed (class_named w x)) xs ≡ false → Lists y xs → names_waiting i placed (class_named w y) ≡ false) → Lists y (x ∷ xs) → names_waiting i placed (class_named w y) ≡ false
+            at true h g rest o = cc
+            at false h g rest o = tail h (rest g) y refl o
+
+        told : (b : Bool) → (not d.is_imported && is_of_kind i d && not b) ≡ false → b ≡ true
+        told b g = over b (sym (ap (λ q. not q && is_of_kind i d && not b) own ∙ ap (λ q. q && not b) kind) ∙ g)
+          where
+            over : (b : Bool) → not b ≡ false → b ≡ true
+            over true h = refl
+            over false h = cc
+
+        go : (s : Bool) → list_any (λ x. names_waiting i placed (class_named w x)) c.supers ≡ s → (j a : Bool) → (a && not (s || j)) ≡ true → is_in placed d.number ≡ true
+        go true g j true h = cc
+        go true g j false h = cc
+        go false g j a h = told (is_in placed d.number) (sym (ap (names_waiting i placed) named) ∙ none c.supers g l)
+
+    later : (b : Class) (k : ℕ) → next w i placed w ≡ Some b → (is_in (placed ++ b.number ∷ []) d.number ≡ true) ⊎ ((j : ℕ) × (j < k) × (slice_get (lined_up w i n (placed ++ b.number ∷ [])) j ≡ Some d))
+        → (is_in placed d.number ≡ true) ⊎ ((j : ℕ) × (j < suc k) × (slice_get (b ∷ lined_up w i n (placed ++ b.number ∷ [])) j ≡ Some d))
+    later b k f (inr r) = let lt = r.1 in inr (suc r.0, omega (arith, lt), r.2)
+    later b k f (inl g) = go (is_in placed d.number) refl (b.number == d.number) refl (sym (is_in-more placed b.number d.number) ∙ g)
+      where
+        go : (p : Bool) → is_in placed d.number ≡ p → (q : Bool) → (b.number == d.number) ≡ q → (p || (q || false)) ≡ true → (is_in placed d.number ≡ true) ⊎ ((j : ℕ) × (j < suc k) × (slice_get (b ∷ lined_up w i n (placed ++ b.number ∷ [])) j ≡ Some d))
+        go true h q u v = inl h
+        go false h true u v =
+            let at = next-in w i placed w b f in
+            let is = one_of b d at.0 (has_named w y d named) (waits-parts i placed b (stands-waits w i placed b at.1)).0 own (eqb-true b.number d.number u) in
+            inr (0, omega arith, ap (λ (v : Class). Some v) is)
+        go false h false u v = cc
+
+    by : (o : Option Class) → next w i placed w ≡ o → slice_get (and_then o (λ b. lined_up w i n (placed ++ b.number ∷ []))) k ≡ Some c → Rest
+        → (is_in placed d.number ≡ true) ⊎ ((j : ℕ) × (j < k) × (slice_get (and_then o (λ b. lined_up w i n (placed ++ b.number ∷ []))) j ≡ Some d))
+    by None f g rest = cc
+    by (Some b) f g rest = at k g
+      where
+        at : (k : ℕ) → slice_get (b ∷ lined_up w i n (placed ++ b.number ∷ [])) k ≡ Some c → (is_in placed d.number ≡ true) ⊎ ((j : ℕ) × (j < k) × (slice_get (b ∷ lined_up w i n (placed ++ b.number ∷ [])) j ≡ Some d))
+        at zero h = let is : b ≡ c = cc in inl (placed_one b f is)
+        at (suc k) h = later b k f (rest b k h)
+
 -- ---- the whole order
 
 module _ (list : List ℕ) (files : Files) (sound : IsSound list files) where
@@ -299,7 +364,7 @@ module _ (list : List ℕ) (files : Files) (sound : IsSound list files) where
   unfolding in_order
   kind-in i c h = let r = lined-in w i (length w) [] c h in let p = waits-parts i [] c r.1 in (r.0, p.0, p.1)
 
-  kind-has : (i : Bool) (c : Class) → Has c w → c.is_imported ≡ false → is_of_kind i c ≡ true → Has c (in_order w i)
+  pub kind-has : (i : Bool) (c : Class) → Has c w → c.is_imported ≡ false → is_of_kind i c ≡ true → Has c (in_order w i)
   unfolding in_order
   kind-has i c h e f =
       lined-has w i (length w) [] c (λ x. clear_settles w x (λ z way far. unbroken_is_acyclic list files sound.unbroken z far)) (λ a b p q r s t. one_class files sound.classes sound.exports a b p q (r ∙ sym s) t)
@@ -337,3 +402,26 @@ module _ (list : List ℕ) (files : Files) (sound : IsSound list files) where
   -- no two have one name
   pub own_names : HaveOwnNames (class_order w)
   own_names k c e = once-position (class_order w) k c order_once e
+
+  -- the number of a class is its place
+  pub one_number : (j k : ℕ) (c : Class) → slice_get (class_order w) j ≡ Some c → slice_get (class_order w) k ≡ Some c → j ≡ k
+  one_number j k c e f = let both : Some j ≡ Some k = sym (own_names j c e) ∙ own_names k c f in cc
+
+  -- a superclass of the package has a lower number
+  pub super_before : (j k : ℕ) (c d : Class) (y : List ℕ) → slice_get (class_order w) k ≡ Some c → slice_get (class_order w) j ≡ Some d → is_interface c.flags ≡ false → is_interface d.flags ≡ false → Lists y c.supers → class_named w y ≡ Some d → j < k
+  unfolding class_order in_order
+  super_before j k c d y e f not_c not_d l named =
+      let a = order_in c (get-has c (class_order w) k e) in
+      let b = order_in d (get-has d (class_order w) j f) in
+      let m = has-get c (in_order w false) (kind-has false c a.0 a.1 (ap not not_c)) in
+      let r = before_sub w false (λ u v p q s t x. one_class files sound.classes sound.exports u v p q (s ∙ sym t) x) (length w) [] m.0 c m.1 y d l named b.1 (ap not not_d) in
+      by m.0 m.1 r
+    where
+      by : (m : ℕ) → slice_get (in_order w false) m ≡ Some c → (is_in [] d.number ≡ true) ⊎ ((i : ℕ) × (i < m) × (slice_get (in_order w false) i ≡ Some d)) → j < k
+      by m g (inl h) = cc
+      by m g (inr r) =
+          let n = length (in_order w true) in
+          let at_c = one_number (n + m) k c (get-behind (in_order w true) (in_order w false) m ∙ g) e in
+          let at_d = one_number (n + r.0) j d (get-behind (in_order w true) (in_order w false) r.0 ∙ r.2) f in
+          let lt = r.1 in
+          omega (arith, at_c, at_d, lt)

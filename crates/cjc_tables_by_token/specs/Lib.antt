@@ -2,3 +2,4 @@ pub mod Sound
 pub mod Kept
 pub mod Loading
 pub mod Infos
+pub mod Known
