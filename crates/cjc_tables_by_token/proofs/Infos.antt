@@ -59,11 +59,11 @@ offsets_are at (i ∷ is) cs (suc k) =
     ∙ ap (λ n. slice_get (starts interface_size (at + interface_size i) is ++ starts class_size n cs) k) s
     ∙ ap (λ n. slice_get (starts interface_size (at + interface_size i) is ++ starts class_size (at + n) cs) k) (sym (sum_by-cons interface_size i is))
 
-some_bytes : (i : Info) → 0 < info_size i
+pub some_bytes : (i : Info) → 0 < info_size i
 some_bytes (IsInterface i) = omega arith
 some_bytes (IsClass c) = omega arith
 
-not_before : (at : ℕ) (is : List Info) (k offset : ℕ) → offset_from at is k ≡ Some offset → at ≤ offset
+pub not_before : (at : ℕ) (is : List Info) (k offset : ℕ) → offset_from at is k ≡ Some offset → at ≤ offset
 not_before at [] k offset e = cc
 not_before at (i ∷ is) zero offset e = let same : at ≡ offset = cc in omega (arith, same)
 not_before at (i ∷ is) (suc k) offset e = let r = not_before (at + info_size i) is k offset e in omega (arith, r)

@@ -9,3 +9,4 @@ pub mod Lists
 pub mod Above
 pub mod Spans
 pub mod Fields
+pub mod Objects
