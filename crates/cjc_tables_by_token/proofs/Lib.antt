@@ -10,3 +10,7 @@ pub mod Above
 pub mod Spans
 pub mod Fields
 pub mod Objects
+pub mod Found
+pub mod Puts
+pub mod Initials
+pub mod Groups
