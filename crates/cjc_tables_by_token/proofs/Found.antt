@@ -104,36 +104,39 @@ module _ (list : List ℕ) (files : Files) (sound : IsSound list files) where
   abbrev w : List Class
   w = all_classes files
 
+  -- the field at the place that is found has the name and the descriptor
+  named_there : (t : ClassTree) (fields : List Held) (id : MemberId) (k : ℕ) (g : FieldTree) → slice_get t.fields k ≡ Some g → slice_get fields k ≡ Some held.Nothing → is_cell g ≡ true
+      → (m : Member) → slice_get (map field_of_class t.fields) k ≡ Some m → is_called id.name id.desc m ≡ true → IsOpen t fields id k
+  named_there t fields id k g there unput has_cell m row called =
+      let told : Some m ≡ Some (field_of_class g) = sym row ∙ (slice_get-map field_of_class t.fields k ∙ ap (option_map field_of_class) there) in
+      let member : m ≡ field_of_class g = cc in
+      let names = both (bytes_eq g.name id.name) (bytes_eq g.desc id.desc) (ap (is_called id.name id.desc) (sym member) ∙ called) in
+      let name = bytes-true g.name id.name names.0 in
+      let desc = bytes-true g.desc id.desc names.1 in
+      record {
+        field = g;
+        there = there;
+        unput = unput;
+        has_cell = has_cell;
+        desc = desc;
+        named = ap (λ (x : List ℕ). record { class = t.name; name = x; desc = id.desc }) (sym name) ∙ ap (λ (x : List ℕ). record { class = t.name; name = g.name; desc = x }) (sym desc);
+      }
+
+  -- the class that is found is the one of the number
+  class_there : (n : ℕ) (t : ClassTree) → slice_get files.classes n ≡ Some t → (c : Class) (j : ℕ) (u : ClassTree) → slice_get files.classes j ≡ Some u → c ≡ declared j u → c.number ≡ n → c.fields ≡ map field_of_class t.fields
+  class_there n t is_class c j u is_tree is number =
+      let same : j ≡ n = ap (λ (v : Class). v.number) (sym is) ∙ number in
+      let trees : Some u ≡ Some t = sym is_tree ∙ (ap (slice_get files.classes) same ∙ is_class) in
+      let tree : u ≡ t = cc in
+      ap (λ (v : Class). v.fields) is ∙ ap (λ (v : ClassTree). map field_of_class v.fields) tree
+
   pub open_field : (n : ℕ) (t : ClassTree) (fields : List Held) (id : MemberId) (k : ℕ) → slice_get files.classes n ≡ Some t → open_place files n t fields id ≡ Some k → IsOpen t fields id k
   unfolding open_place find_field own_field
   open_field n t fields id k is_class e =
-      let o = find_field w id.class id.name id.desc in
-      let a = after_place (own_place n o) e in
-      let b = owned n o k a.0 in
+      let a = after_place (own_place n (find_field w id.class id.name id.desc)) e in
+      let b = owned n (find_field w id.class id.name id.desc) k a.0 in
       let r = found_in w id.name id.desc (id.class ∷ []) (kin w (id.class ∷ [])) (kin-IsKin w (unbroken_is_acyclic list files sound.unbroken) (id.class ∷ [])) b.0 b.1 in
-      let c = r.class in
-      let q = placed c b.0 (position (λ f. is_called id.name id.desc f) c.fields) refl r.own in
-      let own_c : c.is_imported ≡ false = ap (λ (v : Found). v.imported) q.2 ∙ b.2 in
-      let m = own_filed files sound.classes sound.exports c (has_named w r.by_name c r.there) own_c in
-      let number : m.0 ≡ n = ap (λ (v : Class). v.number) (sym m.3) ∙ ap (λ (v : Found). v.class) q.2 ∙ b.3 in
-      let trees : Some m.1 ≡ Some t = sym m.2 ∙ ap (slice_get files.classes) number ∙ is_class in
-      let tree : m.1 ≡ t = cc in
-      let place : q.0 ≡ k = ap (λ (v : Found). v.member) q.2 ∙ b.4 in
-      let at = position-at (λ f. is_called id.name id.desc f) c.fields q.0 q.1 in
-      let row : slice_get (map field_of_class t.fields) k ≡ Some (field_of_class a.1) = slice_get-map field_of_class t.fields k ∙ ap (option_map field_of_class) a.2 in
-      let told : Some at.0 ≡ Some (field_of_class a.1) = sym at.1 ∙ ap (slice_get c.fields) place ∙ ap (λ (v : Class). slice_get v.fields k) m.3 ∙ ap (λ (v : ClassTree). slice_get (map field_of_class v.fields) k) tree ∙ row in
-      let member : at.0 ≡ field_of_class a.1 = cc in
-      let called = both (bytes_eq (let f = a.1 in f.name) id.name) (bytes_eq (let f = a.1 in f.desc) id.desc) (ap (is_called id.name id.desc) (sym member) ∙ at.2) in
-      let name = bytes-true (let f = a.1 in f.name) id.name called.0 in
-      let desc = bytes-true (let f = a.1 in f.desc) id.desc called.1 in
-      record {
-        field = a.1;
-        there = a.2;
-        unput = a.3;
-        has_cell = a.4;
-        desc = desc;
-        named = ap (λ (x : List ℕ). record { class = t.name; name = x; desc = id.desc }) (sym name) ∙ ap (λ (x : List ℕ). record { class = t.name; name = (let f = a.1 in f.name); desc = x }) (sym desc);
-      }
+      at_class a.1 a.2 a.3 a.4 b.0 b.2 b.3 b.4 r.by_name r.class r.there r.own
     where
       after_place : (o : Option ℕ) → option_and_then (open_in t fields) o ≡ Some k → (o ≡ Some k) × (f : FieldTree) × (slice_get t.fields k ≡ Some f) × (slice_get fields k ≡ Some held.Nothing) × (is_cell f ≡ true)
       after_place None e = absurd (cc)
@@ -142,3 +145,16 @@ module _ (list : List ℕ) (files : Files) (sound : IsSound list files) where
       placed : (c : Class) (f : Found) (o : Option ℕ) → position (λ f. is_called id.name id.desc f) c.fields ≡ o → option_map (λ i. member_at c i) o ≡ Some f → (i : ℕ) × (position (λ f. is_called id.name id.desc f) c.fields ≡ Some i) × (member_at c i ≡ f)
       placed c f None p e = absurd (cc)
       placed c f (Some i) p e = (i, p, (let is : member_at c i ≡ f = cc in is))
+
+      at_place : (g : FieldTree) → slice_get t.fields k ≡ Some g → slice_get fields k ≡ Some held.Nothing → is_cell g ≡ true → (f : Found) → f.imported ≡ false → f.class ≡ n → f.member ≡ k → (x : List ℕ) (c : Class) → class_named w x ≡ Some c
+          → (i : ℕ) → position (λ f. is_called id.name id.desc f) c.fields ≡ Some i → member_at c i ≡ f → IsOpen t fields id k
+      at_place g there unput has_cell f im class member x c h i at is =
+          let own_c : c.is_imported ≡ false = ap (λ (v : Found). v.imported) is ∙ im in
+          let m = own_filed files sound.classes sound.exports c (has_named w x c h) own_c in
+          let same = class_there n t is_class c m.0 m.1 m.2 m.3 (ap (λ (v : Found). v.class) is ∙ class) in
+          let place : i ≡ k = ap (λ (v : Found). v.member) is ∙ member in
+          let q = position-at (λ f. is_called id.name id.desc f) c.fields i at in
+          named_there t fields id k g there unput has_cell q.0 (sym (ap (λ fs. slice_get fs k) same) ∙ (ap (slice_get c.fields) (sym place) ∙ q.1)) q.2
+
+      at_class : (g : FieldTree) → slice_get t.fields k ≡ Some g → slice_get fields k ≡ Some held.Nothing → is_cell g ≡ true → (f : Found) → f.imported ≡ false → f.class ≡ n → f.member ≡ k → (x : List ℕ) (c : Class) → class_named w x ≡ Some c → own_field id.name id.desc c ≡ Some f → IsOpen t fields id k
+      at_class g there unput has_cell f im class member x c h own = let q = placed c f (position (λ f. is_called id.name id.desc f) c.fields) refl own in at_place g there unput has_cell f im class member x c h q.0 q.1 q.2

@@ -21,7 +21,7 @@ use Rattle.cjc_tables_by_token.specs.Sound.{IsSound, StandOnce}
 use Rattle.cjc_tables_by_token.proofs.Puts.{Puts, Right, apart_append, classes_once, fields_once, one_back, one_either, one_front, place_or, puts_are, set_other, set_same}
 
 -- what the field at a place of a class holds
-pub held_at : List (List Held) → (class place : ℕ) → Option Held
+unfoldable pub held_at : List (List Held) → (class place : ℕ) → Option Held
 held_at fields n k = option_and_then (λ fs. slice_get fs k) (slice_get fields n)
 
 abbrev fields_of : List ArrayCell → List MemberId

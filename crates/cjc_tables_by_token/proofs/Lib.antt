@@ -14,3 +14,5 @@ pub mod Found
 pub mod Puts
 pub mod Initials
 pub mod Groups
+pub mod Statics
+pub mod Tables

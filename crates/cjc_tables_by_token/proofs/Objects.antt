@@ -35,7 +35,7 @@ use Rattle.cjc_components.specs.Class.{class_entry, fields_in, fields_of, interf
 use Rattle.cjc_components.specs.Names.{class_at, class_ref, field_token}
 use Rattle.cjc_paired.specs.Naming.{class_names, fields_from}
 use Rattle.cjc_tables_by_token.specs.Infos.{HasEntry, HasInfo}
-use Rattle.cjc_tables_by_token.specs.Known.{is_field_of, may_hold, may_name, same_members}
+use Rattle.cjc_tables_by_token.specs.Known.{is_field_of, is_holder, may_hold, may_name, same_members}
 use Rattle.cjc_tables_by_token.specs.Loading.{info_for, loaded, naming, part}
 use Rattle.cjc_tables_by_token.specs.Sound.{AreTyped, IsSound}
 use Rattle.cjc_tables_by_token.proofs.Above.{class_refs_mean, class_there, entry_of_name, info_of_name, once, rules_of}
@@ -377,27 +377,32 @@ module _ (list : List ℕ) (p : Package) (sound : IsSound list p.files) (typed :
   same_tells [] (y ∷ ys) e = cc
   same_tells (x ∷ xs) [] e = cc
 
+  pub import_holds : (x : List ℕ) (c : Class) → class_named w x ≡ Some c → c.is_imported ≡ true → may_hold w x [] ≡ true
+  import_holds x c e im = ap (λ o. is_holder o && same_members [] (object_fields w x)) e ∙ ap (λ b. (b || not (is_interface c.flags)) && same_members [] (object_fields w x)) im ∙ ap (same_members []) (imported_fields x c e im)
+
   pub has_objects : (x : List ℕ) (fields : List MemberId) → may_hold w x fields ≡ true → HasObjects (naming p) (may_name w) x fields
-  has_objects x fields e = by (class_named w x) refl (parts (is_class_of (class_named w x)) (same_members fields (object_fields w x)) e)
+  has_objects x fields e = by (class_named w x) refl (parts (is_holder (class_named w x)) (same_members fields (object_fields w x)) e)
     where
       parts : (q r : Bool) → (q && r) ≡ true → (q ≡ true) × (r ≡ true)
       parts true true u = (refl, refl)
       parts true false u = cc
       parts false r u = cc
 
-      plain_one : (b : Bool) → not b ≡ true → b ≡ false
-      plain_one true u = cc
-      plain_one false u = refl
-
-      by : (o : Option Class) → class_named w x ≡ o → (is_class_of (class_named w x) ≡ true) × (same_members fields (object_fields w x) ≡ true) → HasObjects (naming p) (may_name w) x fields
-      by None m q = let no : is_class_of None ≡ true = ap is_class_of (sym m) ∙ q.0 in absurd (cc)
-      by (Some c) m q =
-          let plain = plain_one (is_interface c.flags) (ap is_class_of (sym m) ∙ q.0) in
-          let h = holds (suc (length w)) x (clear_settles w x (λ z way far. unbroken_is_acyclic list p.files sound.unbroken z far)) c m plain in
-          let same = same_tells fields (object_fields w x) q.1 in
+      taken : (c : Class) → Holds x c → same_members fields (object_fields w x) ≡ true → HasObjects (naming p) (may_name w) x fields
+      taken c h q =
+          let same = same_tells fields (object_fields w x) q in
           record {
             height = h.height;
             low = h.depth;
             declared = subst (Declares (naming p) (may_name w) h.height (Some (class_at p x))) (sym same) h.declared;
             once = ap are_apart same ∙ h.apart;
           }
+
+      kind : (c : Class) → class_named w x ≡ Some c → (b i : Bool) → c.is_imported ≡ b → is_interface c.flags ≡ i → (b || not i) ≡ true → Holds x c
+      kind c m true i im f u = of_import x c m im
+      kind c m false true im f u = cc
+      kind c m false false im f u = holds (suc (length w)) x (clear_settles w x (λ z way far. unbroken_is_acyclic list p.files sound.unbroken z far)) c m f
+
+      by : (o : Option Class) → class_named w x ≡ o → (is_holder (class_named w x) ≡ true) × (same_members fields (object_fields w x) ≡ true) → HasObjects (naming p) (may_name w) x fields
+      by None m q = let never : is_holder None ≡ true = ap is_holder (sym m) ∙ q.0 in absurd (cc)
+      by (Some c) m q = taken c (kind c m c.is_imported (is_interface c.flags) refl refl (ap is_holder (sym m) ∙ q.0)) q.1

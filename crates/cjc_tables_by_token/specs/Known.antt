@@ -1,11 +1,11 @@
 -- The names that code, objects and scripts of a package may have.
-use Rattle.std.specs.Prelude.{ℕ, List, [], ◌∷◌, ◌++◌, map, filter, flat_map, Bool, true, false, ◌&&◌, ◌||◌, Option, Some, None}
+use Rattle.std.specs.Prelude.{ℕ, List, [], ◌∷◌, ◌++◌, map, filter, flat_map, Bool, true, false, not, ◌&&◌, ◌||◌, Option, Some, None}
+use Rattle.cjc_bytes.specs.AccessFlags.{is_interface}
 use Rattle.cjc_bytes.specs.declared.fault.MemberId.{MemberId}
 use Rattle.cjc_classfile.specs.declared.tree.ClassTree.{ClassTree}
 use Rattle.cjc_world.specs.declared.image.StaticImage.{StaticImage}
 use Rattle.cjc_world.specs.Classes.{Class, class_named}
 use Rattle.cjc_world.specs.Files.{Files}
-use Rattle.cjc_world.specs.Rules.{is_class_of}
 use Rattle.cjc_by_name.specs.OnePackage.{declared_fields, object_fields}
 use Rattle.cjc_clinit.specs.Fields.{is_cell}
 use Rattle.cjc_clinit.specs.Image.{field_id}
@@ -31,9 +31,14 @@ same_members [] [] = true
 same_members (f ∷ fields) (g ∷ others) = same_member f g && same_members fields others
 same_members fields others = false
 
--- an object of a class that is no interface has the fields of the class
+-- an imported class, or one of the package that is no interface
+abbrev pub is_holder : Option Class → Bool
+is_holder None = false
+is_holder (Some c) = c.is_imported || not (is_interface c.flags)
+
+-- an object of such a class has the fields of the class
 abbrev pub may_hold : List Class → (class : List ℕ) → List MemberId → Bool
-may_hold w c fields = is_class_of (class_named w c) && same_members fields (object_fields w c)
+may_hold w c fields = is_holder (class_named w c) && same_members fields (object_fields w c)
 
 -- ---- static fields
 

@@ -3,3 +3,4 @@ pub mod Kept
 pub mod Loading
 pub mod Infos
 pub mod Known
+pub mod Tables
