@@ -1,19 +1,17 @@
 -- Class infos and export files say of each class what stands above it.
-use Rattle.std.proofs.Common.{◌≡◌, ℕ, zero, suc, ◌+◌, refl, sym, ap, subst, ◌∙◌, arith, Bool, true, false, List, [], ◌∷◌, ◌++◌, inl, inr, ⊎_elim}
-use Rattle.std.specs.Prelude.{◌⊎◌, map, not, Option, Some, None, is_some, option_and_then, option_map, option_to_list, slice_get, unwrap_or, if◌then◌else◌}
+use Rattle.std.proofs.Common.{◌≡◌, ℕ, zero, suc, ◌+◌, refl, sym, ap, subst, ◌∙◌, arith, Bool, true, false, List, [], ◌∷◌, ◌++◌, ⊎_elim}
+use Rattle.std.specs.Prelude.{map, not, Option, Some, None, is_some, option_and_then, option_map, option_to_list, slice_get, unwrap_or, if◌then◌else◌}
 use Rattle.cjc_bytes.specs.AccessFlags.{is_interface}
 use Rattle.cjc_capread.specs.declared.tree.ClassRef.{ClassRef}
-use Rattle.cjc_capread.specs.declared.tree.ClassRef.TheVariants.{Inside, Outside}
 use Rattle.cjc_export.specs.declared.tree.ExportClass.{ExportClass}
 use Rattle.cjc_export.specs.declared.tree.ExportTree.{ExportTree}
-use Rattle.cjc_card.specs.Classes.{Class as CardClass, Info, IsInterface, IsClass, Own, Foreign, class_named as class_on_card, class_of, foreign_named, foreign, imported_class, info_of, info_supers, is_there, number_named, number_of, object_above, object_class, offset_of, or_else, where_there}
-use Rattle.cjc_card.specs.Loaded.{Import, OfFile}
+use Rattle.cjc_card.specs.Classes.{Class as CardClass, IsInterface, IsClass, Own, Foreign, class_named as class_on_card, class_of, foreign_named, foreign, imported_class, number_of, object_class, offset_of, or_else}
+use Rattle.cjc_card.specs.Loaded.{OfFile}
 use Rattle.cjc_lower.specs.Naming.{IsClass as MeansClass}
 use Rattle.cjc_tokens.specs.Lines.{line_at}
 use Rattle.cjc_tokens.specs.Methods.{interfaces_at}
 use Rattle.cjc_tokens.specs.Slots.{Slots, slots}
-use Rattle.cjc_vtable.specs.Kept.{AreRead}
-use Rattle.cjc_vtable.specs.Tables.{interface_map, table_of}
+use Rattle.cjc_vtable.specs.Tables.{interface_map}
 use Rattle.cjc_vtable.proofs.Filed.{Has, at_front, behind}
 use Rattle.cjc_world.specs.Classes.{Class, class_named}
 use Rattle.cjc_world.specs.Interfaces.{known}
@@ -27,17 +25,17 @@ use Rattle.cjc_world.proofs.Settled.{lists-front}
 use Rattle.cjc_world.proofs.Unbroken.{unbroken_is_acyclic}
 use Rattle.cjc_by_token.specs.Supers.{IsToldOf, SaysKinds, SaysSupers, above_each, has_class, listed_there, of_file, of_package}
 use Rattle.cjc_components.specs.Package.{Package, world}
-use Rattle.cjc_components.specs.Class.{class_entry, implemented, interface_entry, interfaces_of, superclass}
+use Rattle.cjc_components.specs.Class.{class_entry, implemented, interface_entry, superclass}
 use Rattle.cjc_components.specs.Names.{class_at, class_ref}
 use Rattle.cjc_paired.specs.Naming.{files_from}
 use Rattle.cjc_tables_by_token.specs.Infos.{HasEntry, HasInfo}
 use Rattle.cjc_tables_by_token.specs.Kept.{KeepsRules}
-use Rattle.cjc_tables_by_token.specs.Loading.{info_for, loaded, naming, part}
+use Rattle.cjc_tables_by_token.specs.Loading.{loaded, naming, part}
 use Rattle.cjc_tables_by_token.specs.Sound.{IsSound}
-use Rattle.cjc_tables_by_token.proofs.Clean.{has_named, kept, own_name}
+use Rattle.cjc_tables_by_token.proofs.Clean.{has_named, kept}
 use Rattle.cjc_tables_by_token.proofs.Filed.{import_filed, own_filed}
 use Rattle.cjc_tables_by_token.proofs.Interfaces.{interface_has, interface_is}
-use Rattle.cjc_tables_by_token.proofs.Lists.{RightSupers, interfaces_there, lists_either, no_array, right_supers, supers_there}
+use Rattle.cjc_tables_by_token.proofs.Lists.{lists_either, no_array, right_supers, supers_there}
 use Rattle.cjc_tables_by_token.proofs.Named.{has_entry, has_info, has_none}
 use Rattle.cjc_tables_by_token.proofs.Telling.{has_object}
 

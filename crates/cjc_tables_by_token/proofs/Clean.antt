@@ -11,9 +11,9 @@ use Rattle.cjc_classfile.specs.declared.tree.ClassTree.{ClassTree}
 use Rattle.cjc_export.specs.declared.tree.ExportTree.{ExportTree}
 use Rattle.cjc_vtable.proofs.Filed.{Every, every-append, Has, at_front, behind}
 use Rattle.cjc_world.specs.Files.{Files}
-use Rattle.cjc_world.specs.Classes.{Class, Member, declared, numbered, size, of_class_file, of_export_file, classes_from, all_classes, class_named}
+use Rattle.cjc_world.specs.Classes.{Class, Member, numbered, size, of_class_file, of_export_file, classes_from, all_classes, class_named}
 use Rattle.cjc_world.specs.Rules.{at_class, at_member, breaks, breaks_from, class_breaks, class_file_breaks, class_rules, classes_breaks, export_file_breaks, gets_missing, has_language, is_desc_missing, is_of_package, is_other, is_own_super, is_second, is_second_package, is_twice, lists_missing, lists_wrong, member_rules, members, members_before, members_from, same_place, told, when}
-use Rattle.cjc_world.proofs.Settled.{bytes-refl, bytes-true}
+use Rattle.cjc_world.proofs.Settled.{bytes-refl}
 use Rattle.cjc_world.proofs.Unbroken.{nil_back, nil_front, nil_of_map, not_when}
 use Rattle.cjc_tables_by_token.specs.Kept.{KeepsRules}
 use Rattle.cjc_tables_by_token.specs.Sound.{IsSound}

@@ -1,24 +1,22 @@
 -- The instance fields of a class of the package, with their tokens, as its info and its names have them.
-use Rattle.std.proofs.Common.{◌≡◌, ℕ, zero, suc, ◌+◌, ◌<◌, refl, sym, ap, subst, ◌∙◌, arith, Bool, true, false, List, [], ◌∷◌, ◌++◌, length}
-use Rattle.std.specs.Prelude.{not, ◌&&◌, ◌||◌, ◌==◌, cond, count_by, take, map, nat_lt, position, Option, Some, None, slice_get, option_map, option_and_then, unwrap_or, if◌then◌else◌}
-use Rattle.std.specs.List.{list_any}
+use Rattle.std.proofs.Common.{◌≡◌, ℕ, zero, suc, ◌+◌, refl, sym, ap, ◌∙◌, arith, Bool, true, false, List, [], ◌∷◌, ◌++◌}
+use Rattle.std.specs.Prelude.{not, ◌&&◌, ◌||◌, count_by, take, map, nat_lt, position, Option, Some, None, slice_get, option_map, option_and_then, unwrap_or, if◌then◌else◌}
 use Rattle.std.specs.Str.{bytes_eq}
 use Rattle.std.proofs.lemmas.Option.{slice_get-map}
-use Rattle.cjc_bytes.specs.AccessFlags.{is_static, is_interface}
+use Rattle.cjc_bytes.specs.AccessFlags.{is_static}
 use Rattle.cjc_bytes.specs.declared.fault.MemberId.{MemberId}
 use Rattle.cjc_classfile.specs.declared.tree.ClassTree.{ClassTree}
 use Rattle.cjc_classfile.specs.declared.tree.FieldTree.{FieldTree}
-use Rattle.cjc_card.specs.Classes.{Own, Foreign}
 use Rattle.cjc_card.specs.Loaded.{FieldName}
 use Rattle.cjc_clinit.specs.Image.{field_id}
-use Rattle.cjc_tokens.specs.Fields.{field_token, field_tokens, instance_cells, instance_token, is_instance, is_open_static}
-use Rattle.cjc_tokens.specs.Tokens.{Assigned, OfClass, assigned, classes_from, joined, method_tokens, of_class, one_more, token_of_member}
+use Rattle.cjc_tokens.specs.Fields.{field_token, field_tokens, instance_token, is_instance, is_open_static}
+use Rattle.cjc_tokens.specs.Tokens.{OfClass, assigned, classes_from, joined, method_tokens, of_class, one_more, token_of_member}
 use Rattle.cjc_tokens.proofs.Facts.{position-cons}
 use Rattle.cjc_vtable.proofs.Filed.{Has}
 use Rattle.cjc_world.specs.declared.found.Found.{Found}
-use Rattle.cjc_world.specs.Classes.{Class, Member, all_classes, class_named, declared, field_of_class}
+use Rattle.cjc_world.specs.Classes.{Class, class_named, declared, field_of_class}
 use Rattle.cjc_world.specs.Exported.{is_exported}
-use Rattle.cjc_world.specs.Kin.{kin, Known, End}
+use Rattle.cjc_world.specs.Kin.{kin}
 use Rattle.cjc_world.specs.Lookup.{field_in, find_field, is_called, member_at, or_else, own_field}
 use Rattle.cjc_world.specs.Rules.{is_earlier, is_twice}
 use Rattle.cjc_world.proofs.Settled.{bytes-refl, kin-known}

@@ -1,6 +1,6 @@
 -- Which classes are in a world: those of the package's class files, and those of its export files.
 use Rattle.std.proofs.Common.{◌≡◌, ℕ, zero, suc, ◌+◌, ◌<◌, ◌≤◌, refl, sym, ap, subst, ◌∙◌, arith, Bool, true, false, List, [], ◌∷◌, ◌++◌, length, drop, add-one, get_or, inl, inr}
-use Rattle.std.specs.Prelude.{map, not, filter, cond, count_by, ◌⊎◌, Option, Some, None, slice_get, if◌then◌else◌}
+use Rattle.std.specs.Prelude.{not, filter, cond, ◌⊎◌, Option, Some, None, slice_get, if◌then◌else◌}
 use Rattle.std.proofs.lemmas.List.Elements.{filter-append}
 use Rattle.std.proofs.lemmas.List.Sums.{sum_by-cons}
 use Rattle.std.proofs.lemmas.Option.{slice_get_within, slice_get_cases, get_or_from_slice_get}

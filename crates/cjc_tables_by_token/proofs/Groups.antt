@@ -1,7 +1,6 @@
 -- The groups of the static image: each static field stands in one, by what it holds, and once.
-use Rattle.std.proofs.Common.{◌≡◌, ℕ, zero, suc, ◌+◌, ◌<◌, refl, sym, ap, subst, ◌∙◌, arith, Bool, true, false, List, [], ◌∷◌, ◌++◌, length, inl, inr, ⊎_elim, append-nil, append_assoc}
-use Rattle.std.specs.Prelude.{not, ◌&&◌, ◌||◌, ◌⊎◌, cond, filter, map, Option, Some, None, slice_get, option_and_then, option_map, if◌then◌else◌, ℤ, pos}
-use Rattle.std.specs.List.{flat_map}
+use Rattle.std.proofs.Common.{◌≡◌, ℕ, zero, suc, ◌+◌, refl, sym, ap, ◌∙◌, arith, Bool, true, false, List, [], ◌∷◌, ◌++◌, ⊎_elim, append-nil}
+use Rattle.std.specs.Prelude.{not, ◌||◌, cond, filter, map, Option, Some, None, slice_get, if◌then◌else◌, pos}
 use Rattle.std.specs.Ordering.{int_eq}
 use Rattle.std.proofs.lemmas.List.{map-append}
 use Rattle.std.proofs.lemmas.List.Concat.{flat_map-cons}
@@ -12,11 +11,10 @@ use Rattle.cjc_world.specs.declared.image.ArrayCell.{ArrayCell}
 use Rattle.cjc_world.specs.declared.image.StaticImage.{StaticImage}
 use Rattle.cjc_world.specs.declared.image.ValueCell.{ValueCell}
 use Rattle.cjc_clinit.specs.declared.stage.Held.{Held}
-use Rattle.cjc_clinit.specs.declared.stage.Held.TheVariants as held
 use Rattle.cjc_clinit.specs.declared.stage.Start.{Start}
 use Rattle.cjc_clinit.specs.declared.stage.Start.TheVariants as starts
-use Rattle.cjc_clinit.specs.Fields.{is_cell, is_reference}
-use Rattle.cjc_clinit.specs.Image.{field_id, fields_in, held_in, image_of, joined, of_classes, of_fields, of_start, start_by, start_of}
+use Rattle.cjc_clinit.specs.Fields.{is_cell}
+use Rattle.cjc_clinit.specs.Image.{field_id, fields_in, held_in, image_of, joined, of_classes, of_fields, of_start, start_of}
 use Rattle.cjc_ncode.specs.PoolOrder.{same_member}
 use Rattle.cjc_by_token.specs.Cells.{are_apart, is_one_of}
 use Rattle.cjc_by_token.proofs.Members.{member_same, member_tells}
@@ -105,12 +103,12 @@ module _ (list : List ℕ) (p : Package) (sound : IsSound list p.files) where
         apart_append (one_if (test n k f) (field_id t.name f)) (chosen_in test n t.name (k + 1) fs) (one_apart (test n k f))
         (apart_in n t is_class (k + 1) fs (λ i g e. let s : k + 1 + i ≡ k + suc i = omega arith in ap (slice_get t.fields) s ∙ h (suc i) g e))
         (λ m a b. (let r = in_one (test n k f) m (field_id t.name f) a in
-            let s = chosen_in_is test n t.name (k + 1) fs m b in
-            let z : k + 0 ≡ k = omega arith in
-            let first : IsAt list p sound n t k f m = record { class = is_class; field = ap (slice_get t.fields) (sym z) ∙ h 0 f refl; named = r.1 } in
-            let second : IsAt list p sound n t (k + suc s.0) s.1 m = record { class = is_class; field = h (suc s.0) s.1 s.2; named = s.4 } in
-            let same = (one_place list p sound n t k f n t (k + suc s.0) s.1 m first second).1 in
-            omega (arith, same)))
+        let s = chosen_in_is test n t.name (k + 1) fs m b in
+        let z : k + 0 ≡ k = omega arith in
+        let first : IsAt list p sound n t k f m = record { class = is_class; field = ap (slice_get t.fields) (sym z) ∙ h 0 f refl; named = r.1 } in
+        let second : IsAt list p sound n t (k + suc s.0) s.1 m = record { class = is_class; field = h (suc s.0) s.1 s.2; named = s.4 } in
+        let same = (one_place list p sound n t k f n t (k + suc s.0) s.1 m first second).1 in
+        omega (arith, same)))
       where
         one_apart : (b : Bool) → are_apart (one_if b (field_id t.name f)) ≡ true
         one_apart true = refl
@@ -126,11 +124,11 @@ module _ (list : List ℕ) (p : Package) (sound : IsSound list p.files) where
         (apart_in n c is_class 0 c.fields (λ i f e. let z : 0 + i ≡ i = omega arith in ap (slice_get c.fields) z ∙ e))
         (apart_of (n + 1) cs (λ j t e. let s : n + 1 + j ≡ n + suc j = omega arith in ap (slice_get classes) s ∙ h (suc j) t e))
         (λ m a b. (let r = chosen_in_is test n c.name 0 c.fields m a in
-            let s = chosen_is test (n + 1) cs m b in
-            let first : IsAt list p sound n c r.0 r.1 m = record { class = is_class; field = r.2; named = r.4 } in
-            let second : IsAt list p sound (n + suc s.0) s.1 s.2 s.3 m = record { class = h (suc s.0) s.1 s.4; field = s.5; named = s.7 } in
-            let same = (one_place list p sound n c r.0 r.1 (n + suc s.0) s.1 s.2 s.3 m first second).0 in
-            omega (arith, same)))
+        let s = chosen_is test (n + 1) cs m b in
+        let first : IsAt list p sound n c r.0 r.1 m = record { class = is_class; field = r.2; named = r.4 } in
+        let second : IsAt list p sound (n + suc s.0) s.1 s.2 s.3 m = record { class = h (suc s.0) s.1 s.4; field = s.5; named = s.7 } in
+        let same = (one_place list p sound n c r.0 r.1 (n + suc s.0) s.1 s.2 s.3 m first second).0 in
+        omega (arith, same)))
 
     pub chosen_apart : are_apart (chosen_of test 0 classes) ≡ true
     chosen_apart = apart_of 0 classes (λ j t e. let z : 0 + j ≡ j = omega arith in ap (slice_get classes) z ∙ e)

@@ -1,35 +1,27 @@
 -- The infos of Class by number and by offset, and the infos of the loaded package.
-use Rattle.std.proofs.Common.{◌≡◌, ℕ, zero, suc, ◌+◌, ◌*◌, ◌<◌, ◌≤◌, refl, sym, ap, subst, ◌∙◌, arith, Bool, true, false, List, [], ◌∷◌, ◌++◌, length, inl, inr}
-use Rattle.std.specs.Prelude.{map, ◌==◌, ◌⊎◌, cond, sum_by, position, Option, Some, None, slice_get, option_map, option_and_then, unwrap_or, if◌then◌else◌}
+use Rattle.std.proofs.Common.{◌≡◌, ℕ, zero, suc, ◌+◌, ◌*◌, ◌<◌, ◌≤◌, refl, sym, ap, ◌∙◌, arith, Bool, true, false, List, [], ◌∷◌, ◌++◌, length, inl, inr}
+use Rattle.std.specs.Prelude.{map, ◌==◌, ◌⊎◌, sum_by, position, Some, None, slice_get, option_map, option_and_then, if◌then◌else◌}
 use Rattle.std.specs.Str.{bytes_eq}
-use Rattle.std.proofs.lemmas.Bool.{eqb-true, eqb-false}
+use Rattle.std.proofs.lemmas.Bool.{eqb-true}
 use Rattle.std.proofs.lemmas.Bool.Decides.{nat_tests}
 use Rattle.std.proofs.lemmas.List.Sums.{sum_by-cons}
 use Rattle.std.proofs.lemmas.Option.{slice_get-map}
-use Rattle.cjc_bytes.specs.AccessFlags.{is_interface}
 use Rattle.cjc_capread.specs.declared.tree.ClassEntry.{ClassEntry}
-use Rattle.cjc_capread.specs.declared.tree.ClassRef.TheVariants.{Inside}
 use Rattle.cjc_capread.specs.declared.tree.ImplementedInterface.{ImplementedInterface}
 use Rattle.cjc_capread.specs.declared.tree.InterfaceEntry.{InterfaceEntry}
-use Rattle.cjc_card.specs.Classes.{Info, IsInterface, IsClass, Own, foreign_from, info_of, info_size, infos, map_sizes, names_of, number_from, number_named, number_of, offset_from, offset_of, or_else}
+use Rattle.cjc_card.specs.Classes.{Info, IsInterface, IsClass, info_of, info_size, infos, map_sizes, number_from, number_named, offset_from}
 use Rattle.cjc_card.specs.Loaded.{ClassNames}
-use Rattle.cjc_sentences.specs.Classes.{first_class, first_interface}
 use Rattle.cjc_sentences.specs.Complete.{class_size, interface_size, map_size}
-use Rattle.cjc_sentences.specs.Described.{all_starts}
 use Rattle.cjc_sentences.specs.Spots.{placed, starts}
 use Rattle.cjc_tokens.proofs.Facts.{position-cons}
-use Rattle.cjc_vtable.proofs.Filed.{Has, behind, has-get}
+use Rattle.cjc_vtable.proofs.Filed.{Has, behind}
 use Rattle.cjc_world.specs.Files.{Files}
 use Rattle.cjc_world.specs.Classes.{Class}
-use Rattle.cjc_world.specs.Order.{class_order, in_order}
+use Rattle.cjc_world.specs.Order.{class_order}
 use Rattle.cjc_components.specs.Package.{Package, tokens, world}
-use Rattle.cjc_components.specs.Class.{class_entry, class_info, interface_entry}
-use Rattle.cjc_components.specs.Names.{class_at, class_offset, class_ref, info_starts, ref_to}
 use Rattle.cjc_paired.specs.Naming.{class_names}
-use Rattle.cjc_component_laws.proofs.Starts.{infos_stand_alike, ref_is_start}
-use Rattle.cjc_tables_by_token.specs.Loading.{info_for, loaded, part}
-use Rattle.cjc_tables_by_token.specs.Sound.{IsSound}
-use Rattle.cjc_tables_by_token.proofs.Order.{get-has, kind-in, order_has, own_names}
+use Rattle.cjc_tables_by_token.specs.Loading.{loaded, part}
+use Rattle.cjc_tables_by_token.proofs.Order.{get-has}
 
 -- ---- offsets of infos
 

@@ -1,6 +1,6 @@
 -- What static fields hold after all initialisers of a package, and the arrays of the static image.
-use Rattle.std.proofs.Common.{◌≡◌, ℕ, zero, suc, ◌+◌, ◌<◌, refl, sym, ap, subst, ◌∙◌, arith, Bool, true, false, List, [], ◌∷◌, ◌++◌, length, inl, inr, ⊎_elim}
-use Rattle.std.specs.Prelude.{not, ◌⊎◌, map, replicate, Option, Some, None, slice_get, slice_set, option_and_then, option_map, if◌then◌else◌}
+use Rattle.std.proofs.Common.{◌≡◌, ℕ, zero, suc, ◌<◌, refl, sym, ap, subst, ◌∙◌, arith, Bool, true, false, List, ◌++◌, length, inl, inr, ⊎_elim}
+use Rattle.std.specs.Prelude.{◌⊎◌, map, replicate, Option, Some, None, slice_get, slice_set, option_and_then, option_map, if◌then◌else◌}
 use Rattle.std.proofs.lemmas.List.{map-append}
 use Rattle.std.proofs.lemmas.Option.{slice_get-map, slice_get_within}
 use Rattle.cjc_bytes.specs.declared.fault.MemberId.{MemberId}
@@ -79,10 +79,10 @@ module _ (list : List ℕ) (p : Package) (sound : IsSound list p.files) where
     pub kept : (n k : ℕ) (h : Held) → held_at before n k ≡ Some h → (h ≡ held.Nothing → ⊥) → held_at after n k ≡ Some h
     pub new : (n : ℕ) (t : ClassTree) (k : ℕ) (g : FieldTree) → slice_get classes n ≡ Some t → slice_get t.fields k ≡ Some g → held_at after n k ≡ Some held.Array → (held_at before n k ≡ Some held.Array) ⊎ (is_one_of (field_id t.name g) made ≡ true)
     pub right : ((n : ℕ) (t : ClassTree) (k : ℕ) (g : FieldTree) (h : Held) → slice_get classes n ≡ Some t → slice_get t.fields k ≡ Some g → held_at before n k ≡ Some h → Right g.desc h)
-      → (n : ℕ) (t : ClassTree) (k : ℕ) (g : FieldTree) (h : Held) → slice_get classes n ≡ Some t → slice_get t.fields k ≡ Some g → held_at after n k ≡ Some h → Right g.desc h
+        → (n : ℕ) (t : ClassTree) (k : ℕ) (g : FieldTree) (h : Held) → slice_get classes n ≡ Some t → slice_get t.fields k ≡ Some g → held_at after n k ≡ Some h → Right g.desc h
 
   module _ (before after : List (List Held)) (n : ℕ) (c : ClassTree) (is_class : slice_get classes n ≡ Some c) (fs : List Held) (here later : List MemberId)
-    (nothing : slice_get before n ≡ Some (nothing_in c)) (puts : Puts c (nothing_in c) fs here) (rest : Made (slice_set before n fs) after later) where
+      (nothing : slice_get before n ≡ Some (nothing_in c)) (puts : Puts c (nothing_in c) fs here) (rest : Made (slice_set before n fs) after later) where
     at_class : (k : ℕ) → held_at (slice_set before n fs) n k ≡ slice_get fs k
     unfolding held_at
     at_class k = ap (option_and_then (λ xs. slice_get xs k)) (set_same before n fs (nothing_in c) nothing)
@@ -105,33 +105,33 @@ module _ (list : List ℕ) (p : Package) (sound : IsSound list p.files) where
     made_more = record {
       apart = apart_append here later puts.apart rest.apart (λ m e f. clash m e f);
       of = λ m e. ⊎_elim
-        (λ a. (let r = puts.of m a in
-            (n, c, r.0, r.1, record { class = is_class; field = r.2; named = r.4 }, r.3, was r.0 ∙ r.5, rest.kept n r.0 held.Array (at_class r.0 ∙ r.6) (λ q. cc))))
-        (λ b. (let r = rest.of m b in (r.0, r.1, r.2, r.3, r.4, r.5, earlier r.0 r.1 r.2 r.3 r.4 r.6, r.7)))
-        (one_either m here later e);
+          (λ a. (let r = puts.of m a in
+          (n, c, r.0, r.1, record { class = is_class; field = r.2; named = r.4 }, r.3, was r.0 ∙ r.5, rest.kept n r.0 held.Array (at_class r.0 ∙ r.6) (λ q. cc))))
+          (λ b. (let r = rest.of m b in (r.0, r.1, r.2, r.3, r.4, r.5, earlier r.0 r.1 r.2 r.3 r.4 r.6, r.7)))
+          (one_either m here later e);
       kept = λ j k h e never. ⊎_elim
-        (λ same. absurd (never (was_nothing k h (ap (λ q. held_at before q k) same ∙ e))))
-        (λ differs. rest.kept j k h (at_other j k differs ∙ e) never) (place_or n j);
+          (λ same. absurd (never (was_nothing k h (ap (λ q. held_at before q k) same ∙ e))))
+          (λ differs. rest.kept j k h (at_other j k differs ∙ e) never) (place_or n j);
       new = λ j t k g e f a. ⊎_elim
-        (λ b. ⊎_elim
-        (λ same. (let is = same_class j t same e in
-            let put : slice_get fs k ≡ Some held.Array = sym (at_class k) ∙ ap (λ q. held_at (slice_set before n fs) q k) same ∙ b in
-            ⊎_elim (λ x. (let clash_it = nothing_there (length c.fields) k held.Array x in absurd (cc)))
-            (λ x. inr (one_front (field_id t.name g) here later (ap (λ (v : ClassTree). is_one_of (field_id v.name g) here) (sym is) ∙ x)))
-            (puts.new k g (ap (λ (v : ClassTree). slice_get v.fields k) is ∙ f) put)))
-        (λ differs. inl (sym (at_other j k differs) ∙ b)) (place_or n j))
-        (λ b. inr (one_back (field_id t.name g) here later b)) (rest.new j t k g e f a);
+          (λ b. ⊎_elim
+          (λ same. (let is = same_class j t same e in
+          let put : slice_get fs k ≡ Some held.Array = sym (at_class k) ∙ ap (λ q. held_at (slice_set before n fs) q k) same ∙ b in
+          ⊎_elim (λ x. (let clash_it = nothing_there (length c.fields) k held.Array x in absurd (cc)))
+          (λ x. inr (one_front (field_id t.name g) here later (ap (λ (v : ClassTree). is_one_of (field_id v.name g) here) (sym is) ∙ x)))
+          (puts.new k g (ap (λ (v : ClassTree). slice_get v.fields k) is ∙ f) put)))
+          (λ differs. inl (sym (at_other j k differs) ∙ b)) (place_or n j))
+          (λ b. inr (one_back (field_id t.name g) here later b)) (rest.new j t k g e f a);
       right = λ all j t k g h e f a. rest.right (λ i u l v x b d y. ⊎_elim
-        (λ same. (let is = same_class i u same b in
-            puts.right (λ q z o s r. all n c q z o is_class s (was q ∙ r)) l v x (ap (λ (v : ClassTree). slice_get v.fields l) is ∙ d) (sym (at_class l) ∙ ap (λ q. held_at (slice_set before n fs) q l) same ∙ y)))
-        (λ differs. all i u l v x b d (sym (at_other i l differs) ∙ y)) (place_or n i)) j t k g h e f a;
+          (λ same. (let is = same_class i u same b in
+          puts.right (λ q z o s r. all n c q z o is_class s (was q ∙ r)) l v x (ap (λ (v : ClassTree). slice_get v.fields l) is ∙ d) (sym (at_class l) ∙ ap (λ q. held_at (slice_set before n fs) q l) same ∙ y)))
+          (λ differs. all i u l v x b d (sym (at_other i l differs) ∙ y)) (place_or n i)) j t k g h e f a;
     }
       where
         earlier : (j : ℕ) (t : ClassTree) (k : ℕ) (g : FieldTree) {m : MemberId} → IsAt j t k g m → held_at (slice_set before n fs) j k ≡ Some held.Nothing → held_at before j k ≡ Some held.Nothing
         earlier j t k g a e = ⊎_elim
             (λ same. (let is = same_class j t same a.class in
-                let lt = slice_get_within c.fields k g (ap (λ (v : ClassTree). slice_get v.fields k) is ∙ a.field) in
-                ap (λ q. held_at before q k) (sym same) ∙ was k ∙ there_nothing (length c.fields) k lt))
+            let lt = slice_get_within c.fields k g (ap (λ (v : ClassTree). slice_get v.fields k) is ∙ a.field) in
+            ap (λ q. held_at before q k) (sym same) ∙ was k ∙ there_nothing (length c.fields) k lt))
             (λ differs. sym (at_other j k differs) ∙ e) (place_or n j)
 
         clash : (m : MemberId) → is_one_of m here ≡ true → is_one_of m later ≡ true → ⊥

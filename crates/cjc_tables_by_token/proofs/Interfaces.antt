@@ -1,13 +1,13 @@
 -- The interfaces of a class stand above it, each that it lists among them.
 use Rattle.std.proofs.Common.{◌≡◌, ℕ, refl, sym, ap, subst, ◌∙◌, Bool, true, false, List, [], ◌∷◌, ◌++◌, inl, inr, ⊎_elim}
-use Rattle.std.specs.Prelude.{◌||◌, ◌⊎◌, map, Option, Some, None, option_to_list, if◌then◌else◌}
+use Rattle.std.specs.Prelude.{◌||◌, ◌⊎◌, Option, Some, None, option_to_list, if◌then◌else◌}
 use Rattle.std.specs.Str.{bytes_eq}
 use Rattle.cjc_vtable.proofs.Filed.{Has, at_front, behind}
 use Rattle.cjc_world.specs.Classes.{Class, class_named}
 use Rattle.cjc_world.specs.Interfaces.{Interface, each_once, gathered, is_among, known, where_listed}
-use Rattle.cjc_world.specs.Kin.{Above, directly, onwards, IsAcyclic, IsKin, ends, unknown_here, known_here, Kin, End, Known, Unknown, Lists, foremost, after, kin}
+use Rattle.cjc_world.specs.Kin.{Above, directly, onwards, IsAcyclic, IsKin, ends, unknown_here, known_here, Kin, Lists, foremost, after, kin}
 use Rattle.cjc_world.proofs.Cycles.{class_named-name}
-use Rattle.cjc_world.proofs.Settled.{bytes-refl, bytes-true, kin-IsKin, lists-behind, lists-front}
+use Rattle.cjc_world.proofs.Settled.{bytes-true, kin-IsKin, lists-behind, lists-front}
 use Rattle.cjc_tokens.specs.Methods.{interfaces_at}
 use Rattle.cjc_tables_by_token.proofs.Filed.{has-back, has-front}
 use Rattle.cjc_tables_by_token.proofs.Order.{has-either}

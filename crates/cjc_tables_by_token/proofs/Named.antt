@@ -1,26 +1,23 @@
 -- Where the class of each name is on the card.
-use Rattle.std.proofs.Common.{◌≡◌, ℕ, zero, suc, ◌+◌, refl, sym, ap, subst, ◌∙◌, arith, Bool, true, false, List, [], ◌∷◌, ◌++◌, length, inl, inr, ⊎_elim}
-use Rattle.std.specs.Prelude.{map, not, ◌||◌, ◌==◌, ◌⊎◌, cond, position, Option, Some, None, slice_get, option_map, option_and_then, unwrap_or, if◌then◌else◌}
+use Rattle.std.proofs.Common.{◌≡◌, ℕ, suc, ◌+◌, refl, sym, ap, ◌∙◌, arith, Bool, true, false, List, [], ◌∷◌, ◌++◌, ⊎_elim}
+use Rattle.std.specs.Prelude.{map, not, ◌||◌, ◌==◌, position, Option, Some, None, slice_get, option_map, option_and_then, unwrap_or, if◌then◌else◌}
 use Rattle.std.specs.List.{list_any}
 use Rattle.std.specs.Str.{bytes_eq}
 use Rattle.std.proofs.lemmas.Bool.Decides.{nat_tests}
 use Rattle.std.proofs.lemmas.List.Folds.{list_any-append}
 use Rattle.std.proofs.lemmas.Option.{slice_get-map}
 use Rattle.cjc_bytes.specs.AccessFlags.{is_interface}
-use Rattle.cjc_capread.specs.declared.tree.ClassRef.{ClassRef}
-use Rattle.cjc_capread.specs.declared.tree.ClassRef.TheVariants.{Inside, Outside}
+use Rattle.cjc_capread.specs.declared.tree.ClassRef.TheVariants.{Inside}
 use Rattle.cjc_export.specs.ExportFile.{class_token, token_taken}
 use Rattle.cjc_export.specs.Writable.{ClassFits, EachAfter}
 use Rattle.cjc_export.specs.declared.tree.ExportClass.{ExportClass}
 use Rattle.cjc_export.specs.declared.tree.ExportTree.{ExportTree}
-use Rattle.cjc_card.specs.Classes.{Class as CardClass, Info, IsInterface, IsClass, Own, Foreign, foreign, foreign_from, foreign_named, infos, number_named, number_of, offset_of, or_else, token_named, with_token}
+use Rattle.cjc_card.specs.Classes.{Class as CardClass, IsInterface, IsClass, Own, Foreign, foreign_from, infos, number_of, offset_of, or_else, token_named, with_token}
 use Rattle.cjc_subset.specs.Members.{imports}
 use Rattle.cjc_vtable.proofs.Filed.{Has, at_front, behind, get-has, has-get, of-imports}
 use Rattle.cjc_vtable.proofs.SlotNames.{position-at}
-use Rattle.cjc_world.specs.Files.{Files}
-use Rattle.cjc_world.specs.Classes.{Class, all_classes, class_named, declared, imported}
+use Rattle.cjc_world.specs.Classes.{Class, class_named, imported}
 use Rattle.cjc_world.specs.Order.{class_order, in_order}
-use Rattle.cjc_world.proofs.Cycles.{class_named-name}
 use Rattle.cjc_world.proofs.Settled.{bytes-refl, bytes-true}
 use Rattle.cjc_components.specs.Package.{Package, tokens, world}
 use Rattle.cjc_components.specs.Class.{class_entry, class_info, interface_entry}
@@ -28,9 +25,9 @@ use Rattle.cjc_components.specs.Names.{class_at, class_offset, class_ref, info_s
 use Rattle.cjc_paired.specs.Naming.{class_names}
 use Rattle.cjc_component_laws.proofs.Starts.{infos_stand_alike, ref_is_start}
 use Rattle.cjc_tables_by_token.specs.Infos.{HasEntry, HasInfo, HasNone}
-use Rattle.cjc_tables_by_token.specs.Loading.{info_for, loaded, part}
+use Rattle.cjc_tables_by_token.specs.Loading.{info_for, part}
 use Rattle.cjc_tables_by_token.specs.Sound.{IsSound}
-use Rattle.cjc_tables_by_token.proofs.Clean.{has_named, own_name}
+use Rattle.cjc_tables_by_token.proofs.Clean.{own_name}
 use Rattle.cjc_tables_by_token.proofs.Filed.{has-back, has-front, import_filed, import_in}
 use Rattle.cjc_tables_by_token.proofs.Infos.{either_of, numbers_are, numbers_named, offsets_are}
 use Rattle.cjc_tables_by_token.proofs.Order.{kind-in, order_has, order_in, own_names}

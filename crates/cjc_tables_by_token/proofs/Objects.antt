@@ -1,26 +1,23 @@
 -- Objects of a class: class infos and their names say of instance fields what the class files say.
 use Rattle.std.proofs.Common.{◌≡◌, ℕ, zero, suc, ◌+◌, ◌<◌, ◌≤◌, refl, sym, ap, subst, ◌∙◌, arith, Bool, true, false, List, [], ◌∷◌, ◌++◌, length, inl, inr, ⊎_elim, append-nil}
-use Rattle.std.specs.Prelude.{not, ◌&&◌, ◌||◌, ◌==◌, ◌⊎◌, cond, map, reverse, nat_le, nat_lt, position, Option, Some, None, is_some, slice_get, option_map, option_and_then, unwrap_or, if◌then◌else◌}
-use Rattle.std.specs.List.{flat_map, list_any}
+use Rattle.std.specs.Prelude.{not, ◌&&◌, ◌||◌, ◌⊎◌, map, reverse, nat_le, nat_lt, position, Option, Some, None, is_some, slice_get, if◌then◌else◌}
+use Rattle.std.specs.List.{flat_map}
 use Rattle.std.specs.Str.{bytes_eq}
 use Rattle.std.proofs.lemmas.Grind.{flat_map-append, reverse_onto}
 use Rattle.std.proofs.lemmas.List.Folds.{list_any-append}
-use Rattle.std.proofs.lemmas.Option.{slice_get_within}
 use Rattle.cjc_bytes.specs.AccessFlags.{is_static, is_interface}
 use Rattle.cjc_bytes.specs.declared.fault.MemberId.{MemberId}
-use Rattle.cjc_capread.specs.declared.tree.ClassEntry.{ClassEntry}
 use Rattle.cjc_classfile.specs.declared.tree.ClassTree.{ClassTree}
 use Rattle.cjc_classfile.specs.declared.tree.FieldTree.{FieldTree}
-use Rattle.cjc_card.specs.Classes.{Class as CardClass, Info, IsInterface, IsClass, Own, Foreign, class_of, depth, info_count, info_of, info_size, infos, is_reference_token, offset_from, offset_of, superclass as superclass_on_card, superclass_by}
-use Rattle.cjc_card.specs.Loaded.{ClassNames}
+use Rattle.cjc_card.specs.Classes.{Class as CardClass, Info, IsInterface, IsClass, Own, Foreign, class_of, depth, info_of, info_size, infos, offset_from, superclass as superclass_on_card, superclass_by}
 use Rattle.cjc_clinit.specs.Image.{field_id}
 use Rattle.cjc_script.specs.Sorts.{field_sort}
-use Rattle.cjc_tokens.specs.Fields.{instance_cells, instance_token, is_instance, is_reference}
-use Rattle.cjc_vtable.proofs.Filed.{Has, at_front, behind, get-has}
+use Rattle.cjc_tokens.specs.Fields.{instance_cells, instance_token, is_instance}
+use Rattle.cjc_vtable.proofs.Filed.{Has, at_front, behind}
 use Rattle.cjc_world.specs.Classes.{Class, class_named, declared, field_of_class}
 use Rattle.cjc_world.specs.Kin.{IsKin, ends, unknown_here, known_here, Kin, Lists, foremost, after, kin, line, upwards}
 use Rattle.cjc_world.specs.Order.{class_order}
-use Rattle.cjc_world.specs.Rules.{is_class_of, is_interface_of, is_of_class_file}
+use Rattle.cjc_world.specs.Rules.{is_interface_of, is_of_class_file}
 use Rattle.cjc_world.proofs.Cycles.{class_named-name}
 use Rattle.cjc_world.proofs.Settled.{Settles, nothing, something, clear_settles, kin-IsKin, lists-front}
 use Rattle.cjc_world.proofs.Unbroken.{unbroken_is_acyclic}
@@ -28,15 +25,15 @@ use Rattle.cjc_world.proofs.Upwards.{line_goes_up}
 use Rattle.cjc_by_name.specs.OnePackage.{declared_fields, instance_fields, member_of, object_fields}
 use Rattle.cjc_ncode.specs.PoolOrder.{same_member}
 use Rattle.cjc_by_token.specs.Cells.{are_apart, is_one_of}
-use Rattle.cjc_by_token.specs.Objects.{Declares, no_class, imported, declares, HasFields, HasObjects, StandsBefore, own, imported as stands_imported, field_name, is_reference as is_reference_sort}
+use Rattle.cjc_by_token.specs.Objects.{Declares, imported, declares, HasFields, HasObjects, StandsBefore, own, imported as stands_imported, is_reference as is_reference_sort}
 use Rattle.cjc_by_token.proofs.Members.{member_same, member_tells}
 use Rattle.cjc_components.specs.Package.{Package, tokens, world}
-use Rattle.cjc_components.specs.Class.{class_entry, fields_in, fields_of, interface_entry, first_reference_token, reference_count, superclass}
+use Rattle.cjc_components.specs.Class.{class_entry, fields_in, fields_of, interface_entry, first_reference_token, reference_count}
 use Rattle.cjc_components.specs.Names.{class_at, class_ref, field_token}
 use Rattle.cjc_paired.specs.Naming.{class_names, fields_from}
-use Rattle.cjc_tables_by_token.specs.Infos.{HasEntry, HasInfo}
+use Rattle.cjc_tables_by_token.specs.Infos.{HasInfo}
 use Rattle.cjc_tables_by_token.specs.Known.{is_field_of, is_holder, may_hold, may_name, same_members}
-use Rattle.cjc_tables_by_token.specs.Loading.{info_for, loaded, naming, part}
+use Rattle.cjc_tables_by_token.specs.Loading.{loaded, naming, part}
 use Rattle.cjc_tables_by_token.specs.Sound.{AreTyped, IsSound}
 use Rattle.cjc_tables_by_token.proofs.Above.{class_refs_mean, class_there, entry_of_name, info_of_name, once, rules_of}
 use Rattle.cjc_tables_by_token.proofs.Clean.{has_named}
@@ -275,9 +272,9 @@ module _ (list : List ℕ) (p : Package) (sound : IsSound list p.files) (typed :
         depth = omega (arith, height_low, inside);
         apart = ap are_apart fields ∙ apart_both (object_fields w s) (instance_fields t.name (map field_of_class t.fields)) h.apart (fields_apart list p sound n t is_class) (λ g a b. clash i.number ordered_c g a b);
         among = λ g a. ⊎_elim
-          (λ b. (let r = above_place g b i.number ordered_c in (r.0, r.1, r.2, r.3, λ k q. (let same = one_number list p.files sound i.number k c ordered_c q in let lt = r.4 in omega (arith, same, lt)))))
-          (λ b. (i.number, declared n t, i.ordered, (let r = own_among t.name t.fields g b in ap (λ (m : MemberId). m.class) (sym r.4)), λ k q. (let same = one_number list p.files sound i.number k c ordered_c q in omega (arith, same))))
-          (one_of_either g (object_fields w s) (instance_fields t.name (map field_of_class t.fields)) (sym (ap (is_one_of g) fields) ∙ a));
+            (λ b. (let r = above_place g b i.number ordered_c in (r.0, r.1, r.2, r.3, λ k q. (let same = one_number list p.files sound i.number k c ordered_c q in let lt = r.4 in omega (arith, same, lt)))))
+            (λ b. (i.number, declared n t, i.ordered, (let r = own_among t.name t.fields g b in ap (λ (m : MemberId). m.class) (sym r.4)), λ k q. (let same = one_number list p.files sound i.number k c ordered_c q in omega (arith, same))))
+            (one_of_either g (object_fields w s) (instance_fields t.name (map field_of_class t.fields)) (sym (ap (is_one_of g) fields) ∙ a));
       }
     where
       listed : Lists s c.supers

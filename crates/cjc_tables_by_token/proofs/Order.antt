@@ -1,9 +1,9 @@
 -- The order of Class and Descriptor has each class and interface of the package once, where no rule of classes and names is broken.
 use Rattle.std.proofs.Common.{◌≡◌, ℕ, zero, suc, ◌+◌, ◌<◌, ◌≤◌, refl, sym, ap, subst, ◌∙◌, arith, Bool, true, false, List, [], ◌∷◌, ◌++◌, length, inl, inr, ⊎_elim}
-use Rattle.std.specs.Prelude.{not, ◌&&◌, ◌||◌, ◌==◌, ◌⊎◌, cond, Option, Some, None, slice_get, position, option_map, if◌then◌else◌}
+use Rattle.std.specs.Prelude.{not, ◌&&◌, ◌||◌, ◌==◌, ◌⊎◌, Option, Some, None, slice_get, position, option_map, if◌then◌else◌}
 use Rattle.std.specs.List.{list_any}
 use Rattle.std.specs.Str.{bytes_eq}
-use Rattle.std.proofs.lemmas.Bool.{eqb-true, eqb-false}
+use Rattle.std.proofs.lemmas.Bool.{eqb-true}
 use Rattle.std.proofs.lemmas.Bool.Decides.{nat_tests}
 use Rattle.cjc_bytes.specs.AccessFlags.{is_interface}
 use Rattle.cjc_class_order.proofs.Standing.{is_in-more}
@@ -12,7 +12,7 @@ use Rattle.cjc_vtable.proofs.Filed.{Has, at_front, behind, has-get}
 use Rattle.cjc_vtable.proofs.SlotNames.{get-behind}
 use Rattle.cjc_world.specs.Files.{Files}
 use Rattle.cjc_world.specs.Classes.{Class, all_classes, class_named}
-use Rattle.cjc_world.specs.Kin.{Lists, foremost, after, IsAcyclic}
+use Rattle.cjc_world.specs.Kin.{Lists, foremost, after}
 use Rattle.cjc_world.specs.Order.{and_then, class_order, in_order, is_in, is_of_kind, lined_up, may_stand, names_waiting, next, waits}
 use Rattle.cjc_world.proofs.Settled.{Settles, nothing, something, bytes-refl, bytes-true, clear_settles, lists-behind, lists-front}
 use Rattle.cjc_world.proofs.Unbroken.{unbroken_is_acyclic}

@@ -1,37 +1,31 @@
 -- What static fields hold after initialisers, and which arrays are made: one for each field that holds one.
-use Rattle.std.proofs.Common.{◌≡◌, ℕ, zero, suc, ◌+◌, ◌<◌, refl, sym, ap, subst, ◌∙◌, arith, Bool, true, false, List, [], ◌∷◌, ◌++◌, length, inl, inr, ⊎_elim}
-use Rattle.std.specs.Prelude.{not, ◌&&◌, ◌||◌, ◌==◌, ◌⊎◌, codes, map, replicate, Option, Some, None, slice_get, slice_set, option_and_then, option_map, if◌then◌else◌, ℤ}
-use Rattle.std.specs.List.{list_any}
+use Rattle.std.proofs.Common.{◌≡◌, ℕ, zero, suc, refl, sym, ap, subst, ◌∙◌, arith, Bool, true, false, List, [], ◌∷◌, ◌++◌, inl, inr, ⊎_elim}
+use Rattle.std.specs.Prelude.{not, ◌&&◌, ◌||◌, ◌==◌, ◌⊎◌, codes, map, Option, Some, None, slice_get, slice_set, if◌then◌else◌, ℤ}
 use Rattle.std.specs.Str.{bytes_eq}
 use Rattle.std.proofs.lemmas.Bool.{eqb-true, eqb-false}
-use Rattle.std.proofs.lemmas.List.{map-append}
 use Rattle.std.proofs.lemmas.List.Folds.{list_any-append}
-use Rattle.std.proofs.lemmas.Option.{slice_get-map}
 use Rattle.cjc_bytes.specs.declared.fault.MemberId.{MemberId}
 use Rattle.cjc_bytes.specs.declared.names.Kind.{Kind}
 use Rattle.cjc_bytes.specs.declared.names.Kind.TheVariants as kinds
 use Rattle.cjc_classfile.specs.declared.tree.ClassTree.{ClassTree}
 use Rattle.cjc_classfile.specs.declared.tree.FieldTree.{FieldTree}
 use Rattle.cjc_code.specs.declared.insn.JOp.{JOp}
-use Rattle.cjc_code.specs.declared.method_code.MethodCode.{MethodCode}
 use Rattle.cjc_world.specs.declared.found.Found.{Found}
 use Rattle.cjc_world.specs.declared.image.ArrayCell.{ArrayCell}
 use Rattle.cjc_world.specs.Classes.{Class, class_named, declared}
-use Rattle.cjc_world.specs.Files.{Files}
 use Rattle.cjc_world.specs.Lookup.{find_field, member_at}
 use Rattle.cjc_world.proofs.Settled.{bytes-true}
 use Rattle.cjc_clinit.specs.declared.stage.Held.{Held}
 use Rattle.cjc_clinit.specs.declared.stage.Held.TheVariants as held
-use Rattle.cjc_clinit.specs.Fields.{Contents, ANumber, ANull, AnArray, array_desc, fits, fits_kind, held_by, is_cell, is_reference, number_kind, takes}
-use Rattle.cjc_clinit.specs.Image.{AreInitialised, array_in, arrays_of, field_id, initialised, own_field, class_where, if_initialiser}
-use Rattle.cjc_clinit.specs.Image.AreInitialised.{none as no_code, other as other_code, one as one_code}
-use Rattle.cjc_clinit.specs.Initialiser.{Initialises, Makes, of_number, of_null, of_array, Put, element_kind, is_initialiser, nothing_in, open_place, ops_of}
+use Rattle.cjc_clinit.specs.Fields.{Contents, ANumber, ANull, AnArray, array_desc, fits_kind, held_by, is_cell, is_reference, number_kind, takes}
+use Rattle.cjc_clinit.specs.Image.{array_in, arrays_of, field_id, own_field}
+use Rattle.cjc_clinit.specs.Initialiser.{Initialises, Makes, of_number, of_null, of_array, Put, element_kind, open_place}
 use Rattle.cjc_clinit.specs.Initialiser.Initialises.{ends, puts}
 use Rattle.cjc_ncode.specs.PoolOrder.{same_member}
 use Rattle.cjc_by_token.specs.Cells.{are_apart, is_one_of}
 use Rattle.cjc_by_token.proofs.Members.{member_same, member_tells}
 use Rattle.cjc_components.specs.Package.{Package, world}
-use Rattle.cjc_tables_by_token.specs.Sound.{IsSound, StandOnce}
+use Rattle.cjc_tables_by_token.specs.Sound.{IsSound}
 use Rattle.cjc_tables_by_token.proofs.Fields.{field_found, named}
 use Rattle.cjc_tables_by_token.proofs.Found.{IsOpen, open_field}
 
@@ -178,10 +172,10 @@ module _ (t : ClassTree) (fields_once : (j k : ℕ) (f g : FieldTree) → slice_
     put_right : ((j : ℕ) (g : FieldTree) (x : Held) → slice_get t.fields j ≡ Some g → slice_get before j ≡ Some x → Right g.desc x) → (j : ℕ) (g : FieldTree) (x : Held) → slice_get t.fields j ≡ Some g → slice_get after j ≡ Some x → Right g.desc x
     put_right all j g x e f = rest.right (λ i v y a b. ⊎_elim
         (λ same. (let fields : Some open_one.field ≡ Some v = sym open_one.there ∙ ap (slice_get t.fields) same ∙ a in
-            let is : open_one.field ≡ v = cc in
-            let helds : Some h ≡ Some y = sym put_here ∙ ap (slice_get (slice_set before k h)) same ∙ b in
-            let what : h ≡ y = cc in
-            subst (Right v.desc) what (subst (λ (q : FieldTree). Right q.desc h) is fits_in)))
+        let is : open_one.field ≡ v = cc in
+        let helds : Some h ≡ Some y = sym put_here ∙ ap (slice_get (slice_set before k h)) same ∙ b in
+        let what : h ≡ y = cc in
+        subst (Right v.desc) what (subst (λ (q : FieldTree). Right q.desc h) is fits_in)))
         (λ differs. all i v y a (sym (set_other before k i h differs) ∙ b)) (place_or k i)) j g x e f
 
     -- a field whose array is made later held nothing
@@ -197,9 +191,9 @@ module _ (t : ClassTree) (fields_once : (j k : ℕ) (f g : FieldTree) → slice_
       of = put_of;
       kept = put_kept;
       new = λ j g e f. ⊎_elim
-        (λ a. ⊎_elim (λ same. (let both : Some h ≡ Some held.Array = sym put_here ∙ ap (slice_get (slice_set before k h)) same ∙ a in let is : h ≡ held.Array = cc in absurd (never is)))
-        (λ differs. inl (sym (set_other before k j h differs) ∙ a)) (place_or k j))
-        (λ b. inr b) (rest.new j g e f);
+          (λ a. ⊎_elim (λ same. (let both : Some h ≡ Some held.Array = sym put_here ∙ ap (slice_get (slice_set before k h)) same ∙ a in let is : h ≡ held.Array = cc in absurd (never is)))
+          (λ differs. inl (sym (set_other before k j h differs) ∙ a)) (place_or k j))
+          (λ b. inr b) (rest.new j g e f);
       right = put_right;
     }
 
@@ -211,15 +205,15 @@ module _ (t : ClassTree) (fields_once : (j k : ℕ) (f g : FieldTree) → slice_
           let is : h ≡ held.Nothing = cc in
           some is)) rest.apart;
       of = λ m e. ⊎_elim
-        (λ same. (k, open_one.field, open_one.there, open_one.has_cell, sym open_one.named ∙ same, open_one.unput, rest.kept k h put_here some ∙ ap (λ q. Some q) is_array))
-        (λ f. put_of m f) (one_or m (own_field t id) made e);
+          (λ same. (k, open_one.field, open_one.there, open_one.has_cell, sym open_one.named ∙ same, open_one.unput, rest.kept k h put_here some ∙ ap (λ q. Some q) is_array))
+          (λ f. put_of m f) (one_or m (own_field t id) made e);
       kept = put_kept;
       new = λ j g e f. ⊎_elim
-        (λ a. ⊎_elim (λ same. (let fields : Some open_one.field ≡ Some g = sym open_one.there ∙ ap (slice_get t.fields) same ∙ e in
-            let is : open_one.field ≡ g = cc in
-            inr (subst (λ m. is_one_of m (own_field t id ∷ made) ≡ true) (open_one.named ∙ ap (λ (v : FieldTree). field_id t.name v) is) (one_here (own_field t id) made))))
-        (λ differs. inl (sym (set_other before k j h differs) ∙ a)) (place_or k j))
-        (λ b. inr (one_later (field_id t.name g) (own_field t id) made b)) (rest.new j g e f);
+          (λ a. ⊎_elim (λ same. (let fields : Some open_one.field ≡ Some g = sym open_one.there ∙ ap (slice_get t.fields) same ∙ e in
+          let is : open_one.field ≡ g = cc in
+          inr (subst (λ m. is_one_of m (own_field t id ∷ made) ≡ true) (open_one.named ∙ ap (λ (v : FieldTree). field_id t.name v) is) (one_here (own_field t id) made))))
+          (λ differs. inl (sym (set_other before k j h differs) ∙ a)) (place_or k j))
+          (λ b. inr (one_later (field_id t.name g) (own_field t id) made b)) (rest.new j g e f);
       right = put_right;
     }
 

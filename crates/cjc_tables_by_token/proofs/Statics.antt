@@ -1,12 +1,11 @@
 -- The static fields of a package have their cells in the static image.
-use Rattle.std.proofs.Common.{◌≡◌, ℕ, zero, suc, ◌+◌, refl, sym, ap, subst, ◌∙◌, arith, Bool, true, false, List, [], ◌∷◌, ◌++◌, length, inl, inr, ⊎_elim, append-nil, append_assoc}
-use Rattle.std.specs.Prelude.{not, ◌&&◌, ◌||◌, ◌⊎◌, filter, map, Option, Some, None, is_some, slice_get, option_and_then, if◌then◌else◌, ℤ, pos}
+use Rattle.std.proofs.Common.{◌≡◌, ℕ, ◌+◌, refl, sym, ap, subst, ◌∙◌, arith, Bool, true, false, List, [], ◌∷◌, ◌++◌, inl, inr, ⊎_elim, append-nil, append_assoc}
+use Rattle.std.specs.Prelude.{not, ◌||◌, ◌⊎◌, filter, map, Option, Some, None, is_some, slice_get, option_and_then, if◌then◌else◌, ℤ, pos}
 use Rattle.std.specs.List.{flat_map}
 use Rattle.std.specs.Ordering.{int_eq}
 use Rattle.std.proofs.lemmas.List.{map-append}
 use Rattle.std.proofs.lemmas.List.Concat.{flat_map-cons}
 use Rattle.cjc_bytes.specs.declared.fault.MemberId.{MemberId}
-use Rattle.cjc_bytecode.specs.Effects.{Letter}
 use Rattle.cjc_classfile.specs.declared.tree.ClassTree.{ClassTree}
 use Rattle.cjc_classfile.specs.declared.tree.FieldTree.{FieldTree}
 use Rattle.cjc_code.specs.declared.method_code.MethodCode.{MethodCode}
@@ -14,13 +13,12 @@ use Rattle.cjc_card.specs.ByToken.{letter_of, shown_cell, shown_cells}
 use Rattle.cjc_card.specs.Loaded.{CellName}
 use Rattle.cjc_script.specs.Sorts.{Sort, Boolean, Byte, Short, Int, Reference, NoValue, field_sort}
 use Rattle.cjc_world.specs.declared.image.ArrayCell.{ArrayCell}
-use Rattle.cjc_world.specs.declared.image.StaticImage.{StaticImage}
 use Rattle.cjc_clinit.specs.declared.stage.Held.{Held}
 use Rattle.cjc_clinit.specs.declared.stage.Held.TheVariants as held
 use Rattle.cjc_clinit.specs.declared.stage.Start.{Start}
 use Rattle.cjc_clinit.specs.declared.stage.Start.TheVariants as starts
 use Rattle.cjc_clinit.specs.Fields.{is_cell, is_reference, number_kind}
-use Rattle.cjc_clinit.specs.Image.{IsImage, field_id, fields_in, held_in, image_of, start_by, start_of, value_or_zero}
+use Rattle.cjc_clinit.specs.Image.{IsImage, field_id, fields_in, held_in, start_by, start_of, value_or_zero}
 use Rattle.cjc_clinit.specs.Initialiser.{nothing_in}
 use Rattle.cjc_ncode.specs.ByLabel.{shown_slot}
 use Rattle.cjc_ncode.specs.PoolOrder.{same_member}
@@ -35,8 +33,8 @@ use Rattle.cjc_components.specs.Statics.{cell_order, cell_size, offset_from, siz
 use Rattle.cjc_components.specs.Statics as components
 use Rattle.cjc_paired.specs.Naming.{cell_name, cells_in}
 use Rattle.cjc_tables_by_token.specs.Known.{order_of, statics_in, statics_of}
-use Rattle.cjc_tables_by_token.specs.Loading.{loaded, naming, part}
-use Rattle.cjc_tables_by_token.specs.Sound.{AreTyped, IsSound, IsTyped, StandOnce}
+use Rattle.cjc_tables_by_token.specs.Loading.{loaded, part}
+use Rattle.cjc_tables_by_token.specs.Sound.{AreTyped, IsSound, StandOnce}
 use Rattle.cjc_tables_by_token.proofs.Groups.{GroupsAre, chosen_apart, chosen_has, chosen_is, chosen_of, groups_are, is_null_start, is_other_start, is_zero_start, null_at, other_at, start_at, statics_are, zero_at}
 use Rattle.cjc_tables_by_token.proofs.Initials.{IsAt, Made, all_right, array_held, held_at, made_in_all, one_place}
 use Rattle.cjc_tables_by_token.proofs.Puts.{Right, apart_append, one_back, one_either, one_front}
@@ -225,7 +223,12 @@ module _ (list : List ℕ) (p : Package) (sound : IsSound list p.files) (typed :
       let h = held_in (slice_get (fields_in (slice_get puts r.0)) r.2) in
       let q = null_means r.3 h (ap (λ n. null_at puts n r.2 r.3) (sym z) ∙ r.6) in
       record {
-        number = r.0; class = r.1; place = r.2; field = r.3; at = record { class = r.4; field = r.5; named = r.7 }; has_cell = q.0;
+        number = r.0;
+        class = r.1;
+        place = r.2;
+        field = r.3;
+        at = record { class = r.4; field = r.5; named = r.7 };
+        has_cell = q.0;
         kind = ⊎_elim (λ s. s.1) (λ s. all_right list p sound codes image.arrays puts image.initialises once r.0 r.1 r.2 r.3 held.Null r.4 r.5 (is_held puts r.0 r.2 held.Null (λ c. cc) s)) q.1;
       }
 
@@ -237,7 +240,12 @@ module _ (list : List ℕ) (p : Package) (sound : IsSound list p.files) (typed :
       let h = held_in (slice_get (fields_in (slice_get puts r.0)) r.2) in
       let q = number_means r.3 h (is r.0 r.2 r.3 (ap (λ n. test n r.2 r.3) (sym z) ∙ r.6)) in
       record {
-        number = r.0; class = r.1; place = r.2; field = r.3; at = record { class = r.4; field = r.5; named = r.7 }; has_cell = q.0;
+        number = r.0;
+        class = r.1;
+        place = r.2;
+        field = r.3;
+        at = record { class = r.4; field = r.5; named = r.7 };
+        has_cell = q.0;
         kind = ⊎_elim (λ s. s.1) (λ s. all_right list p sound codes image.arrays puts image.initialises once r.0 r.1 r.2 r.3 (held.Number s.0) r.4 r.5 (is_held puts r.0 r.2 (held.Number s.0) (λ c. cc) s.1)) q.1;
       }
 

@@ -1,16 +1,16 @@
 -- The tables of a package agree with the look-ups by name: classes, objects, static fields and names.
-use Rattle.std.proofs.Common.{◌≡◌, ℕ, refl, sym, ap, subst, ◌∙◌, Bool, true, false, List, [], ◌∷◌}
+use Rattle.std.proofs.Common.{◌≡◌, ℕ, refl, sym, ap, ◌∙◌, Bool, true, false, List, [], ◌∷◌}
 use Rattle.std.specs.Prelude.{not, ◌&&◌, ◌||◌, map, Option, Some, None, is_some, option_and_then, option_map, if◌then◌else◌, codes}
 use Rattle.cjc_bytes.specs.AccessFlags.{is_abstract, is_interface}
 use Rattle.cjc_bytes.specs.declared.fault.MemberId.{MemberId}
 use Rattle.cjc_bytecode.specs.Calculations.{Fault, Arithmetic, NullPointer, IndexOutside, NegativeSize, ClassCast, ArrayStore}
 use Rattle.cjc_bytecode.specs.Effects.{Slot, Object}
-use Rattle.cjc_bytecode.specs.Renaming.{KnownHeapObject, KnownShape, keys, object_known, option_as, shape_as}
+use Rattle.cjc_bytecode.specs.Renaming.{KnownHeapObject, KnownShape, keys, object_known, option_as}
 use Rattle.cjc_card.specs.ByToken as ByToken
 use Rattle.cjc_card.specs.Classes.{Class as CardClass, Info, IsInterface, IsClass, Own, Foreign, class_of, foreign, info_of, is_interface_file, is_interface_info, is_of}
 use Rattle.cjc_card.specs.Classes as card
 use Rattle.cjc_code.specs.declared.method_code.MethodCode.{MethodCode}
-use Rattle.cjc_script.specs.Sorts.{Shape, OfClass, OfNumbers, OfReferences, shape_name}
+use Rattle.cjc_script.specs.Sorts.{Shape, OfClass, OfNumbers, OfReferences}
 use Rattle.cjc_world.specs.Classes.{Class, class_named}
 use Rattle.cjc_world.specs.Subtype.{is_subtype}
 use Rattle.cjc_world.proofs.Cycles.{class_named-name}
@@ -18,13 +18,11 @@ use Rattle.cjc_by_name.specs.Linked.{Method}
 use Rattle.cjc_by_name.specs.OnePackage.{is_made, is_plain_import, made_of, object_fields}
 use Rattle.cjc_clinit.specs.Image.{IsImage}
 use Rattle.cjc_ncode.specs.ByLabel.{Callee, Named, shown_slot}
-use Rattle.cjc_ncode.specs.PoolOrder.{same_member}
 use Rattle.cjc_ncode.specs.declared.narrow.NMethod.{NMethod}
 use Rattle.cjc_narrow.specs.Package.{name_there, named, named_by, plain_import, throwable_import}
 use Rattle.cjc_narrow.specs.Package as narrow
-use Rattle.cjc_lower.specs.Agreement.{Cells, known_by}
+use Rattle.cjc_lower.specs.Agreement.{known_by}
 use Rattle.cjc_lower.specs.Naming.{IsClass as MeansClass}
-use Rattle.cjc_by_token.specs.Cells.{cell_of, fields as fields_in_order, is_one_of}
 use Rattle.cjc_by_token.specs.Classes.{SaysClasses, memories, tests}
 use Rattle.cjc_by_token.specs.Names.{IsImport, NamesAgree}
 use Rattle.cjc_by_token.specs.Objects.{slots_of}
@@ -37,11 +35,11 @@ use Rattle.cjc_by_token.proofs.Subtypes as kinds
 use Rattle.cjc_components.specs.Package.{Package, world}
 use Rattle.cjc_components.specs.Class.{class_entry, interface_entry}
 use Rattle.cjc_components.specs.Names.{class_at, class_ref, ref_to}
-use Rattle.cjc_tables_by_token.specs.Known.{is_holder, known_names, may_hold, may_name, order_of, same_members, statics_of}
+use Rattle.cjc_tables_by_token.specs.Known.{is_holder, known_names, may_hold, may_name, same_members}
 use Rattle.cjc_tables_by_token.specs.Loading.{loaded, naming, part}
 use Rattle.cjc_tables_by_token.specs.Sound.{AreTyped, IsSound, StandOnce}
 use Rattle.cjc_tables_by_token.specs.Tables.{ClassTablesAgree}
-use Rattle.cjc_tables_by_token.proofs.Above.{class_there, entry_of_name, info_of_name, says_kinds}
+use Rattle.cjc_tables_by_token.proofs.Above.{entry_of_name, info_of_name, says_kinds}
 use Rattle.cjc_tables_by_token.proofs.Infos.{none_at_zero}
 use Rattle.cjc_tables_by_token.proofs.Named.{has_none}
 use Rattle.cjc_tables_by_token.proofs.Objects.{has_objects, import_holds}

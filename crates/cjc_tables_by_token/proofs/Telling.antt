@@ -1,6 +1,6 @@
 -- The names of infos and of export files are those of the loaded package, and export files have java/lang/Throwable and the exceptions of the machine's own.
 use Rattle.std.proofs.Common.{◌≡◌, ℕ, refl, sym, ap, subst, ◌∙◌, Bool, true, false, List, [], ◌∷◌}
-use Rattle.std.specs.Prelude.{◌&&◌, ◌||◌, Option, Some, None, if◌then◌else◌, codes}
+use Rattle.std.specs.Prelude.{◌&&◌, ◌||◌, Some, if◌then◌else◌, codes}
 use Rattle.std.specs.List.{list_any}
 use Rattle.std.specs.Str.{bytes_eq}
 use Rattle.cjc_bytes.specs.AccessFlags.{is_interface}
@@ -96,7 +96,7 @@ module _ (list : List ℕ) (p : Package) (sound : IsSound list p.files) where
       record {
         throwable = is_import t throwable h (back (has_class t object) (has_class t throwable) parts.0);
         faults = by (exception t (codes "java/lang/ArithmeticException") h others.0) (exception t (codes "java/lang/NullPointerException") h others.2) (exception t (codes "java/lang/ArrayIndexOutOfBoundsException") h arrays.0)
-        (exception t (codes "java/lang/NegativeArraySizeException") h arrays.2) (exception t (codes "java/lang/ClassCastException") h others.1) (exception t (codes "java/lang/ArrayStoreException") h arrays.1);
+            (exception t (codes "java/lang/NegativeArraySizeException") h arrays.2) (exception t (codes "java/lang/ClassCastException") h others.1) (exception t (codes "java/lang/ArrayStoreException") h arrays.1);
       }
     where
       split : (a b c : Bool) → (a && b && c) ≡ true → (a ≡ true) × (b ≡ true) × (c ≡ true)

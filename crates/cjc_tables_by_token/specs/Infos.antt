@@ -1,5 +1,5 @@
 -- Where the class of a name is on the card: an info of the package, or a class of an export file.
-use Rattle.std.specs.Prelude.{◌≡◌, ℕ, ◌<◌, List, Some, None, length, slice_get}
+use Rattle.std.specs.Prelude.{◌≡◌, ℕ, List, Some, None, slice_get}
 use Rattle.cjc_export.specs.declared.tree.ExportClass.{ExportClass}
 use Rattle.cjc_export.specs.declared.tree.ExportTree.{ExportTree}
 use Rattle.cjc_card.specs.Classes.{Own, Foreign, foreign, foreign_named, info_of, names_of, number_named, number_of, offset_of}

@@ -5,7 +5,6 @@ use Rattle.cjc_bytes.specs.declared.fault.MemberId.{MemberId}
 use Rattle.cjc_classfile.specs.declared.tree.ClassTree.{ClassTree}
 use Rattle.cjc_world.specs.declared.image.StaticImage.{StaticImage}
 use Rattle.cjc_world.specs.Classes.{Class, class_named}
-use Rattle.cjc_world.specs.Files.{Files}
 use Rattle.cjc_by_name.specs.OnePackage.{declared_fields, object_fields}
 use Rattle.cjc_clinit.specs.Fields.{is_cell}
 use Rattle.cjc_clinit.specs.Image.{field_id}

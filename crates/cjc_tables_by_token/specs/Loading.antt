@@ -1,5 +1,5 @@
 -- The components of a package as they are loaded by themselves, with names from its class files and the export files that it imports, and what they name then.
-use Rattle.std.specs.Prelude.{ℕ, List, if◌then◌else◌}
+use Rattle.std.specs.Prelude.{if◌then◌else◌}
 use Rattle.cjc_bytes.specs.AccessFlags.{is_interface}
 use Rattle.cjc_card.specs.Classes.{Info, IsInterface, IsClass}
 use Rattle.cjc_card.specs.Loaded.{Loaded, Part}
