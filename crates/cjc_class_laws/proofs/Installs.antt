@@ -1,6 +1,6 @@
 -- The install method of an applet's class is a static method that Descriptor describes.
 use Rattle.std.proofs.Common.{◌≡◌, ℕ, zero, suc, ◌+◌, ◌-◌, ◌*◌, ◌%◌, ◌<◌, ◌==◌, refl, sym, ap, subst, ◌∙◌, arith, Bool, true, false, List, [], ◌∷◌, ◌++◌, length}
-use Rattle.std.specs.Prelude.{not, ◌&&◌, ◌||◌, cond, Some, map, filter, bit_and, nat_lt, slice_get, unwrap_or, if◌then◌else◌, codes}
+use Rattle.std.specs.Prelude.{not, ◌&&◌, ◌||◌, cond, Some, map, filter, bit_and, nat_lt, slice_get, sum_by, unwrap_or, if◌then◌else◌, codes}
 use Rattle.std.specs.List.{list_any}
 use Rattle.std.specs.Str.{bytes_eq}
 use Rattle.std.proofs.lemmas.Bool.Decides.{nat_tests}
@@ -9,7 +9,7 @@ use Rattle.cjc_bytes.specs.AccessFlags.{has, is_static, acc_public, acc_private,
 use Rattle.cjc_capread.specs.declared.tree.ClassDescriptor.{ClassDescriptor}
 use Rattle.cjc_capread.specs.declared.tree.MethodDescriptor.{MethodDescriptor}
 use Rattle.cjc_sentences.specs.Classes.{is_own_class}
-use Rattle.cjc_sentences.specs.Members.{class_methods, is_static_start}
+use Rattle.cjc_sentences.specs.Members.{class_methods, is_method_start, is_static_start}
 use Rattle.cjc_world.specs.declared.found.Found.{Found}
 use Rattle.cjc_world.specs.Classes.{Member, Class}
 use Rattle.cjc_world.specs.Lookup.{member_at}
@@ -17,7 +17,7 @@ use Rattle.cjc_world.specs.Order.{class_order, in_order, method_order, methods_i
 use Rattle.cjc_tokens.specs.Members.{is_constructor}
 use Rattle.cjc_vtable.proofs.Filed.{Has, at_front, behind, has-get}
 use Rattle.cjc_components.specs.Package.{Package, world}
-use Rattle.cjc_components.specs.Methods.{method_offset}
+use Rattle.cjc_components.specs.Methods.{first_method, method_offset, method_size}
 use Rattle.cjc_components.specs.Descriptor.{class_descriptor, method_descriptor, method_flags, methods_with_added, method_in, no_member, as_added, flag_where}
 use Rattle.cjc_world.specs.Added.{added}
 use Rattle.cjc_component_laws.specs.Methods.{HasMethods}
@@ -25,7 +25,7 @@ use Rattle.cjc_component_laws.specs.OwnNames.{HaveOwnNames}
 use Rattle.cjc_component_laws.specs.Whole.{whole}
 use Rattle.cjc_component_laws.proofs.Tests.{same_number}
 use Rattle.cjc_class_laws.proofs.Lists.{get-front, has-front, has-back, has-map, has-flat}
-use Rattle.cjc_class_laws.proofs.Offsets.{offset_some}
+use Rattle.cjc_class_laws.proofs.Offsets.{all_left, offset_below, offset_some}
 use Rattle.cjc_class_laws.proofs.Refs.{info, class_begins}
 
 -- ---- lists
@@ -95,7 +95,7 @@ described_static m e =
 
 -- ---- where the method stands
 
-written_has : (c : Class) (i : ℕ) (ms : List Member) (k : ℕ) (m : Member) → slice_get ms k ≡ Some m → bytes_eq m.name (codes "<clinit>") ≡ false → Has (member_at c (i + k)) (written c i ms)
+pub written_has : (c : Class) (i : ℕ) (ms : List Member) (k : ℕ) (m : Member) → slice_get ms k ≡ Some m → bytes_eq m.name (codes "<clinit>") ≡ false → Has (member_at c (i + k)) (written c i ms)
 written_has c i [] k m e plain = absurd (cc)
 written_has c i (n ∷ ms) zero m e plain =
     let is : n ≡ m = cc in
@@ -117,6 +117,27 @@ turn_has w c (d ∷ cs) f at_front g = has-front f (methods_of_class w d) (metho
 turn_has w c (d ∷ cs) f (behind h) g = has-back f (methods_of_class w d) (methods_in_turn w cs) (turn_has w c cs f h g)
 
 module _ (p : Package) (own : HaveOwnNames (class_order (world p))) (methods : HasMethods p) where
+  -- a method of a class of the package
+  pub method_start : (c : Class) (f : Found) → Has c (in_order (world p) false) → Has f (methods_of_class (world p) c) → is_method_start (whole p) (method_offset p f) ≡ true
+  unfolding class_order method_order
+  method_start c f h there =
+      let w = world p in
+      let d = class_descriptor p c in
+      let md = method_descriptor p c f in
+      let some = offset_some p methods f (turn_has w c (in_order w false) f h there) in
+      let g = has-get c (in_order w false) h in
+      let kept = has_kept (λ (x : ClassDescriptor). is_own_class (info p) x.this_class) d (map (class_descriptor p) (in_order w true ++ in_order w false))
+      (has-map (class_descriptor p) c (in_order w true ++ in_order w false) (has-back c (in_order w true) (in_order w false) h)) (class_begins p own g.0 c g.1) in
+      let all : Has md (class_methods (whole p)) = has-flat (λ (x : ClassDescriptor). x.methods) d md _ kept (has-map (method_descriptor p c) f (methods_of_class w c) there) in
+      let any = any_has (λ (x : MethodDescriptor). x.offset == method_offset p f) md (class_methods (whole p)) all (same_number (method_offset p f)) in
+      let nonzero : (method_offset p f == 0) ≡ false = grind (arith, nat_tests, some) in
+      ap (λ b. not b && list_any (λ (x : MethodDescriptor). x.offset == method_offset p f) (class_methods (whole p))) nonzero ∙ any
+
+  -- its offset is below the end of Method
+  pub start_below : (c : Class) (f : Found) → Has c (in_order (world p) false) → Has f (methods_of_class (world p) c) → method_offset p f < first_method p.methods + sum_by method_size p.methods
+  unfolding method_order
+  start_below c f h there = offset_below p (first_method p.methods) p.methods (methods_in_turn (world p) (in_order (world p) false)) f (all_left p methods) (turn_has (world p) c (in_order (world p) false) f h there)
+
   -- a static method of a class file, at its place
   pub static_start : (c : Class) (k : ℕ) (m : Member) → Has c (in_order (world p) false) → slice_get c.methods k ≡ Some m → bytes_eq m.name (codes "<clinit>") ≡ false → is_static m.flags ≡ true
       → is_static_start (whole p) (method_offset p (member_at c (length c.fields + k))) ≡ true

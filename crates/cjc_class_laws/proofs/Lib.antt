@@ -8,3 +8,5 @@ mod There
 mod Earlier
 mod Supers
 mod Installs
+mod Tabled
+mod Leaving

@@ -1,6 +1,7 @@
 -- Methods of the package stand one behind the other, each with bytes of its own.
 use Rattle.std.proofs.Common.{◌≡◌, ℕ, ◌+◌, ◌<◌, ◌≤◌, ◌==◌, Bool, true, false, List, [], ◌∷◌, ◌++◌, length, refl, ap, ◌∙◌, arith}
-use Rattle.std.specs.Prelude.{◌&&◌, not, Option, Some, map, nat_lt, if◌then◌else◌}
+use Rattle.std.specs.Prelude.{◌&&◌, not, Option, Some, map, nat_lt, if◌then◌else◌, sum_by}
+use Rattle.std.proofs.lemmas.List.Sums.{sum_by-cons}
 use Rattle.std.specs.List.{AllByRecursion}
 use Rattle.std.proofs.lemmas.Bool.Decides.{nat_tests}
 use Rattle.cjc_sentences.specs.Spots.{in_info}
@@ -104,6 +105,20 @@ module _ (p : Package) where
   offset_there at ms [] f l h = elim h [ ]
   offset_there at ms (f ∷ fs) g l at_front = let s = step at ms f fs l in let e = s.2 in omega (arith, e)
   offset_there at ms (f ∷ fs) g l (behind h) = let s = step at ms f fs l in let r = offset_there (at + method_size s.0) s.1 fs g s.4 h in omega (arith, r)
+
+  pub offset_below : (at : ℕ) (ms : List LaidMethod) (fs : List Found) (f : Found) → Left p at ms fs → Has f fs → method_offset p f < at + sum_by method_size ms
+  offset_below at ms [] f l h = elim h [ ]
+  offset_below at ms (f ∷ fs) g l at_front =
+      let s = step at ms f fs l in
+      let e = s.2 in
+      let sum = ap (sum_by method_size) s.3 ∙ sum_by-cons method_size s.0 s.1 in
+      let some = some_bytes s.0 in
+      omega (arith, e, sum, some)
+  offset_below at ms (f ∷ fs) g l (behind h) =
+      let s = step at ms f fs l in
+      let r = offset_below (at + method_size s.0) s.1 fs g s.4 h in
+      let sum = ap (sum_by method_size) s.3 ∙ sum_by-cons method_size s.0 s.1 in
+      omega (arith, r, sum)
 
   -- a method of the order has an offset that is not 0
   pub offset_some : HasMethods p → (f : Found) → Has f (method_order (world p)) → 0 < method_offset p f

@@ -1,5 +1,5 @@
 -- What laws on components rest on, where the converter's rules promise it.
-use Rattle.std.specs.Prelude.{◌≡◌, ◌≤◌, ℕ, List, Bool, true, false, ◌&&◌, length, slice_get, Option, Some, None, is_some}
+use Rattle.std.specs.Prelude.{◌≡◌, ◌≤◌, ℕ, List, Bool, true, false, ◌&&◌, length, slice_get, Option, Some, None, is_some, ◌+◌, sum_by}
 use Rattle.std.specs.List.{list_all}
 use Rattle.cjc_bytes.specs.AccessFlags.{is_interface}
 use Rattle.cjc_bytes.specs.declared.settings.AppletLine.{AppletLine}
@@ -12,6 +12,7 @@ use Rattle.cjc_ncode.specs.declared.narrow.PoolKey.TheVariants as keys
 use Rattle.cjc_capwrite.specs.Files.{ends_too_far}
 use Rattle.cjc_components.specs.Package.{Package, pool, world}
 use Rattle.cjc_components.specs.Class.{class_info}
+use Rattle.cjc_components.specs.Methods.{first_method, method_size}
 use Rattle.cjc_components.specs.Names.{class_ref}
 use Rattle.cjc_components.specs.Types.{all_descs}
 use Rattle.cjc_components.specs.Descriptor.{descriptor}
@@ -80,3 +81,9 @@ abbrev pub HaveInstalls : Package → Type 0
 HaveInstalls p =
     (k : ℕ) (a : AppletLine) → (let list = p.list in slice_get list.applets k ≡ Some a)
     → (is_unfit_applet (world p) a.class ≡ false) × ((c : Class) → class_named (world p) a.class ≡ Some c → is_interface c.flags ≡ false)
+
+-- ---- methods
+
+-- Method has at most 65,535 bytes
+abbrev pub HasShortMethods : Package → Type 0
+HasShortMethods p = first_method p.methods + sum_by method_size p.methods ≤ 65535

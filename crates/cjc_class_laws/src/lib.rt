@@ -1,5 +1,5 @@
 //! That what is written for the classes of a package is consistent, one law a sentence or a part of one: class_refs,
-//! superclasses, install methods and Descriptor. The converter's promise rests on them. Nothing here runs.
+//! superclasses, tables, install methods and Descriptor. The converter's promise rests on them. Nothing here runs.
 #![tactic(auto)]
 
 ghost use Rattle.std.specs.Prelude.{◌≡◌, ◌==◌, ◌+◌, ℕ, List, length, None, []};
@@ -7,6 +7,7 @@ ghost use Rattle.cjc_capread.specs.declared.tree.Descriptor.{Descriptor};
 ghost use Rattle.cjc_sentences.specs.Spots.{along, in_info, unless};
 ghost use Rattle.cjc_sentences.specs.Complete.{described_size};
 ghost use Rattle.cjc_sentences.specs.ClassRefs.{class_ref_spots, pool_count_at, super_spots};
+ghost use Rattle.cjc_sentences.specs.Tables.{table_spots};
 ghost use Rattle.cjc_sentences.specs.Statics.{install_spots};
 ghost use Rattle.cjc_sentences.specs.Described.{all_ascend, descriptor_spots, types_in_class, types_in_pool};
 ghost use Rattle.cjc_components.specs.Package.{Package, world};
@@ -18,7 +19,7 @@ ghost use Rattle.cjc_component_laws.specs.Whole.{exports_of, whole};
 ghost use Rattle.cjc_components.specs.Names.{class_ref, pool_entries};
 ghost use Rattle.cjc_components.specs.Descriptor.{descriptor};
 ghost use Rattle.cjc_tables_by_token.specs.Sound.{AreTyped, IsSound};
-ghost use Rattle.cjc_class_laws.specs.Premises.{HaveInstalls, HasNearTypes, HasShortRefs, KeysAreKnown, TypesAreKnown};
+ghost use Rattle.cjc_class_laws.specs.Premises.{HaveInstalls, HasNearTypes, HasShortMethods, HasShortRefs, KeysAreKnown, TypesAreKnown};
 
 use cjc_component_laws::{descriptor_classes_are_in_order, named_classes_are_there};
 use cjc_world::lookup_laws;
@@ -35,6 +36,12 @@ pub fn class_refs_are_there()
 /// Superclasses are classes, and stand earlier where they are of the package; interfaces are interfaces.
 pub fn superclasses_are_classes()
     ensures { (list : List ℕ) (p : Package) → IsSound list p.files → super_spots (whole p) (exports_of p) ≡ [] }
+{}
+
+/// The entries of tables are starts of methods, or 0xFFFF in a public table where some superclass is imported.
+pub fn table_entries_are_method_starts()
+    ensures { (list : List ℕ) (p : Package) → IsSound list p.files → HasMethods p → HasShortMethods p
+        → table_spots (whole p) ≡ [] }
 {}
 
 /// The offsets of install methods are starts of static methods.
