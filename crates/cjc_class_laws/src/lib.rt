@@ -2,10 +2,10 @@
 //! superclasses, tables, install methods and Descriptor. The converter's promise rests on them. Nothing here runs.
 #![tactic(auto)]
 
-ghost use Rattle.std.specs.Prelude.{◌≡◌, ◌==◌, ◌+◌, ℕ, List, length, None, []};
+ghost use Rattle.std.specs.Prelude.{◌≡◌, ◌==◌, ◌≤◌, ◌+◌, false, ℕ, List, length, None, []};
 ghost use Rattle.cjc_capread.specs.declared.tree.Descriptor.{Descriptor};
 ghost use Rattle.cjc_sentences.specs.Spots.{along, in_info, unless};
-ghost use Rattle.cjc_sentences.specs.Complete.{described_size};
+ghost use Rattle.cjc_sentences.specs.Complete.{class_info_size, described_size};
 ghost use Rattle.cjc_sentences.specs.ClassRefs.{class_ref_spots, pool_count_at, super_spots};
 ghost use Rattle.cjc_sentences.specs.Tables.{table_spots};
 ghost use Rattle.cjc_sentences.specs.Statics.{install_spots};
@@ -16,6 +16,7 @@ ghost use Rattle.cjc_world.specs.Order.{class_order};
 ghost use Rattle.cjc_component_laws.specs.Methods.{HasMethods};
 ghost use Rattle.cjc_component_laws.specs.OwnNames.{HaveOwnNames};
 ghost use Rattle.cjc_component_laws.specs.Whole.{exports_of, whole};
+ghost use Rattle.cjc_components.specs.Limits.{has_far_types, has_large_component};
 ghost use Rattle.cjc_components.specs.Names.{class_ref, pool_entries};
 ghost use Rattle.cjc_components.specs.Descriptor.{descriptor};
 ghost use Rattle.cjc_tables_by_token.specs.Sound.{AreTyped, IsSound};
@@ -85,3 +86,10 @@ pub fn descriptor_describes_what_is_there()
     members_have_types();
     methods_are_described_in_order();
 }
+
+/// Where neither 411 nor 416 is broken, types have offsets up to 32,767, and so have the infos of Class.
+pub fn limits_are_kept()
+    ensures types { (p : Package) → has_far_types p ≡ false → HasNearTypes p }
+    ensures classes { (p : Package) → has_large_component p ≡ false
+        → class_info_size (class_info (class_ref p) p) ≤ 32767 }
+{}
