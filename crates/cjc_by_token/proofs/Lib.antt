@@ -1,9 +1,9 @@
 pub mod Members
 mod Image
-mod Cells
+pub mod Cells
 pub mod Slots
-mod Objects
+pub mod Objects
 mod Above
-mod Classes
-mod Subtypes
-mod Names
+pub mod Classes
+pub mod Subtypes
+pub mod Names

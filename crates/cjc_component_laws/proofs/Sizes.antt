@@ -26,7 +26,7 @@ use Rattle.cjc_capwrite.proofs.Lengths.{header_length, applet_entry_length, appl
 use Rattle.cjc_sentences.specs.Complete.{applet_size, package_size, interface_size, map_size, class_size, array_size, exported_size, described_size, type_size, header_size, applets_size, import_size, pool_size, class_info_size, method_size, statics_size, locations_size, export_size, descriptor_size, size_of}
 
 -- of items one behind the other
-each_size : {X Y : Type 0} (f : X → List Y) (size : X → ℕ) → ((x : X) → length (f x) ≡ size x) → (xs : List X) → length (flat_map f xs) ≡ sum_by size xs
+pub each_size : {X Y : Type 0} (f : X → List Y) (size : X → ℕ) → ((x : X) → length (f x) ≡ size x) → (xs : List X) → length (flat_map f xs) ≡ sum_by size xs
 each_size f size h [] = refl
 each_size f size h (x ∷ xs) =
     let e : length (f x) ≡ size x = h x in
@@ -75,7 +75,7 @@ locations_are x = locations_length x
 pub export_is : (x : Export) → length (export_bytes x) ≡ export_size x
 export_is x = export_length x ∙ ap (λ n. 1 + n) (each_size exported_class_bytes exported_size exported_class_length x.classes)
 
-type_is : (x : TypeDescriptor) → length (type_bytes x) ≡ type_size x
+pub type_is : (x : TypeDescriptor) → length (type_bytes x) ≡ type_size x
 type_is x = type_length x ∙ omega arith
 
 pub descriptor_is : (x : Descriptor) → length (descriptor_bytes x) ≡ descriptor_size x

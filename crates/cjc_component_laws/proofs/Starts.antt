@@ -34,7 +34,7 @@ sums_same size f g h (x ∷ xs) =
     let r : sum_by size (map f xs) ≡ sum_by size (map g xs) = sums_same size f g h xs in
     sum_by-cons size (f x) (map f xs) ∙ ap (λ n. n + sum_by size (map f xs)) e ∙ ap (λ n. size (g x) + n) r ∙ sym (sum_by-cons size (g x) (map g xs))
 
-starts_long : {A : Type 0} (size : A → ℕ) (at : ℕ) (xs : List A) → length (starts size at xs) ≡ length xs
+pub starts_long : {A : Type 0} (size : A → ℕ) (at : ℕ) (xs : List A) → length (starts size at xs) ≡ length xs
 unfolding placed
 starts_long size at [] = refl
 starts_long size at (x ∷ xs) = ap suc (starts_long size (at + size x) xs)

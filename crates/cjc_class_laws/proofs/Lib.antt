@@ -1,0 +1,12 @@
+mod Lists
+mod Types
+mod Nibbles
+mod Refs
+mod Apart
+mod Offsets
+mod There
+mod Earlier
+mod Supers
+mod Installs
+mod Tabled
+mod Leaving

@@ -1,0 +1,95 @@
+//! That what is written for the classes of a package is consistent, one law a sentence or a part of one: class_refs,
+//! superclasses, tables, install methods and Descriptor. The converter's promise rests on them. Nothing here runs.
+#![tactic(auto)]
+
+ghost use Rattle.std.specs.Prelude.{◌≡◌, ◌==◌, ◌≤◌, ◌+◌, false, ℕ, List, length, None, []};
+ghost use Rattle.cjc_capread.specs.declared.tree.Descriptor.{Descriptor};
+ghost use Rattle.cjc_sentences.specs.Spots.{along, in_info, unless};
+ghost use Rattle.cjc_sentences.specs.Complete.{class_info_size, described_size};
+ghost use Rattle.cjc_sentences.specs.ClassRefs.{class_ref_spots, pool_count_at, super_spots};
+ghost use Rattle.cjc_sentences.specs.Tables.{table_spots};
+ghost use Rattle.cjc_sentences.specs.Statics.{install_spots};
+ghost use Rattle.cjc_sentences.specs.Described.{all_ascend, descriptor_spots, types_in_class, types_in_pool};
+ghost use Rattle.cjc_components.specs.Package.{Package, world};
+ghost use Rattle.cjc_components.specs.Class.{class_info};
+ghost use Rattle.cjc_world.specs.Order.{class_order};
+ghost use Rattle.cjc_component_laws.specs.Methods.{HasMethods};
+ghost use Rattle.cjc_component_laws.specs.OwnNames.{HaveOwnNames};
+ghost use Rattle.cjc_component_laws.specs.Whole.{exports_of, whole};
+ghost use Rattle.cjc_components.specs.Limits.{has_far_types, has_large_component};
+ghost use Rattle.cjc_components.specs.Names.{class_ref, pool_entries};
+ghost use Rattle.cjc_components.specs.Descriptor.{descriptor};
+ghost use Rattle.cjc_tables_by_token.specs.Sound.{AreTyped, IsSound};
+ghost use Rattle.cjc_class_laws.specs.Premises.{HaveInstalls, HasNearTypes, HasShortMethods, HasShortRefs, KeysAreKnown, TypesAreKnown};
+
+use cjc_component_laws::{descriptor_classes_are_in_order, named_classes_are_there};
+use cjc_world::lookup_laws;
+
+/// Each class_ref inside is the start of a class or interface, and each one outside a class of its export file, in type
+/// descriptors too.
+pub fn class_refs_are_there()
+    ensures { (list : List ℕ) (p : Package) → IsSound list p.files → KeysAreKnown p → TypesAreKnown p → HasShortRefs p
+        → class_ref_spots (whole p) (exports_of p) ≡ [] }
+{
+    named_classes_are_there();
+}
+
+/// Superclasses are classes, and stand earlier where they are of the package; interfaces are interfaces.
+pub fn superclasses_are_classes()
+    ensures { (list : List ℕ) (p : Package) → IsSound list p.files → super_spots (whole p) (exports_of p) ≡ [] }
+{}
+
+/// The entries of tables are starts of methods, or 0xFFFF in a public table where some superclass is imported.
+pub fn table_entries_are_method_starts()
+    ensures { (list : List ℕ) (p : Package) → IsSound list p.files → HasMethods p → HasShortMethods p
+        → table_spots (whole p) ≡ [] }
+{}
+
+/// The offsets of install methods are starts of static methods.
+pub fn install_methods_are_static()
+    ensures { (list : List ℕ) (p : Package) → IsSound list p.files → HasMethods p → HaveInstalls p
+        → install_spots (whole p) ≡ [] }
+{
+    lookup_laws();
+}
+
+/// Descriptor has a type for each entry of the constant pool: none for a class, and the start of a type descriptor for
+/// a member.
+pub fn pool_entries_have_types()
+    ensures count { (p : Package)
+        → (let d = descriptor p in
+        unless (length d.pool_types == length (pool_entries p)) (in_info 11 (pool_count_at d))) ≡ [] }
+    ensures each { (p : Package) → HasNearTypes p
+        → (let d = descriptor p in types_in_pool d (pool_count_at d + 2) d.pool_types (pool_entries p)) ≡ [] }
+{}
+
+/// The types of fields and methods in Descriptor are starts of type descriptors.
+pub fn members_have_types()
+    ensures { (p : Package) → AreTyped p.files
+        → (let d = descriptor p in along described_size (types_in_class d) 1 d.classes) ≡ [] }
+{}
+
+/// Descriptor has the methods of classes in the order of Method, each once: their offsets ascend.
+pub fn methods_are_described_in_order()
+    ensures { (p : Package) → HaveOwnNames (class_order (world p)) → HasMethods p
+        → (let d = descriptor p in all_ascend (class_info (class_ref p) p) None 1 d.classes) ≡ [] }
+{}
+
+/// Descriptor has each class and interface once, in the order of Class, and each method of a class once, in the order
+/// of Method; its types are there.
+pub fn descriptor_describes_what_is_there()
+    ensures { (p : Package) → HaveOwnNames (class_order (world p)) → HasMethods p → AreTyped p.files → HasNearTypes p
+        → descriptor_spots (whole p) ≡ [] }
+{
+    descriptor_classes_are_in_order();
+    pool_entries_have_types();
+    members_have_types();
+    methods_are_described_in_order();
+}
+
+/// Where neither 411 nor 416 is broken, types have offsets up to 32,767, and so have the infos of Class.
+pub fn limits_are_kept()
+    ensures types { (p : Package) → has_far_types p ≡ false → HasNearTypes p }
+    ensures classes { (p : Package) → has_large_component p ≡ false
+        → class_info_size (class_info (class_ref p) p) ≤ 32767 }
+{}
