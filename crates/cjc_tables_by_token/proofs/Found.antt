@@ -91,6 +91,12 @@ opened c fields n k e = by (slice_get c.fields n) (slice_get fields n) refl refl
     by (Some f) (Some held.Null) p q e = absurd (cc)
     by (Some f) (Some held.Array) p q e = absurd (cc)
 
+abbrev id_of : (class name desc : List ℕ) → MemberId
+id_of class name desc = record { class = class; name = name; desc = desc }
+
+one_id : (class name other desc more : List ℕ) → name ≡ other → desc ≡ more → id_of class name desc ≡ id_of class other more
+one_id class name other desc more e f = ap (λ x. id_of class x desc) e ∙ ap (id_of class other) f
+
 -- An open field of a class: the one that the statement names.
 pub record IsOpen (c : ClassTree) (fields : List Held) (id : MemberId) (k : ℕ) : Type 0 where
   pub field : FieldTree
@@ -108,7 +114,8 @@ module _ (list : List ℕ) (files : Files) (sound : IsSound list files) where
   named_there : (t : ClassTree) (fields : List Held) (id : MemberId) (k : ℕ) (g : FieldTree) → slice_get t.fields k ≡ Some g → slice_get fields k ≡ Some held.Nothing → is_cell g ≡ true
       → (m : Member) → slice_get (map field_of_class t.fields) k ≡ Some m → is_called id.name id.desc m ≡ true → IsOpen t fields id k
   named_there t fields id k g there unput has_cell m row called =
-      let told : Some m ≡ Some (field_of_class g) = sym row ∙ (slice_get-map field_of_class t.fields k ∙ ap (option_map field_of_class) there) in
+      let mapped : slice_get (map field_of_class t.fields) k ≡ Some (field_of_class g) = slice_get-map field_of_class t.fields k ∙ ap (option_map field_of_class) there in
+      let told : Some m ≡ Some (field_of_class g) = sym row ∙ mapped in
       let member : m ≡ field_of_class g = cc in
       let names = both (bytes_eq g.name id.name) (bytes_eq g.desc id.desc) (ap (is_called id.name id.desc) (sym member) ∙ called) in
       let name = bytes-true g.name id.name names.0 in
@@ -119,7 +126,7 @@ module _ (list : List ℕ) (files : Files) (sound : IsSound list files) where
         unput = unput;
         has_cell = has_cell;
         desc = desc;
-        named = ap (λ (x : List ℕ). record { class = t.name; name = x; desc = id.desc }) (sym name) ∙ ap (λ (x : List ℕ). record { class = t.name; name = g.name; desc = x }) (sym desc);
+        named = one_id t.name id.name g.name id.desc g.desc (sym name) (sym desc);
       }
 
   -- the class that is found is the one of the number
