@@ -1,5 +1,7 @@
 -- Packages of read files that break no rule of classes and names.
-use Rattle.std.specs.Prelude.{◌≡◌, ◌≤◌, ℕ, List, [], length, count_by, not, false, slice_get, Some, true, is_some}
+use Rattle.std.specs.Prelude.{◌≡◌, ◌≤◌, ◌<◌, ◌^◌, ℕ, List, [], length, count_by, not, false, slice_get, Some, true, is_some}
+use Rattle.cjc_bytes.specs.Descriptor.{Parts}
+use Rattle.cjc_bytes.specs.Spots.{desc_of}
 use Rattle.cjc_bytes.specs.declared.settings.FileLine.{FileLine}
 use Rattle.cjc_export.specs.declared.tree.ExportClass.{ExportClass}
 use Rattle.cjc_card.specs.ByToken.{letter_of}
@@ -42,3 +44,14 @@ AreTyped files = (n k : ℕ) (c : ClassTree) (f : FieldTree) → slice_get files
 -- each class's initialiser stands once among these codes
 abbrev pub StandOnce : Files → List MethodCode → Type 0
 StandOnce files codes = (i j : ℕ) (a b : MethodCode) (c d : ClassTree) → slice_get codes i ≡ Some a → slice_get codes j ≡ Some b → initialised files a ≡ Some c → initialised files b ≡ Some d → a.class ≡ b.class → i ≡ j
+
+-- The descriptor of a field, as a class file gives it: one of a field, which 32 bits count.
+pub record IsFieldDesc (desc : List ℕ) : Type 0 where
+  pub parts : Parts
+  pub is_desc : desc_of desc ≡ Some parts
+  pub is_field : parts.is_method ≡ false
+  pub short : length desc < 2 ^ 32
+
+-- each field of the class files has such a descriptor
+abbrev pub AreFieldDescs : Files → Type 0
+AreFieldDescs files = (n k : ℕ) (c : ClassTree) (f : FieldTree) → slice_get files.classes n ≡ Some c → slice_get c.fields k ≡ Some f → IsFieldDesc f.desc

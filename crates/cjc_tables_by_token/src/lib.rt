@@ -3,13 +3,16 @@
 //! definitions and laws alone, and knows no instruction.
 #![tactic(auto)]
 
-ghost use Rattle.std.specs.Prelude.{◌≡◌, ℕ, Bool, List, Some, None, slice_get, true, false};
+ghost use Rattle.std.specs.Prelude.{◌≡◌, ℕ, Bool, List, [], Some, None, slice_get, true, false};
 ghost use Rattle.cjc_classfile.specs.declared.tree.ClassTree.{ClassTree};
 ghost use Rattle.cjc_classfile.specs.declared.tree.FieldTree.{FieldTree};
 ghost use Rattle.cjc_bytes.specs.declared.fault.MemberId.{MemberId};
 ghost use Rattle.cjc_code.specs.declared.method_code.MethodCode.{MethodCode};
 ghost use Rattle.cjc_world.specs.Classes.{Class, class_named};
+ghost use Rattle.cjc_world.specs.Files.{Files};
 ghost use Rattle.cjc_world.specs.Order.{class_order};
+ghost use Rattle.cjc_subset.specs.Checks.{check_breaks};
+ghost use Rattle.cjc_bytes.specs.declared.settings.Settings.{Settings};
 ghost use Rattle.cjc_sentences.specs.Complete.{complete};
 ghost use Rattle.cjc_tokens.specs.Fields.{instance_token, is_instance};
 ghost use Rattle.cjc_clinit.specs.Image.{IsImage, field_id};
@@ -35,7 +38,7 @@ ghost use Rattle.cjc_tables_by_token.specs.Infos.{HasEntry, HasInfo, HasNone};
 ghost use Rattle.cjc_tables_by_token.specs.Kept.{KeepsRules};
 ghost use Rattle.cjc_tables_by_token.specs.Known.{known_names, may_hold, may_name, order_of, statics_of};
 ghost use Rattle.cjc_tables_by_token.specs.Loading.{components, naming, part};
-ghost use Rattle.cjc_tables_by_token.specs.Sound.{AreTyped, IsSound, StandOnce};
+ghost use Rattle.cjc_tables_by_token.specs.Sound.{AreFieldDescs, AreTyped, IsSound, StandOnce};
 ghost use Rattle.cjc_tables_by_token.specs.Tables.{CallTablesAgree, ClassTablesAgree};
 
 /// What is loaded is what is written for a package: none of its components is absent.
@@ -68,6 +71,11 @@ pub fn classes_are_told()
     ensures names { (list : List ℕ) (p : Package) → IsSound list p.files → SaysNames (world p) (naming p) (part p) }
     ensures language { (list : List ℕ) (p : Package) → IsSound list p.files → HasLang (world p) }
     ensures agree { (list : List ℕ) (p : Package) → IsSound list p.files → NamesAgree (world p) (naming p) }
+{}
+
+/// Where 301 is not broken, each field whose descriptor is a field's is of a type that values have.
+pub fn fields_are_typed()
+    ensures { (list : List ℕ) (files : Files) (codes : List MethodCode) (settings : Settings) → AreFieldDescs files → check_breaks list files codes settings ≡ [] → AreTyped files }
 {}
 
 /// An instance field has the token that its class gives it, and an object of a class has by token the fields that
