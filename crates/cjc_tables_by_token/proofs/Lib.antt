@@ -10,7 +10,6 @@ pub mod Above
 pub mod Spans
 pub mod Fields
 pub mod Objects
-pub mod Found
 pub mod Puts
 pub mod Initials
 pub mod Groups

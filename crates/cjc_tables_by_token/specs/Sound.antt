@@ -7,8 +7,6 @@ use Rattle.cjc_export.specs.declared.tree.ExportClass.{ExportClass}
 use Rattle.cjc_card.specs.ByToken.{letter_of}
 use Rattle.cjc_classfile.specs.declared.tree.ClassTree.{ClassTree}
 use Rattle.cjc_classfile.specs.declared.tree.FieldTree.{FieldTree}
-use Rattle.cjc_clinit.specs.Image.{initialised}
-use Rattle.cjc_code.specs.declared.method_code.MethodCode.{MethodCode}
 use Rattle.cjc_script.specs.Sorts.{field_sort}
 use Rattle.cjc_tokens.specs.Fields.{is_reference}
 use Rattle.cjc_by_token.specs.Objects.{is_reference as is_reference_sort}
@@ -40,10 +38,6 @@ pub record IsTyped (desc : List ℕ) : Type 0 where
 -- each field of the class files is of such a type
 abbrev pub AreTyped : Files → Type 0
 AreTyped files = (n k : ℕ) (c : ClassTree) (f : FieldTree) → slice_get files.classes n ≡ Some c → slice_get c.fields k ≡ Some f → IsTyped f.desc
-
--- each class's initialiser stands once among these codes
-abbrev pub StandOnce : Files → List MethodCode → Type 0
-StandOnce files codes = (i j : ℕ) (a b : MethodCode) (c d : ClassTree) → slice_get codes i ≡ Some a → slice_get codes j ≡ Some b → initialised files a ≡ Some c → initialised files b ≡ Some d → a.class ≡ b.class → i ≡ j
 
 -- The descriptor of a field, as a class file gives it: one of a field, which 32 bits count.
 pub record IsFieldDesc (desc : List ℕ) : Type 0 where

@@ -16,6 +16,7 @@ ghost use Rattle.cjc_bytes.specs.declared.settings.Settings.{Settings};
 ghost use Rattle.cjc_sentences.specs.Complete.{complete};
 ghost use Rattle.cjc_tokens.specs.Fields.{instance_token, is_instance};
 ghost use Rattle.cjc_clinit.specs.Image.{IsImage, field_id};
+ghost use Rattle.cjc_clinit_laws.specs.Values.{StandOnce};
 ghost use Rattle.cjc_by_name.specs.Linked.{Method};
 ghost use Rattle.cjc_ncode.specs.ByLabel.{Callee, Named};
 ghost use Rattle.cjc_ncode.specs.declared.narrow.NMethod.{NMethod};
@@ -38,7 +39,7 @@ ghost use Rattle.cjc_tables_by_token.specs.Infos.{HasEntry, HasInfo, HasNone};
 ghost use Rattle.cjc_tables_by_token.specs.Kept.{KeepsRules};
 ghost use Rattle.cjc_tables_by_token.specs.Known.{known_names, may_hold, may_name, order_of, statics_of};
 ghost use Rattle.cjc_tables_by_token.specs.Loading.{components, naming, part};
-ghost use Rattle.cjc_tables_by_token.specs.Sound.{AreFieldDescs, AreTyped, IsSound, StandOnce};
+ghost use Rattle.cjc_tables_by_token.specs.Sound.{AreFieldDescs, AreTyped, IsSound};
 ghost use Rattle.cjc_tables_by_token.specs.Tables.{CallTablesAgree, ClassTablesAgree};
 
 /// What is loaded is what is written for a package: none of its components is absent.
