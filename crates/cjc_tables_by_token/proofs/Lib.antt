@@ -16,3 +16,4 @@ pub mod Groups
 pub mod Statics
 pub mod Tables
 pub mod Typing
+pub mod Arrays
