@@ -17,3 +17,4 @@ pub mod Statics
 pub mod Tables
 pub mod Typing
 pub mod Arrays
+pub mod First

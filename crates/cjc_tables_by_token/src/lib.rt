@@ -3,7 +3,7 @@
 //! definitions and laws alone, and knows no instruction.
 #![tactic(auto)]
 
-ghost use Rattle.std.specs.Prelude.{◌≡◌, ℕ, Bool, List, [], map, Some, None, slice_get, true, false};
+ghost use Rattle.std.specs.Prelude.{◌≡◌, ℕ, Bool, List, [], ◌∷◌, map, Some, None, slice_get, true, false};
 ghost use Rattle.cjc_classfile.specs.declared.tree.ClassTree.{ClassTree};
 ghost use Rattle.cjc_classfile.specs.declared.tree.FieldTree.{FieldTree};
 ghost use Rattle.cjc_bytes.specs.declared.fault.MemberId.{MemberId};
@@ -21,13 +21,13 @@ ghost use Rattle.cjc_by_name.specs.Linked.{Method};
 ghost use Rattle.cjc_ncode.specs.ByLabel.{Callee, Named};
 ghost use Rattle.cjc_ncode.specs.declared.narrow.NMethod.{NMethod};
 ghost use Rattle.cjc_narrow.specs.Package.{first_memory, named};
-ghost use Rattle.cjc_bytecode.specs.Renaming.{heap_object_as};
-ghost use Rattle.cjc_card.specs.Statics.{first_arrays};
+ghost use Rattle.cjc_bytecode.specs.Renaming.{heap_object_as, memory_as};
+ghost use Rattle.cjc_card.specs.Statics.{first_arrays, first_memory as first_on_card};
 ghost use Rattle.cjc_lower.specs.Agreement.{IsKnownCall, KnownNames, Memories, TablesAgree, known_by};
 ghost use Rattle.cjc_lower.specs.ByPlace.{Methods};
 ghost use Rattle.cjc_lower.specs.Naming.{Naming};
 ghost use Rattle.cjc_lower.specs.Placed.{Placed};
-ghost use Rattle.cjc_by_token.specs.Cells.{HasCells, cell_offset};
+ghost use Rattle.cjc_by_token.specs.Cells.{HasCells, cell_offset, image_of};
 ghost use Rattle.cjc_by_token.specs.Classes.{memories, tests};
 ghost use Rattle.cjc_by_token.specs.Names.{HasLang, NamesAgree, SaysNames};
 ghost use Rattle.cjc_by_token.specs.Objects.{HasObjects, slots_of};
@@ -95,9 +95,11 @@ pub fn static_fields_are_told()
     ensures offsets { (list : List ℕ) (p : Package) (codes : List MethodCode) → IsSound list p.files → AreTyped p.files → IsImage p.files codes p.image → StandOnce p.files codes → (f : MemberId) → written_offset p.image f ≡ cell_offset (order_of p.image) f }
 {}
 
-/// The arrays that the static image makes before the first entry are the same by name and by token.
-pub fn arrays_begin_alike()
-    ensures { (p : Package) (codes : List MethodCode) → IsImage p.files codes p.image → (let l = loaded p in first_arrays l.parts) ≡ map (heap_object_as (class_at p) (slots_of (naming p))) (let m = first_memory p.files p.image in m.heap) }
+/// Memory before the first entry is the same by name and by token: the arrays of the static image, and what its cells
+/// hold.
+pub fn memories_begin_alike()
+    ensures arrays { (p : Package) (codes : List MethodCode) → IsImage p.files codes p.image → (let l = loaded p in first_arrays l.parts) ≡ map (heap_object_as (class_at p) (slots_of (naming p))) (let m = first_memory p.files p.image in m.heap) }
+    ensures memory { (list : List ℕ) (p : Package) (codes : List MethodCode) → IsSound list p.files → AreTyped p.files → IsImage p.files codes p.image → StandOnce p.files codes → first_on_card (loaded p) ≡ memory_as (class_at p) (slots_of (naming p)) (λ cells. image_of (order_of p.image) cells ∷ []) (first_memory p.files p.image) }
 {}
 
 /// All that the run of narrow code by label and the run of components by token ask of classes, objects, static
