@@ -1,5 +1,7 @@
 -- What is known of a package of read files that breaks no rule of classes, names, flags and interfaces.
-use Rattle.std.specs.Prelude.{◌≡◌, ℕ, ◌<◌, List, [], ◌∷◌, Some, Bool, true, false, slice_get}
+use Rattle.cjc_by_name.specs.Linked.{Method}
+use Rattle.cjc_by_name.specs.OnePackage.{method_at}
+use Rattle.std.specs.Prelude.{length, ◌+◌, ◌≡◌, ℕ, ◌<◌, List, [], ◌∷◌, Some, Bool, true, false, slice_get}
 use Rattle.cjc_bytes.specs.AccessFlags.{is_interface, is_static}
 use Rattle.cjc_components.specs.Methods.{method_offset}
 use Rattle.cjc_components.specs.Package.{Package, world}
@@ -11,9 +13,9 @@ use Rattle.cjc_tables_by_token.specs.Infos.{HasEntry, HasInfo}
 use Rattle.cjc_tokens.specs.Members.{is_initialiser}
 use Rattle.cjc_vtable.specs.Laws.{InterfaceCallsAgree, KeepsInterfaces, KeepsRules, TokensAreOnce, VirtualCallsAgree}
 use Rattle.cjc_world.specs.declared.found.Found.{Found}
-use Rattle.cjc_world.specs.Classes.{Class, class_at, class_named, imported}
+use Rattle.cjc_world.specs.Classes.{Class, Member, class_at, class_named, imported}
 use Rattle.cjc_world.specs.Kin.{IsKin, Kin, kin}
-use Rattle.cjc_world.specs.Lookup.{object}
+use Rattle.cjc_world.specs.Lookup.{member_at, object}
 use Rattle.cjc_world.specs.Order.{class_order, in_order}
 
 -- the classes of its export files
@@ -42,3 +44,5 @@ pub record Facts (p : Package) : Type 0 where
   pub interface_calls : InterfaceCallsAgree (world p)
   pub tokens_once : TokensAreOnce (world p)
   pub object_class : (c : Class) × (class_named (world p) object ≡ Some c) × (c.is_imported ≡ true) × (is_interface c.flags ≡ false)
+  -- a class of the package has its methods in its class file
+  pub filed : (x : List ℕ) (c : Class) → class_named (world p) x ≡ Some c → c.is_imported ≡ false → (i : ℕ) (m : Member) → slice_get c.methods i ≡ Some m → (k : Method) × (method_at p.files (member_at c (length c.fields + i)) ≡ Some k)

@@ -1,6 +1,11 @@
 -- A package of read files that breaks no rule of classes and names is known.
-use Rattle.std.proofs.Common.{◌≡◌, ℕ, zero, suc, refl, sym, ap, subst, ◌∙◌, arith, Bool, true, false, List, [], ◌∷◌}
-use Rattle.std.specs.Prelude.{Some, slice_get, not, ◌==◌, ◌&&◌, if◌then◌else◌}
+use Rattle.cjc_world.specs.Lookup.{member_at}
+use Rattle.std.proofs.lemmas.List.{length-map}
+use Rattle.cjc_classfile.specs.declared.tree.MethodTree.{MethodTree}
+use Rattle.cjc_by_name.specs.OnePackage.{method_at, method_by, method_in}
+use Rattle.cjc_by_name.specs.Linked.{Method}
+use Rattle.std.proofs.Common.{◌≡◌, ℕ, zero, suc, refl, sym, ap, subst, ◌∙◌, arith, Bool, true, false, List, [], ◌∷◌, length, ◌+◌, ◌-◌}
+use Rattle.std.specs.Prelude.{Some, slice_get, not, ◌==◌, ◌&&◌, if◌then◌else◌, option_map, option_and_then, map}
 use Rattle.std.specs.Str.{bytes_eq}
 use Rattle.std.proofs.lemmas.Bool.Decides.{nat_tests}
 use Rattle.cjc_bytes.specs.AccessFlags.{is_interface}
@@ -17,14 +22,14 @@ use Rattle.cjc_tables_by_token.specs.Loading.{part}
 use Rattle.cjc_tables_by_token.specs.Sound.{IsSound}
 use Rattle.cjc_tables_by_token.proofs.Above.{class_there, entry_of_name, info_of_name, rules_of}
 use Rattle.cjc_tables_by_token.proofs.Clean.{has_named, own_name}
-use Rattle.cjc_tables_by_token.proofs.Filed.{import_filed, import_in, one_class}
+use Rattle.cjc_tables_by_token.proofs.Filed.{import_filed, import_in, one_class, own_filed}
 use Rattle.cjc_tables_by_token.proofs.Lists.{right_supers, supers_there}
 use Rattle.cjc_tables_by_token.proofs.Order.{get-has, kind-in, super_before}
 use Rattle.cjc_tables_by_token.proofs.Telling.{has_object}
 use Rattle.cjc_vtable.proofs.Filed.{Has, at_front, behind}
 use Rattle.cjc_vtable.specs.Kept.{Keeps}
 use Rattle.cjc_vtable.specs.Laws.{InterfaceCallsAgree, TokensAreOnce, VirtualCallsAgree}
-use Rattle.cjc_world.specs.Classes.{Class, class_at, class_named, imported, is_at}
+use Rattle.cjc_world.specs.Classes.{Class, class_at, class_named, imported, is_at, Member, method_of_class, field_of_class}
 use Rattle.cjc_world.specs.Kin.{IsKin, Kin, Lists, foremost, kin}
 use Rattle.cjc_world.specs.Order.{class_order, in_order}
 use Rattle.cjc_written_calls.specs.Calls.{ExportsKeep}
@@ -81,6 +86,11 @@ export_named (v ∷ es) k e h = by (bytes_eq v.name e.name) refl k h (λ j g. ex
         let clash : true ≡ false = sym (Rattle.cjc_by_token.proofs.Members.bytes_same v.name) ∙ ap (λ (q : ExportClass). bytes_eq v.name q.name) same ∙ is in absurd (cc)
     by false is (suc j) g rest = rest j g
 
+tree_method : (ms : List MethodTree) (i : ℕ) (m : Member) → slice_get (map method_of_class ms) i ≡ Some m → (r : MethodTree) × (slice_get ms i ≡ Some r)
+tree_method [] i m e = absurd (cc)
+tree_method (n ∷ ms) zero m e = (n, refl)
+tree_method (n ∷ ms) (suc i) m e = tree_method ms i m e
+
 module _ (list : List ℕ) (p : Package) (sound : IsSound list p.files) where
   abbrev w : List Class
   w = world p
@@ -120,6 +130,21 @@ module _ (list : List ℕ) (p : Package) (sound : IsSound list p.files) where
       let right = right_supers w c rules.supers in
       (d.0, d.1, sym (ap Rattle.cjc_world.specs.Rules.is_interface_of d.1) ∙ right.supers s listed)
 
+  filed : (x : List ℕ) (c : Class) → class_named w x ≡ Some c → c.is_imported ≡ false → (i : ℕ) (m : Member) → slice_get c.methods i ≡ Some m → (k : Method) × (method_at p.files (member_at c (length c.fields + i)) ≡ Some k)
+  filed x c e own i m there =
+      let f = own_filed p.files sound.classes sound.exports c (has_named w x c e) own in
+      let n = f.0 in
+      let tree = f.1 in
+      let r = tree_method tree.methods i m (ap (λ (q : Class). slice_get q.methods i) (sym f.3) ∙ there) in
+      let left : length tree.fields + i - length tree.fields ≡ i = omega arith in (
+        method_by tree r.0 r.0.code,
+        ap (λ (q : Class). method_at p.files (member_at q (length q.fields + i))) f.3
+            ∙ ap (λ l. method_at p.files (record { imported = false; class = n; member = l + i })) (length-map tree.fields field_of_class)
+            ∙ ap (option_and_then (method_in (length tree.fields + i))) f.2
+            ∙ ap (λ j. option_map (λ (q : MethodTree). method_by tree q q.code) (slice_get tree.methods j)) left
+            ∙ ap (option_map (λ (q : MethodTree). method_by tree q q.code)) r.1,
+      )
+
   pub classes_stand : ClassesStand p
   classes_stand k c e =
       let own = order_own w false k c e in
@@ -136,6 +161,7 @@ module _ (list : List ℕ) (p : Package) (sound : IsSound list p.files) where
   facts fits keep keeps is_kin one_kin virtual_calls interface_calls tokens_once = record {
     own = info_of_name list p sound;
     file = entry_of_name list p sound;
+    filed = filed;
     placed = placed;
     of_file = of_file;
     in_file = in_file;

@@ -1,5 +1,6 @@
 mod Extents
 mod Held
+mod Called
 mod Objects
 mod Knowing
 mod Ids

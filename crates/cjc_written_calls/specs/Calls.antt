@@ -18,7 +18,7 @@ use Rattle.cjc_tokens.specs.Slots.{slots, hidden_slots, token}
 use Rattle.cjc_vtable.specs.Calls.{finds_hidden, finds_shown, selects_shown}
 use Rattle.cjc_vtable.specs.Laws.{Under, interface_named, selection}
 use Rattle.cjc_world.specs.declared.found.Found.{Found}
-use Rattle.cjc_world.specs.Classes.{Class, class_named, imported, method_of_export}
+use Rattle.cjc_world.specs.Classes.{Class, Member, class_named, imported, method_of_export}
 use Rattle.cjc_world.specs.Interfaces.{known}
 use Rattle.cjc_world.specs.Lookup.{object, own_method}
 use Rattle.cjc_world.specs.Subtype.{is_subtype}
@@ -41,6 +41,10 @@ pub record ExportsKeep (p : Package) : Type 0 where
   pub object_class : (c : Class) → class_named (world p) object ≡ Some c → is_interface c.flags ≡ false
   pub methods : (y : List ℕ) (k : ℕ) (e : ExportClass) → class_named (world p) y ≡ Some (imported k e) → is_interface e.flags ≡ true → (t : ℕ) (s : Signature) → slice_get (interface_methods (world p) (imported k e)) t ≡ Some s
       → (m : ExportMethod) × (virtual_method t e ≡ Some m) × (signature_of (method_of_export m) ≡ s)
+
+-- No interface of the package has a static method but its initialiser.
+abbrev pub NoStaticMethods : List Class → Type 0
+NoStaticMethods w = (x : List ℕ) (c : Class) → class_named w x ≡ Some c → c.is_imported ≡ false → is_interface c.flags ≡ true → (k : ℕ) (m : Member) → slice_get c.methods k ≡ Some m → is_static m.flags ≡ true → is_initialiser m.name ≡ true
 
 -- A class of which objects are made; arrays have the methods of java/lang/Object.
 pub data Receives (w : List Class) : Option (Shape (List ℕ)) → Type 0 where

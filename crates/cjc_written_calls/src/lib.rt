@@ -5,11 +5,13 @@
 
 ghost use Rattle.std.specs.Prelude.{ℕ, List, Option};
 ghost use Rattle.std.specs.Prelude.{◌≡◌, Some};
-ghost use Rattle.cjc_bytecode.specs.Alike.{IsFound, reached_as};
+ghost use Rattle.cjc_bytecode.specs.Alike.{IsFound, reached_as, start_as};
+ghost use Rattle.cjc_bytes.specs.declared.fault.MemberId.{MemberId as Member};
 ghost use Rattle.cjc_bytecode.specs.Machine.{Reached, Start, Within};
 ghost use Rattle.cjc_bytecode.specs.Renaming.{option_as, shape_as};
 ghost use Rattle.cjc_calls_by_token.specs.Reaching.{BeginsAtOffsets, reached_at};
 ghost use Rattle.cjc_by_name.specs.Linked.{Method};
+ghost use Rattle.cjc_calls_by_token.specs.Reaching as Reaching;
 ghost use Rattle.cjc_card.specs.Calls as Calls;
 ghost use Rattle.cjc_code.specs.declared.method_code.MethodCode.{MethodCode};
 ghost use Rattle.cjc_components.specs.Methods.{method_offset, placed_methods};
@@ -27,7 +29,7 @@ ghost use Rattle.cjc_tables_by_token.specs.Loading.{naming, part};
 ghost use Rattle.cjc_tables_by_token.specs.Sound.{IsSound};
 ghost use Rattle.cjc_world.specs.Files.{Files};
 ghost use Rattle.cjc_vtable.specs.Kept.{Keeps};
-ghost use Rattle.cjc_written_calls.specs.Calls.{ExportsKeep, IsNamed, KeepsSubtypes, KeepsTokens, Receives};
+ghost use Rattle.cjc_written_calls.specs.Calls.{ExportsKeep, IsNamed, KeepsSubtypes, KeepsTokens, NoStaticMethods, Receives};
 ghost use Rattle.cjc_written_calls.specs.Standing.{AreMethods, AreReady, IsSmall, place};
 
 use cjc_layout::layouts_are_laid_out;
@@ -71,6 +73,20 @@ pub fn calls_reach()
         → (let n = naming p in Calls.reached n.loaded (callee n m) (option_as (shape_as n.class) o) ≡ reached_as (code_of n) (offset_of n) r) }
     ensures there { (list : List ℕ) (p : Package) → IsSound list p.files → AreReady p → AreMethods p → IsSmall p → Keeps (world p) → ExportsKeep p
         → (m : Callee) → IsNamed (world p) m → (o : Option (Shape (List ℕ))) → Receives (world p) o → (start : Start Placed) → reached_at p.files (world p) (place p) m o ≡ Within start → IsAmong (placed_methods p) start.code }
+{
+    layouts_are_laid_out();
+    dispatch_laws();
+    token_laws();
+    lookup_laws();
+    classes_are_told();
+}
+
+/// A static method that a script calls begins by token as it does by name, and is one of the methods of Method.
+pub fn entries_are_called()
+    ensures alike { (list : List ℕ) (p : Package) → IsSound list p.files → AreReady p → AreMethods p → IsSmall p → Keeps (world p) → ExportsKeep p → NoStaticMethods (world p)
+        → (id : Member) → (let n = naming p in let methods = Reaching.placed_methods p.files (place p) in Calls.called n.loaded id ≡ option_as (start_as (code_of n) (offset_of n)) (methods.called id)) }
+    ensures there { (list : List ℕ) (p : Package) → IsSound list p.files → AreReady p → AreMethods p → IsSmall p → Keeps (world p) → ExportsKeep p → NoStaticMethods (world p)
+        → (id : Member) (start : Start Placed) → (let methods = Reaching.placed_methods p.files (place p) in methods.called id ≡ Some start → IsAmong (placed_methods p) start.code) }
 {
     layouts_are_laid_out();
     dispatch_laws();
