@@ -1,5 +1,6 @@
 mod Extents
 mod Held
+mod Fitting
 mod Called
 mod Objects
 mod Knowing

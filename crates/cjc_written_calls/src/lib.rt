@@ -4,7 +4,7 @@
 #![tactic(auto)]
 
 ghost use Rattle.std.specs.Prelude.{ℕ, List, Option};
-ghost use Rattle.std.specs.Prelude.{◌≡◌, Some};
+ghost use Rattle.std.specs.Prelude.{◌≡◌, Some, false};
 ghost use Rattle.cjc_bytecode.specs.Alike.{IsFound, reached_as, start_as};
 ghost use Rattle.cjc_bytes.specs.declared.fault.MemberId.{MemberId as Member};
 ghost use Rattle.cjc_bytecode.specs.Machine.{Reached, Start, Within};
@@ -18,7 +18,10 @@ ghost use Rattle.cjc_components.specs.Methods.{method_offset, placed_methods};
 ghost use Rattle.cjc_components.specs.Package.{Package, world};
 ghost use Rattle.cjc_components.specs.Written.{IsPackage};
 ghost use Rattle.cjc_list.specs.Listed.{ListTree};
-ghost use Rattle.cjc_lower.specs.Naming.{callee};
+ghost use Rattle.cjc_bytecode.specs.Meanings as Meanings;
+ghost use Rattle.cjc_lower.specs.Naming.{Fit, IsClass, callee};
+ghost use Rattle.cjc_ncode.specs.declared.narrow.PoolKey.TheVariants as keys;
+ghost use Rattle.cjc_world.specs.Classes.{Class, class_named};
 ghost use Rattle.cjc_lower.specs.Package.{HoldsMethods};
 ghost use Rattle.cjc_lower.specs.Placed.{Placed, code_of, offset_of};
 ghost use Rattle.cjc_lower.specs.Agreement.{IsAmong};
@@ -93,4 +96,19 @@ pub fn entries_are_called()
     token_laws();
     lookup_laws();
     classes_are_told();
+}
+
+/// What the pool's entry of a call names is what the call names: a virtual method of a class by its token, one of the
+/// superclass, the interface of a call of its method, and of the package itself a static method, a constructor or a
+/// private method.
+pub fn calls_fit_their_keys()
+    ensures virtual_call { (list : List ℕ) (p : Package) → IsSound list p.files → IsSmall p → Keeps (world p) → ExportsKeep p → KeepsTokens (world p) → (m : Member) → IsNamed (world p) (ByLabel.OnObject m) → Fit (naming p) (Meanings.Calls Meanings.Virtual) (keys.Virtual m) }
+    ensures super_call { (list : List ℕ) (p : Package) → IsSound list p.files → IsSmall p → Keeps (world p) → ExportsKeep p → KeepsTokens (world p) → (m : Member) → IsNamed (world p) (ByLabel.OnSuper m) → Fit (naming p) (Meanings.Calls Meanings.Special) (keys.Super m) }
+    ensures interface_call { (list : List ℕ) (p : Package) → IsSound list p.files → IsSmall p → Keeps (world p) → ExportsKeep p → KeepsTokens (world p) → (words : ℕ) (m : Member) → IsNamed (world p) (ByLabel.OnInterface words m) → IsClass (naming p) m.class }
+    ensures special_call { (list : List ℕ) (p : Package) → IsSound list p.files → IsSmall p → Keeps (world p) → ExportsKeep p → KeepsTokens (world p) → (m : Member) (c : Class) → class_named (world p) m.class ≡ Some c → c.is_imported ≡ false → Fit (naming p) (Meanings.Calls Meanings.Special) (keys.StaticMethod m) }
+    ensures static_call { (list : List ℕ) (p : Package) → IsSound list p.files → IsSmall p → Keeps (world p) → ExportsKeep p → KeepsTokens (world p) → (m : Member) (c : Class) → class_named (world p) m.class ≡ Some c → c.is_imported ≡ false → Fit (naming p) (Meanings.Calls Meanings.Static) (keys.StaticMethod m) }
+{
+    dispatch_laws();
+    token_laws();
+    lookup_laws();
 }
