@@ -1,5 +1,5 @@
 pub mod Members
-mod Image
+pub mod Image
 pub mod Cells
 pub mod Slots
 pub mod Objects

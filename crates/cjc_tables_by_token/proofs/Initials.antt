@@ -15,9 +15,10 @@ use Rattle.cjc_clinit.specs.Fields.{is_cell}
 use Rattle.cjc_clinit.specs.Image.{AreInitialised, arrays_of, class_where, field_id, if_initialiser, initialised}
 use Rattle.cjc_clinit.specs.Image.AreInitialised.{none as no_code, other as other_code, one as one_code}
 use Rattle.cjc_clinit.specs.Initialiser.{is_initialiser, nothing_in, ops_of}
+use Rattle.cjc_clinit_laws.specs.Values.{StandOnce}
 use Rattle.cjc_by_token.specs.Cells.{are_apart, is_one_of}
 use Rattle.cjc_components.specs.Package.{Package}
-use Rattle.cjc_tables_by_token.specs.Sound.{IsSound, StandOnce}
+use Rattle.cjc_tables_by_token.specs.Sound.{IsSound}
 use Rattle.cjc_tables_by_token.proofs.Puts.{Puts, Right, apart_append, classes_once, fields_once, one_back, one_either, one_front, place_or, puts_are, set_other, set_same}
 
 -- what the field at a place of a class holds

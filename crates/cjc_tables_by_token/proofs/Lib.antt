@@ -10,9 +10,10 @@ pub mod Above
 pub mod Spans
 pub mod Fields
 pub mod Objects
-pub mod Found
 pub mod Puts
 pub mod Initials
 pub mod Groups
 pub mod Statics
 pub mod Tables
+pub mod Typing
+pub mod Arrays

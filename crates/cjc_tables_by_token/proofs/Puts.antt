@@ -12,7 +12,9 @@ use Rattle.cjc_classfile.specs.declared.tree.FieldTree.{FieldTree}
 use Rattle.cjc_code.specs.declared.insn.JOp.{JOp}
 use Rattle.cjc_world.specs.declared.found.Found.{Found}
 use Rattle.cjc_world.specs.declared.image.ArrayCell.{ArrayCell}
+use Rattle.cjc_world.specs.declared.image.StaticImage.{StaticImage}
 use Rattle.cjc_world.specs.Classes.{Class, class_named, declared}
+use Rattle.cjc_world.specs.Files.{Files}
 use Rattle.cjc_world.specs.Lookup.{find_field, member_at}
 use Rattle.cjc_world.proofs.Settled.{bytes-true}
 use Rattle.cjc_clinit.specs.declared.stage.Held.{Held}
@@ -21,13 +23,13 @@ use Rattle.cjc_clinit.specs.Fields.{Contents, ANumber, ANull, AnArray, array_des
 use Rattle.cjc_clinit.specs.Image.{array_in, arrays_of, field_id, own_field}
 use Rattle.cjc_clinit.specs.Initialiser.{Initialises, Makes, of_number, of_null, of_array, Put, element_kind, open_place}
 use Rattle.cjc_clinit.specs.Initialiser.Initialises.{ends, puts}
+use Rattle.cjc_clinit_laws.proofs.Places.{IsField, place-field}
 use Rattle.cjc_ncode.specs.PoolOrder.{same_member}
 use Rattle.cjc_by_token.specs.Cells.{are_apart, is_one_of}
 use Rattle.cjc_by_token.proofs.Members.{member_same, member_tells}
 use Rattle.cjc_components.specs.Package.{Package, world}
 use Rattle.cjc_tables_by_token.specs.Sound.{IsSound}
 use Rattle.cjc_tables_by_token.proofs.Fields.{field_found, named}
-use Rattle.cjc_tables_by_token.proofs.Found.{IsOpen, open_field}
 
 -- ---- lists
 
@@ -159,8 +161,8 @@ pub record Puts (t : ClassTree) (before after : List Held) (made : List MemberId
   pub new : (k : ℕ) (g : FieldTree) → slice_get t.fields k ≡ Some g → slice_get after k ≡ Some held.Array → (slice_get before k ≡ Some held.Array) ⊎ (is_one_of (field_id t.name g) made ≡ true)
   pub right : ((k : ℕ) (g : FieldTree) (h : Held) → slice_get t.fields k ≡ Some g → slice_get before k ≡ Some h → Right g.desc h) → (k : ℕ) (g : FieldTree) (h : Held) → slice_get t.fields k ≡ Some g → slice_get after k ≡ Some h → Right g.desc h
 
-module _ (t : ClassTree) (fields_once : (j k : ℕ) (f g : FieldTree) → slice_get t.fields j ≡ Some f → slice_get t.fields k ≡ Some g → field_id t.name f ≡ field_id t.name g → j ≡ k) where
-  module _ (before after : List Held) (id : MemberId) (k : ℕ) (h : Held) (made : List MemberId) (open_one : IsOpen t before id k) (some : h ≡ held.Nothing → ⊥) (fits_in : Right (let f = open_one.field in f.desc) h) (rest : Puts t (slice_set before k h) after made) where
+module _ (files : Files) (image : StaticImage) (n : ℕ) (t : ClassTree) (fields_once : (j k : ℕ) (f g : FieldTree) → slice_get t.fields j ≡ Some f → slice_get t.fields k ≡ Some g → field_id t.name f ≡ field_id t.name g → j ≡ k) where
+  module _ (before after : List Held) (id : MemberId) (k : ℕ) (h : Held) (made : List MemberId) (open_one : IsField files image n t before id k) (some : h ≡ held.Nothing → ⊥) (fits_in : Right (let f = open_one.field in f.desc) h) (rest : Puts t (slice_set before k h) after made) where
     put_here : slice_get (slice_set before k h) k ≡ Some h
     put_here = set_same before k h held.Nothing open_one.unput
 
@@ -200,18 +202,18 @@ module _ (t : ClassTree) (fields_once : (j k : ℕ) (f g : FieldTree) → slice_
     array_put : h ≡ held.Array → Puts t before after (own_field t id ∷ made)
     array_put is_array = record {
       apart = apart_cons (own_field t id) made (λ e. (let r = rest.of (own_field t id) e in
-          let same = fields_once k r.0 open_one.field r.1 open_one.there r.2 (sym open_one.named ∙ sym r.4) in
+          let same = fields_once k r.0 open_one.field r.1 open_one.there r.2 (open_one.named ∙ sym r.4) in
           let both : Some h ≡ Some held.Nothing = sym put_here ∙ ap (slice_get (slice_set before k h)) same ∙ r.5 in
           let is : h ≡ held.Nothing = cc in
           some is)) rest.apart;
       of = λ m e. ⊎_elim
-          (λ same. (k, open_one.field, open_one.there, open_one.has_cell, sym open_one.named ∙ same, open_one.unput, rest.kept k h put_here some ∙ ap (λ q. Some q) is_array))
+          (λ same. (k, open_one.field, open_one.there, open_one.is_cell, open_one.named ∙ same, open_one.unput, rest.kept k h put_here some ∙ ap (λ q. Some q) is_array))
           (λ f. put_of m f) (one_or m (own_field t id) made e);
       kept = put_kept;
       new = λ j g e f. ⊎_elim
           (λ a. ⊎_elim (λ same. (let fields : Some open_one.field ≡ Some g = sym open_one.there ∙ ap (slice_get t.fields) same ∙ e in
           let is : open_one.field ≡ g = cc in
-          inr (subst (λ m. is_one_of m (own_field t id ∷ made) ≡ true) (open_one.named ∙ ap (λ (v : FieldTree). field_id t.name v) is) (one_here (own_field t id) made))))
+          inr (subst (λ m. is_one_of m (own_field t id ∷ made) ≡ true) (sym open_one.named ∙ ap (λ (v : FieldTree). field_id t.name v) is) (one_here (own_field t id) made))))
           (λ differs. inl (sym (set_other before k j h differs) ∙ a)) (place_or k j))
           (λ b. inr (one_later (field_id t.name g) (own_field t id) made b)) (rest.new j g e f);
       right = put_right;
@@ -252,11 +254,11 @@ module _ (list : List ℕ) (p : Package) (sound : IsSound list p.files) where
   }
   puts_are n t is_class before after ops ps (puts {made = made} {ops = more} {contents = contents} {id = id} {k = k} {rest = rest} makes place next) =
       let q = taken (takes contents id.desc) (open_place p.files n t before id) k place in
-      let o = open_field list p.files sound n t before id k is_class q.1 in
+      let o = place-field p.files p.image n t before id k is_class q.1 in
       let fits_in = subst (λ d. Right d (held_by contents)) (sym o.desc) (right_put made contents id.desc makes q.0) in
       by contents o fits_in (puts_are n t is_class (slice_set before k (held_by contents)) after more rest next)
     where
-      by : (contents : Contents) (o : IsOpen t before id k) → Right (let f = o.field in f.desc) (held_by contents) → Puts t (slice_set before k (held_by contents)) after (fields_of (arrays_of t rest)) → Puts t before after (fields_of (array_in (own_field t id) contents ++ arrays_of t rest))
-      by (ANumber z) o f r = plain_put t (fields_once n t is_class) before after id k (held.Number z) (fields_of (arrays_of t rest)) o (λ e. cc) f r (λ e. cc)
-      by ANull o f r = plain_put t (fields_once n t is_class) before after id k held.Null (fields_of (arrays_of t rest)) o (λ e. cc) f r (λ e. cc)
-      by (AnArray kind items) o f r = array_put t (fields_once n t is_class) before after id k held.Array (fields_of (arrays_of t rest)) o (λ e. cc) f r refl
+      by : (contents : Contents) (o : IsField p.files p.image n t before id k) → Right (let f = o.field in f.desc) (held_by contents) → Puts t (slice_set before k (held_by contents)) after (fields_of (arrays_of t rest)) → Puts t before after (fields_of (array_in (own_field t id) contents ++ arrays_of t rest))
+      by (ANumber z) o f r = plain_put p.files p.image n t (fields_once n t is_class) before after id k (held.Number z) (fields_of (arrays_of t rest)) o (λ e. cc) f r (λ e. cc)
+      by ANull o f r = plain_put p.files p.image n t (fields_once n t is_class) before after id k held.Null (fields_of (arrays_of t rest)) o (λ e. cc) f r (λ e. cc)
+      by (AnArray kind items) o f r = array_put p.files p.image n t (fields_once n t is_class) before after id k held.Array (fields_of (arrays_of t rest)) o (λ e. cc) f r refl

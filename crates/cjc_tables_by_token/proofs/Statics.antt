@@ -23,6 +23,7 @@ use Rattle.cjc_clinit.specs.Initialiser.{nothing_in}
 use Rattle.cjc_ncode.specs.ByLabel.{shown_slot}
 use Rattle.cjc_ncode.specs.PoolOrder.{same_member}
 use Rattle.cjc_lower.specs.Agreement.{Cells}
+use Rattle.cjc_clinit_laws.specs.Values.{StandOnce}
 use Rattle.cjc_by_token.specs.Cells.{HasCells, IsOrder, Order, are_apart, are_cells, cell_names, cell_of, fields, is_number, is_one_of, letter, letter_by, width}
 use Rattle.cjc_by_token.specs.Cells as tokens
 use Rattle.cjc_by_token.specs.Objects.{is_reference as is_reference_sort}
@@ -34,7 +35,7 @@ use Rattle.cjc_components.specs.Statics as components
 use Rattle.cjc_paired.specs.Naming.{cell_name, cells_in}
 use Rattle.cjc_tables_by_token.specs.Known.{order_of, statics_in, statics_of}
 use Rattle.cjc_tables_by_token.specs.Loading.{loaded, part}
-use Rattle.cjc_tables_by_token.specs.Sound.{AreTyped, IsSound, StandOnce}
+use Rattle.cjc_tables_by_token.specs.Sound.{AreTyped, IsSound}
 use Rattle.cjc_tables_by_token.proofs.Groups.{GroupsAre, chosen_apart, chosen_has, chosen_is, chosen_of, groups_are, is_null_start, is_other_start, is_zero_start, null_at, other_at, start_at, statics_are, zero_at}
 use Rattle.cjc_tables_by_token.proofs.Initials.{IsAt, Made, all_right, array_held, held_at, made_in_all, one_place}
 use Rattle.cjc_tables_by_token.proofs.Puts.{Right, apart_append, one_back, one_either, one_front}

@@ -23,6 +23,7 @@ use Rattle.cjc_narrow.specs.Package.{name_there, named, named_by, plain_import, 
 use Rattle.cjc_narrow.specs.Package as narrow
 use Rattle.cjc_lower.specs.Agreement.{known_by}
 use Rattle.cjc_lower.specs.Naming.{IsClass as MeansClass}
+use Rattle.cjc_clinit_laws.specs.Values.{StandOnce}
 use Rattle.cjc_by_token.specs.Classes.{SaysClasses, memories, tests}
 use Rattle.cjc_by_token.specs.Names.{IsImport, NamesAgree}
 use Rattle.cjc_by_token.specs.Objects.{slots_of}
@@ -37,7 +38,7 @@ use Rattle.cjc_components.specs.Class.{class_entry, interface_entry}
 use Rattle.cjc_components.specs.Names.{class_at, class_ref, ref_to}
 use Rattle.cjc_tables_by_token.specs.Known.{is_holder, known_names, may_hold, may_name, same_members}
 use Rattle.cjc_tables_by_token.specs.Loading.{loaded, naming, part}
-use Rattle.cjc_tables_by_token.specs.Sound.{AreTyped, IsSound, StandOnce}
+use Rattle.cjc_tables_by_token.specs.Sound.{AreTyped, IsSound}
 use Rattle.cjc_tables_by_token.specs.Tables.{ClassTablesAgree}
 use Rattle.cjc_tables_by_token.proofs.Above.{entry_of_name, info_of_name, says_kinds}
 use Rattle.cjc_tables_by_token.proofs.Infos.{none_at_zero}

@@ -1,12 +1,12 @@
 -- Packages of read files that break no rule of classes and names.
-use Rattle.std.specs.Prelude.{◌≡◌, ◌≤◌, ℕ, List, [], length, count_by, not, false, slice_get, Some, true, is_some}
+use Rattle.std.specs.Prelude.{◌≡◌, ◌≤◌, ◌<◌, ◌^◌, ℕ, List, [], length, count_by, not, false, slice_get, Some, true, is_some}
+use Rattle.cjc_bytes.specs.Descriptor.{Parts}
+use Rattle.cjc_bytes.specs.Spots.{desc_of}
 use Rattle.cjc_bytes.specs.declared.settings.FileLine.{FileLine}
 use Rattle.cjc_export.specs.declared.tree.ExportClass.{ExportClass}
 use Rattle.cjc_card.specs.ByToken.{letter_of}
 use Rattle.cjc_classfile.specs.declared.tree.ClassTree.{ClassTree}
 use Rattle.cjc_classfile.specs.declared.tree.FieldTree.{FieldTree}
-use Rattle.cjc_clinit.specs.Image.{initialised}
-use Rattle.cjc_code.specs.declared.method_code.MethodCode.{MethodCode}
 use Rattle.cjc_script.specs.Sorts.{field_sort}
 use Rattle.cjc_tokens.specs.Fields.{is_reference}
 use Rattle.cjc_by_token.specs.Objects.{is_reference as is_reference_sort}
@@ -39,6 +39,13 @@ pub record IsTyped (desc : List ℕ) : Type 0 where
 abbrev pub AreTyped : Files → Type 0
 AreTyped files = (n k : ℕ) (c : ClassTree) (f : FieldTree) → slice_get files.classes n ≡ Some c → slice_get c.fields k ≡ Some f → IsTyped f.desc
 
--- each class's initialiser stands once among these codes
-abbrev pub StandOnce : Files → List MethodCode → Type 0
-StandOnce files codes = (i j : ℕ) (a b : MethodCode) (c d : ClassTree) → slice_get codes i ≡ Some a → slice_get codes j ≡ Some b → initialised files a ≡ Some c → initialised files b ≡ Some d → a.class ≡ b.class → i ≡ j
+-- The descriptor of a field, as a class file gives it: one of a field, which 32 bits count.
+pub record IsFieldDesc (desc : List ℕ) : Type 0 where
+  pub parts : Parts
+  pub is_desc : desc_of desc ≡ Some parts
+  pub is_field : parts.is_method ≡ false
+  pub short : length desc < 2 ^ 32
+
+-- each field of the class files has such a descriptor
+abbrev pub AreFieldDescs : Files → Type 0
+AreFieldDescs files = (n k : ℕ) (c : ClassTree) (f : FieldTree) → slice_get files.classes n ≡ Some c → slice_get c.fields k ≡ Some f → IsFieldDesc f.desc

@@ -3,20 +3,26 @@
 //! definitions and laws alone, and knows no instruction.
 #![tactic(auto)]
 
-ghost use Rattle.std.specs.Prelude.{◌≡◌, ℕ, Bool, List, Some, None, slice_get, true, false};
+ghost use Rattle.std.specs.Prelude.{◌≡◌, ℕ, Bool, List, [], map, Some, None, slice_get, true, false};
 ghost use Rattle.cjc_classfile.specs.declared.tree.ClassTree.{ClassTree};
 ghost use Rattle.cjc_classfile.specs.declared.tree.FieldTree.{FieldTree};
 ghost use Rattle.cjc_bytes.specs.declared.fault.MemberId.{MemberId};
 ghost use Rattle.cjc_code.specs.declared.method_code.MethodCode.{MethodCode};
 ghost use Rattle.cjc_world.specs.Classes.{Class, class_named};
+ghost use Rattle.cjc_world.specs.Files.{Files};
 ghost use Rattle.cjc_world.specs.Order.{class_order};
+ghost use Rattle.cjc_subset.specs.Checks.{check_breaks};
+ghost use Rattle.cjc_bytes.specs.declared.settings.Settings.{Settings};
 ghost use Rattle.cjc_sentences.specs.Complete.{complete};
 ghost use Rattle.cjc_tokens.specs.Fields.{instance_token, is_instance};
 ghost use Rattle.cjc_clinit.specs.Image.{IsImage, field_id};
+ghost use Rattle.cjc_clinit_laws.specs.Values.{StandOnce};
 ghost use Rattle.cjc_by_name.specs.Linked.{Method};
 ghost use Rattle.cjc_ncode.specs.ByLabel.{Callee, Named};
 ghost use Rattle.cjc_ncode.specs.declared.narrow.NMethod.{NMethod};
-ghost use Rattle.cjc_narrow.specs.Package.{named};
+ghost use Rattle.cjc_narrow.specs.Package.{first_memory, named};
+ghost use Rattle.cjc_bytecode.specs.Renaming.{heap_object_as};
+ghost use Rattle.cjc_card.specs.Statics.{first_arrays};
 ghost use Rattle.cjc_lower.specs.Agreement.{IsKnownCall, KnownNames, Memories, TablesAgree, known_by};
 ghost use Rattle.cjc_lower.specs.ByPlace.{Methods};
 ghost use Rattle.cjc_lower.specs.Naming.{Naming};
@@ -24,18 +30,18 @@ ghost use Rattle.cjc_lower.specs.Placed.{Placed};
 ghost use Rattle.cjc_by_token.specs.Cells.{HasCells, cell_offset};
 ghost use Rattle.cjc_by_token.specs.Classes.{memories, tests};
 ghost use Rattle.cjc_by_token.specs.Names.{HasLang, NamesAgree, SaysNames};
-ghost use Rattle.cjc_by_token.specs.Objects.{HasObjects};
+ghost use Rattle.cjc_by_token.specs.Objects.{HasObjects, slots_of};
 ghost use Rattle.cjc_by_token.specs.Supers.{KindsAgree, SaysKinds};
 ghost use Rattle.cjc_components.specs.Package.{Package, world};
 ghost use Rattle.cjc_components.specs.Components.{components_of};
-ghost use Rattle.cjc_components.specs.Names.{field_token};
+ghost use Rattle.cjc_components.specs.Names.{class_at, field_token};
 ghost use Rattle.cjc_components.specs.Statics.{cell_offset as written_offset};
 ghost use Rattle.cjc_component_laws.specs.OwnNames.{HaveOwnNames};
 ghost use Rattle.cjc_tables_by_token.specs.Infos.{HasEntry, HasInfo, HasNone};
 ghost use Rattle.cjc_tables_by_token.specs.Kept.{KeepsRules};
 ghost use Rattle.cjc_tables_by_token.specs.Known.{known_names, may_hold, may_name, order_of, statics_of};
-ghost use Rattle.cjc_tables_by_token.specs.Loading.{components, naming, part};
-ghost use Rattle.cjc_tables_by_token.specs.Sound.{AreTyped, IsSound, StandOnce};
+ghost use Rattle.cjc_tables_by_token.specs.Loading.{components, loaded, naming, part};
+ghost use Rattle.cjc_tables_by_token.specs.Sound.{AreFieldDescs, AreTyped, IsSound};
 ghost use Rattle.cjc_tables_by_token.specs.Tables.{CallTablesAgree, ClassTablesAgree};
 
 /// What is loaded is what is written for a package: none of its components is absent.
@@ -70,6 +76,11 @@ pub fn classes_are_told()
     ensures agree { (list : List ℕ) (p : Package) → IsSound list p.files → NamesAgree (world p) (naming p) }
 {}
 
+/// Where 301 is not broken, each field whose descriptor is a field's is of a type that values have.
+pub fn fields_are_typed()
+    ensures { (list : List ℕ) (files : Files) (codes : List MethodCode) (settings : Settings) → AreFieldDescs files → check_breaks list files codes settings ≡ [] → AreTyped files }
+{}
+
 /// An instance field has the token that its class gives it, and an object of a class has by token the fields that
 /// it has by name.
 pub fn objects_are_told()
@@ -82,6 +93,11 @@ pub fn objects_are_told()
 pub fn static_fields_are_told()
     ensures cells { (list : List ℕ) (p : Package) (codes : List MethodCode) → IsSound list p.files → AreTyped p.files → IsImage p.files codes p.image → StandOnce p.files codes → HasCells (order_of p.image) (statics_of (let files = p.files in files.classes)) }
     ensures offsets { (list : List ℕ) (p : Package) (codes : List MethodCode) → IsSound list p.files → AreTyped p.files → IsImage p.files codes p.image → StandOnce p.files codes → (f : MemberId) → written_offset p.image f ≡ cell_offset (order_of p.image) f }
+{}
+
+/// The arrays that the static image makes before the first entry are the same by name and by token.
+pub fn arrays_begin_alike()
+    ensures { (p : Package) (codes : List MethodCode) → IsImage p.files codes p.image → (let l = loaded p in first_arrays l.parts) ≡ map (heap_object_as (class_at p) (slots_of (naming p))) (let m = first_memory p.files p.image in m.heap) }
 {}
 
 /// All that the run of narrow code by label and the run of components by token ask of classes, objects, static
