@@ -7,5 +7,7 @@ mod Coded
 mod Same
 mod Own
 pub mod Again
-mod Ownership
+pub mod Ownership
 mod Spotted
+pub mod Alike
+mod Laid

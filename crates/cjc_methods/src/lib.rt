@@ -4,6 +4,7 @@
 #![tactic(auto)]
 
 mod codes;
+mod laws;
 mod method;
 mod order;
 mod places;
@@ -12,5 +13,6 @@ mod selecting;
 mod words;
 
 pub use codes::narrow_codes;
+pub use laws::{codes_are_by_their_own_pool, methods_can_be_laid_out};
 pub use order::{method_order, methods_are_own};
-pub use words::test_words;
+pub use words::{method_spot, test_words};

@@ -5,7 +5,8 @@ ghost use Rattle.std.specs.Prelude.{◌≡◌, ◌∷◌, [], All, map, Some, If
 ghost use Rattle.cjc_bytes.specs.Breaks.{IsFirstOf, IsFirstRefusal, each};
 ghost use Rattle.cjc_bytes.specs.Told.{break_of, spot_of};
 ghost use Rattle.cjc_world.specs.Classes.{Class, Member, all_classes, class_at};
-ghost use Rattle.cjc_components.specs.Limits.{of_methods, word_breaks};
+ghost use Rattle.cjc_components.specs.Descriptor.{method_in};
+ghost use Rattle.cjc_components.specs.Limits.{method_spot, of_methods, word_breaks};
 ghost use Rattle.cjc_components.specs.Package.{Package};
 ghost use Rattle.cjc_methods.specs.Ready.{IsOwn};
 ghost use Rattle.cjc_methods.specs.Words.{HasRoom};
@@ -81,4 +82,14 @@ pub fn test_words(alloc: Global, world: &World<'_>, members: &[Found]) -> Result
 {
     let broken = first_break(world, members)?;
     answer(alloc, broken)
+}
+
+/// The place of an offset in the code of a method of a package, for whoever tells a rule that it breaks. One that
+/// its class gets has no place of its own, and stands at the class.
+pub fn method_spot<'w>(world: &'w World<'_>, member: Found, offset: u32) -> Spot<'w>
+    requires { IsOwn world.now member }
+    ensures { (p : Package) (c : Class) → p.files ≡ world.now → class_at (all_classes world.now) member.imported member.class ≡ Some c → spot_of result ≡ method_spot p c member (method_in (all_classes world.now) c member.member) offset }
+{
+    let method = method_in(world, member);
+    spot_in(world, member, method, offset)
 }

@@ -1,0 +1,22 @@
+//! How an instruction that sees a frame's words alone ends.
+
+use cjc_frame::Exception;
+
+/// How a calculation ends, beside what it has changed in its frame itself.
+#[derive(Clone, Copy)]
+pub enum Ending {
+    /// The words are as the instruction leaves them.
+    Fine,
+    /// An exception of the machine's own.
+    Fails(Exception),
+    /// Nothing applies: an operand is missing or of another kind, or there is no room.
+    Wrong,
+}
+
+/// What a condition tells of the operands that it takes.
+#[derive(Clone, Copy)]
+pub enum Choice {
+    Takes(bool),
+    /// An operand is missing or of another kind.
+    Neither,
+}

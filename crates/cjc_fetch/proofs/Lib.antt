@@ -1,0 +1,3 @@
+pub mod Fetching
+pub mod Pairs
+pub mod Ranges

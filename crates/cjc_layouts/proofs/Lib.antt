@@ -1,0 +1,4 @@
+pub mod Kept
+mod Refusing
+mod Tested
+pub mod Standing

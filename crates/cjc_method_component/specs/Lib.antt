@@ -1,0 +1,2 @@
+pub mod Emittable
+pub mod Working

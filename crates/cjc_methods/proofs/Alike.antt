@@ -1,0 +1,48 @@
+-- The narrow code of a package's methods is the same by any rows that their types stand for.
+use Rattle.std.proofs.Common.{◌≡◌, ℕ, ◌-◌, ◌<◌, refl, sym, ap, subst, ◌∙◌, ⊎_elim, arith, List, [], ◌∷◌, length}
+use Rattle.std.specs.Prelude.{map, slice_get, All, Option, Some, None}
+use Rattle.std.proofs.lemmas.List.Elements.{All-head, All-tail}
+use Rattle.std.proofs.lemmas.Option.{slice_get_cases, slice_get_within}
+use Rattle.cjc_bytes.specs.declared.fault.MemberId.{MemberId}
+use Rattle.cjc_classfile.specs.declared.tree.ClassTree.{ClassTree}
+use Rattle.cjc_code.specs.declared.method_code.MethodCode.{MethodCode}
+use Rattle.cjc_types.specs.declared.state.State.{State}
+use Rattle.cjc_types.specs.declared.table.TypeTable.{TypeTable}
+use Rattle.cjc_world.specs.declared.found.Found.{Found}
+use Rattle.cjc_world.specs.Classes.{declared}
+use Rattle.cjc_world.specs.Files.{Files}
+use Rattle.cjc_by_name.specs.Linked.{Method}
+use Rattle.cjc_components.specs.Written.{code_at}
+use Rattle.cjc_methods.specs.Ready.{AreReady, AreRows, IsOwn}
+use Rattle.cjc_methods.specs.Working.Places.{HasPlace, IsPlaced, class_places, place_in}
+use Rattle.cjc_methods.proofs.Coded.{with_code, without_code}
+use Rattle.cjc_methods.proofs.Own.{tree_at}
+use Rattle.cjc_methods.proofs.Placing.{placed}
+
+module _ (files : Files) (codes : List MethodCode) (types : List TypeTable) (ready : AreReady files codes types) (rows others : Method → List (Option State)) (are : AreRows files codes types rows) (these : AreRows files codes types others) (near : List MemberId) where
+  one_alike : (f : Found) → IsOwn files f → code_at files near rows f ≡ code_at files near others f
+  one_alike f own =
+      let (t, is, same) = tree_at files f own in
+      let i = f.member - length t.fields in
+      by t is (same own.class own.is_class) (place_in (class_places 0 files.classes) f.class i) (placed files codes types f.class i t ready is)
+    where
+      table : (k : ℕ) (t : ClassTree) → slice_get files.classes f.class ≡ Some t → (h : HasPlace files codes f.class (f.member - length t.fields) k) → k < length types → code_at files near rows f ≡ code_at files near others f
+      table k t is h lt =
+          ⊎_elim
+          (λ there.
+          let (x, within, e, read) = there in
+          with_code files near rows codes types ready are f t k own.own is h x e ∙ sym (with_code files near others codes types ready these f t k own.own is h x e))
+          (λ past. absurd (let le = past.0 in omega (arith, lt, le)))
+          (slice_get_cases types k).1
+      by : (t : ClassTree) → slice_get files.classes f.class ≡ Some t → own.class ≡ declared f.class t → (o : Option ℕ) → IsPlaced files codes f.class (f.member - length t.fields) o → code_at files near rows f ≡ code_at files near others f
+      by t is same None none =
+          without_code files near rows codes types ready f t own.class own.own is own.is_class same none ∙ sym (without_code files near others codes types ready f t own.class own.own is own.is_class same none)
+      by t is same (Some k) h =
+          let within = slice_get_within codes k h.code h.is_code in
+          table k t is h (subst (λ n. k < n) (sym ready.count) within)
+
+  pub all_alike : (members : List Found) → All (IsOwn files) members → map (code_at files near rows) members ≡ map (code_at files near others) members
+  all_alike [] own = refl
+  all_alike (f ∷ fs) own =
+      ap (λ c. c ∷ map (code_at files near rows) fs) (one_alike f (All-head (IsOwn files) f fs own))
+      ∙ ap (λ cs. code_at files near others f ∷ cs) (all_alike fs (All-tail (IsOwn files) f fs own))
