@@ -1,4 +1,4 @@
-mod Dispatch
-mod Selections
-mod Reaching
-mod Towers
+pub mod Dispatch
+pub mod Selections
+pub mod Reaching
+pub mod Towers

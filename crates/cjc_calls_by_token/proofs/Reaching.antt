@@ -33,7 +33,7 @@ use Rattle.cjc_lower.specs.Naming.{Naming, callee}
 use Rattle.cjc_lower.specs.Placed.{Placed, code_of, offset_of}
 use Rattle.cjc_calls_by_token.specs.Dispatching.{event, selection_of}
 use Rattle.cjc_calls_by_token.specs.Selecting.{signature, SaysInterface, SelectionsAgree}
-use Rattle.cjc_calls_by_token.specs.Reaching.{start_placed, reached_placed, reached_at, placed_methods, SaysReceiver, BeginsAtOffsets, VirtualCallsReach, SaysFixed, FixedCallsReach, SaysSuper, SuperCallsReach, InterfaceCallReaches, SaysOutside}
+use Rattle.cjc_calls_by_token.specs.Reaching.{start_placed, reached_placed, reached_at, placed_methods, SaysReceiver, StandsInMethod, BeginsAtOffsets, VirtualCallsReach, SaysFixed, FixedCallsReach, SaysSuper, SuperCallsReach, InterfaceCallReaches, SaysOutside}
 
 -- ---- methods where they stand
 
@@ -74,10 +74,10 @@ selects_itself : (w : List Class) (x : List ℕ) (m : MemberId) → receiver x �
 unfolding selected
 selects_itself w x m same = ap (λ y. first (own_method true m.name m.desc) (line w y)) same
 
-module _ (files : Files) (n : Naming) (offset : Found → ℕ) (place : Method → Placed) (begins : BeginsAtOffsets files n offset place) where
+module _ (files : Files) (w : List Class) (n : Naming) (offset : Found → ℕ) (place : Method → Placed) (begins : BeginsAtOffsets files w n offset place) where
   -- a method that is found is reached where it begins, or by its event
-  found_reached : (z : List ℕ) (m : MemberId) (f : Found) (r : Reached Placed) → reached_placed place (callee_at files z m f) ≡ r → IsFound r → reached_by n.loaded (selection_of n offset z (signature m) f) ≡ reached_as (code_of n) (offset_of n) r
-  found_reached z m f r e is = by f.imported refl e
+  found_reached : (z : List ℕ) (m : MemberId) (f : Found) (r : Reached Placed) → StandsInMethod w f → reached_placed place (callee_at files z m f) ≡ r → IsFound r → reached_by n.loaded (selection_of n offset z (signature m) f) ≡ reached_as (code_of n) (offset_of n) r
+  found_reached z m f r stands e is = by f.imported refl e
     where
       by : (t : Bool) → f.imported ≡ t → reached_placed place (if t then Some (Linked.Abroad (of_class z m)) else option_map Inside (method_at files f)) ≡ r
           → reached_by n.loaded (if t then Outward (event z (signature m)) else At n.part (offset f)) ≡ reached_as (code_of n) (offset_of n) r
@@ -86,14 +86,14 @@ module _ (files : Files) (n : Naming) (offset : Found → ℕ) (place : Method �
         where
           split : (o : Option Method) → method_at files f ≡ o → reached_placed place (option_map Inside o) ≡ r → with_code (start_of n.loaded n.part (offset f)) ≡ reached_as (code_of n) (offset_of n) r
           split None there g = absurd (subst IsFound (sym g) is)
-          split (Some k) there g = ap with_code (begins f k there) ∙ ap (reached_as (code_of n) (offset_of n)) g
+          split (Some k) there g = ap with_code (begins f k (stands own) there) ∙ ap (reached_as (code_of n) (offset_of n)) g
 
-module _ (files : Files) (w : List Class) (n : Naming) (offset : Found → ℕ) (place : Method → Placed) (begins : BeginsAtOffsets files n offset place) (x z : List ℕ) (says : SaysReceiver w x z) (selections : SelectionsAgree w n offset x z) where
+module _ (files : Files) (w : List Class) (n : Naming) (offset : Found → ℕ) (place : Method → Placed) (begins : BeginsAtOffsets files w n offset place) (x z : List ℕ) (says : SaysReceiver w x z) (selections : SelectionsAgree w n offset x z) where
   selects : (m : MemberId) → select_in w x m ≡ selection w x (signature m)
   selects m = selects_itself w x m says.itself
 
   pub virtual_calls_reach : VirtualCallsReach files w n place x
-  virtual_calls_reach m d r known token e is = by (is_subtype w x m.class) refl e
+  virtual_calls_reach m d r known class_here plain token e is = by (is_subtype w x m.class) refl e
     where
       by : (t : Bool) → is_subtype w x m.class ≡ t → (if t then reached_placed place (selected_on files w (OnObject m) x) else Nowhere) ≡ r
           → reached_by n.loaded (dispatched (tower n.loaded (n.class x)) (n.dispatch_token m)) ≡ reached_as (code_of n) (offset_of n) r
@@ -107,8 +107,8 @@ module _ (files : Files) (w : List Class) (n : Naming) (offset : Found → ℕ) 
           split None there g = absurd (subst IsFound (sym g) is)
           split (Some f) there g =
               let first_one : first_imported (line w (receiver x)) ≡ z = ap (λ y. first_imported (line w y)) says.itself ∙ says.imported in
-              ap (reached_by n.loaded) (selections.virtual_call m d f known (says.climbs m.class d known sub) token there (says.found m f there))
-              ∙ found_reached files n offset place begins z m f r (ap (λ c. reached_placed place (callee_at files c m f)) (sym first_one) ∙ g) is
+              ap (reached_by n.loaded) (selections.virtual_call m d f known (says.climbs m.class d known class_here sub) token there (says.found m f there))
+              ∙ found_reached files w n offset place begins z m f r (says.written m f plain there) (ap (λ c. reached_placed place (callee_at files c m f)) (sym first_one) ∙ g) is
 
   -- a call of an interface's method, on an object of the package
   pub interface_call_reaches : (m : MemberId) (c : Class) → class_named w x ≡ Some c → c.is_imported ≡ false → is_abstract c.flags ≡ false → SaysInterface w n m c → InterfaceCallReaches files w n place x m
@@ -134,7 +134,7 @@ module _ (files : Files) (w : List Class) (n : Naming) (offset : Found → ℕ) 
           split (Some f) found g =
               let first_one : first_imported (line w (receiver x)) ≡ z = ap (λ y. first_imported (line w y)) says.itself ∙ says.imported in
               ap (reached_by n.loaded) (selections.interface_call m c f known own made has found (says.found m f found))
-              ∙ found_reached files n offset place begins z m f r (ap (λ y. reached_placed place (callee_at files y m f)) (sym first_one) ∙ g) is
+              ∙ found_reached files w n offset place begins z m f r (says.written m f has.plain found) (ap (λ y. reached_placed place (callee_at files y m f)) (sym first_one) ∙ g) is
 
 -- ---- other calls
 
@@ -153,7 +153,7 @@ outside_call_reaches files w n place x m says words r e is = by (is_subtype w x 
     by false h = absurd (subst IsFound (sym h) is)
     by true h = ap (reached_by n.loaded) asked ∙ ap (reached_as (code_of n) (offset_of n)) (ap (reached_placed place) (sym outside) ∙ h)
 
-module _ (files : Files) (w : List Class) (n : Naming) (offset : Found → ℕ) (place : Method → Placed) (begins : BeginsAtOffsets files n offset place) where
+module _ (files : Files) (w : List Class) (n : Naming) (offset : Found → ℕ) (place : Method → Placed) (begins : BeginsAtOffsets files w n offset place) where
   -- a static method, a constructor or a private method
   pub fixed_calls_reach : (on : Bool) (m : MemberId) → SaysFixed w n offset on m → FixedCallsReach files w n place on m
   fixed_calls_reach on m says o r e is = by o e
@@ -165,9 +165,10 @@ module _ (files : Files) (w : List Class) (n : Naming) (offset : Found → ℕ) 
               → reached_by n.loaded (chosen n.loaded (n.fixed on m) receiver_class) ≡ reached_as (code_of n) (offset_of n) r
           split None found g = absurd (subst IsFound (sym g) is)
           split (Some f) found g =
-              ap (λ c. reached_by n.loaded (chosen n.loaded c receiver_class)) (says f found)
+              let told = says f found in
+              ap (λ c. reached_by n.loaded (chosen n.loaded c receiver_class)) told.0
               ∙ ap (reached_by n.loaded) (by_import f.imported)
-              ∙ found_reached files n offset place begins m.class m f r g is
+              ∙ found_reached files w n offset place begins m.class m f r told.1 g is
             where
               by_import : (t : Bool) → chosen n.loaded (if t then operations.Outer on m else operations.Fixed on n.part (offset f)) receiver_class ≡ (if t then Outward m else At n.part (offset f))
               by_import true = refl
@@ -206,7 +207,7 @@ module _ (files : Files) (w : List Class) (n : Naming) (offset : Found → ℕ) 
               ap (λ t. reached_by n.loaded (dispatched t (n.dispatch_token m))) says.tables
               ∙ ap (λ t. reached_by n.loaded (dispatched (tower n.loaded (n.class super)) t)) says.same_token
               ∙ ap (reached_by n.loaded) (selections.virtual_call (of_class super m) known.0 f known.1 itself says.token found (says.found f found))
-              ∙ found_reached files n offset place begins z m f r (ap (λ y. reached_placed place (callee_at files y m f)) (sym says.imported) ∙ g) is
+              ∙ found_reached files w n offset place begins z m f r (says.written f found) (ap (λ y. reached_placed place (callee_at files y m f)) (sym says.imported) ∙ g) is
 
       by : (q : Option (Shape (List ℕ))) → reached_at files w place (OnSuper m) q ≡ r → Calls.reached n.loaded (callee n (OnSuper m)) (option_as (shape_as n.class) q) ≡ reached_as (code_of n) (offset_of n) r
       by None h = absurd (subst IsFound (sym h) is)

@@ -1,5 +1,7 @@
 -- What calls reach by name, of methods that know where they stand, and what they reach by token.
-use Rattle.std.specs.Prelude.{◌≡◌, ℕ, List, Option, Some, None, Bool, true, option_map, if◌then◌else◌}
+use Rattle.std.specs.Prelude.{◌≡◌, ℕ, List, Option, Some, None, Bool, true, false, not, ◌&&◌, ◌==◌, option_map, if◌then◌else◌}
+use Rattle.std.specs.List.{list_any}
+use Rattle.cjc_bytes.specs.AccessFlags.{is_interface}
 use Rattle.cjc_bytes.specs.declared.fault.MemberId.{MemberId}
 use Rattle.cjc_script.specs.Sorts.{Shape, OfClass, shape_name}
 use Rattle.cjc_bytecode.specs.Machine.{Start, Reached, Nowhere, Within, Abroad}
@@ -15,10 +17,11 @@ use Rattle.cjc_world.specs.Files.{Files}
 use Rattle.cjc_world.specs.Classes.{Class, all_classes, class_named}
 use Rattle.cjc_world.specs.Kin.{line}
 use Rattle.cjc_world.specs.Lookup.{find_method, receiver}
+use Rattle.cjc_world.specs.Order.{method_order}
 use Rattle.cjc_world.specs.Subtype.{is_subtype}
 use Rattle.cjc_by_name.specs.Linked.{Method, Inside}
 use Rattle.cjc_by_name.specs.Linked
-use Rattle.cjc_by_name.specs.OnePackage.{entry_named, first_imported, first_super, method_at, of_class, sent_named}
+use Rattle.cjc_by_name.specs.OnePackage.{entry_named, first_imported, first_super, is_initialiser, method_at, of_class, sent_named}
 use Rattle.cjc_ncode.specs.ByLabel.{Callee, Fixed, OnObject, OnSuper, OnInterface}
 use Rattle.cjc_narrow.specs.Package.{class_of_callee, on_class, selected_on}
 use Rattle.cjc_vtable.specs.Laws.{Under, selection}
@@ -54,25 +57,41 @@ placed_methods files place = record {
   sent = λ kind id. option_map (start_placed place) (sent_named files (all_classes files) (shape_name kind) id);
 }
 
+-- ---- methods in Method
+
+-- the same method of the package
+abbrev pub is_same : Found → Found → Bool
+is_same f g = not f.imported && f.class == g.class && f.member == g.member
+
+-- A method that stands in Method: of a class of the package that is no interface, and no initialiser.
+abbrev pub is_in_method : List Class → Found → Bool
+is_in_method w f = list_any (is_same f) (method_order w)
+
+-- one of the package does
+abbrev pub StandsInMethod : List Class → Found → Type 0
+StandsInMethod w f = f.imported ≡ false → is_in_method w f ≡ true
+
+-- each of these that a class file has begins on the card at its offset, as it does at its place
+abbrev pub BeginsAtOffsets : Files → List Class → Naming → (offset : Found → ℕ) → (place : Method → Placed) → Type 0
+BeginsAtOffsets files w n offset place =
+    (f : Found) (m : Method) → is_in_method w f ≡ true → method_at files f ≡ Some m → start_of n.loaded n.part (offset f) ≡ Some (start_on_card n m.is_abstract (place m))
+
 -- ---- virtual calls
 
 -- A class whose objects receive virtual calls, and the imported class that their events name.
 pub record SaysReceiver (w : List Class) (x z : List ℕ) : Type 0 where
   pub itself : receiver x ≡ x
   pub imported : first_imported (line w x) ≡ z
-  -- a class that it is of stands at or above it over superclasses
-  pub climbs : (y : List ℕ) (d : Class) → class_named w y ≡ Some d → is_subtype w x y ≡ true → Under w x y
+  -- a class that it is of, no interface, stands at or above it over superclasses
+  pub climbs : (y : List ℕ) (d : Class) → class_named w y ≡ Some d → is_interface d.flags ≡ false → is_subtype w x y ≡ true → Under w x y
   -- what is selected has the name and the descriptor that are sought
   pub found : (m : MemberId) (f : Found) → selection w x (signature m) ≡ Some f → named w f ≡ Some (signature m)
+  pub written : (m : MemberId) (f : Found) → is_initialiser m.name ≡ false → selection w x (signature m) ≡ Some f → StandsInMethod w f
 
--- each method of the package begins on the card at its offset, as it does at its place
-abbrev pub BeginsAtOffsets : Files → Naming → (offset : Found → ℕ) → (place : Method → Placed) → Type 0
-BeginsAtOffsets files n offset place = (f : Found) (m : Method) → method_at files f ≡ Some m → start_of n.loaded n.part (offset f) ≡ Some (start_on_card n m.is_abstract (place m))
-
--- A virtual call on an object of a class reaches by token the method that it reaches by name, or makes the same event.
+-- A virtual call of a method of a class, on an object of a class, reaches by token the method that it reaches by name, or makes the same event.
 abbrev pub VirtualCallsReach : Files → List Class → Naming → (place : Method → Placed) → (x : List ℕ) → Type 0
 VirtualCallsReach files w n place x =
-    (m : MemberId) (d : Class) (r : Reached Placed) → class_named w m.class ≡ Some d → SaysToken w n m → reached_at files w place (OnObject m) (Some (OfClass x)) ≡ r → IsFound r
+    (m : MemberId) (d : Class) (r : Reached Placed) → class_named w m.class ≡ Some d → is_interface d.flags ≡ false → is_initialiser m.name ≡ false → SaysToken w n m → reached_at files w place (OnObject m) (Some (OfClass x)) ≡ r → IsFound r
     → Calls.reached n.loaded (callee n (OnObject m)) (Some (OfClass (n.class x))) ≡ reached_as (code_of n) (offset_of n) r
 
 -- ---- other calls
@@ -80,7 +99,7 @@ VirtualCallsReach files w n place x =
 -- Where a method is found from the class that code names, the card has it at its offset, or as an imported one.
 abbrev pub SaysFixed : List Class → Naming → (offset : Found → ℕ) → (on_object : Bool) → MemberId → Type 0
 SaysFixed w n offset on m =
-    (f : Found) → find_method w m.class m.name m.desc ≡ Some f → n.fixed on m ≡ (if f.imported then card.Outer on m else card.Fixed on n.part (offset f))
+    (f : Found) → find_method w m.class m.name m.desc ≡ Some f → (n.fixed on m ≡ (if f.imported then card.Outer on m else card.Fixed on n.part (offset f))) × StandsInMethod w f
 
 -- A call of a static method, a constructor or a private method reaches by token the method that it reaches by name, or makes the same event.
 abbrev pub FixedCallsReach : Files → List Class → Naming → (place : Method → Placed) → (on_object : Bool) → MemberId → Type 0
@@ -99,6 +118,7 @@ pub record SaysSuper (w : List Class) (n : Naming) (m : MemberId) (super z : Lis
   pub imported : first_imported (line w (receiver super)) ≡ z
   pub itself : receiver super ≡ super
   pub found : (f : Found) → selection w super (signature m) ≡ Some f → named w f ≡ Some (signature m)
+  pub written : (f : Found) → selection w super (signature m) ≡ Some f → StandsInMethod w f
 
 -- A call of a superclass's method reaches by token the method that it reaches by name, or makes the same event.
 abbrev pub SuperCallsReach : Files → List Class → Naming → (place : Method → Placed) → MemberId → Type 0

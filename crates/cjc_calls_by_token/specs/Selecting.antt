@@ -14,6 +14,7 @@ use Rattle.cjc_vtable.specs.Calls.{finds_shown, finds_hidden, selects_shown}
 use Rattle.cjc_vtable.specs.Laws.{Under, selection, interface_named}
 use Rattle.cjc_vtable.specs.Naming.{named}
 use Rattle.cjc_lower.specs.Naming.{Naming}
+use Rattle.cjc_by_name.specs.OnePackage.{is_initialiser}
 use Rattle.cjc_by_token.specs.Supers.{has_class}
 use Rattle.cjc_calls_by_token.specs.Dispatching.{selection_of}
 
@@ -34,6 +35,7 @@ pub record SaysInterface (w : List Class) (n : Naming) (m : MemberId) (c : Class
   pub among : interface_named (known (interfaces_at w c)) m.class ≡ Some interface
   pub there : slice_get (interface_methods w interface) (n.interface_token m) ≡ Some (signature m)
   pub has : has_class w m.class ≡ true
+  pub plain : is_initialiser m.name ≡ false
 
 -- Where a call by name selects a method on an object of a class, the call by token selects it: by its offset, or as the event of
 -- the first imported class at or above the object's class.

@@ -50,27 +50,27 @@ pub fn methods_are_placed()
     ensures { (files : Files) (image : StaticImage) (place : Method → Placed) → MethodsAgree (named files image (λ m. (let p = place m in p.method))) (placed_methods files place) }
 {}
 
-/// A virtual call on an object of a class reaches by token the method that it reaches by name, at its place, or makes the
-/// same event, where each method of the package begins at its offset.
+/// A virtual call of a method of a class, on an object of a class, reaches by token the method that it reaches by name, at its
+/// place, or makes the same event, where each method of Method begins at its offset.
 pub fn virtual_calls_reach()
-    ensures { (files : Files) (w : List Class) (n : Naming) (offset : Found → ℕ) (place : Method → Placed) → BeginsAtOffsets files n offset place → (x z : List ℕ) → SaysReceiver w x z → SelectionsAgree w n offset x z → VirtualCallsReach files w n place x }
+    ensures { (files : Files) (w : List Class) (n : Naming) (offset : Found → ℕ) (place : Method → Placed) → BeginsAtOffsets files w n offset place → (x z : List ℕ) → SaysReceiver w x z → SelectionsAgree w n offset x z → VirtualCallsReach files w n place x }
 {}
 
 /// A call of a static method, a constructor or a private method reaches by token the method that it reaches by name, or makes
 /// the same event, where the card has at its offset, or as an imported one, what is found from the class that code names.
 pub fn fixed_calls_reach()
-    ensures { (files : Files) (w : List Class) (n : Naming) (offset : Found → ℕ) (place : Method → Placed) → BeginsAtOffsets files n offset place → (on : Bool) (m : MemberId) → SaysFixed w n offset on m → FixedCallsReach files w n place on m }
+    ensures { (files : Files) (w : List Class) (n : Naming) (offset : Found → ℕ) (place : Method → Placed) → BeginsAtOffsets files w n offset place → (on : Bool) (m : MemberId) → SaysFixed w n offset on m → FixedCallsReach files w n place on m }
 {}
 
 /// The same of a call of a superclass's method, which is selected from the superclass of the class that holds the code.
 pub fn super_calls_reach()
-    ensures { (files : Files) (w : List Class) (n : Naming) (offset : Found → ℕ) (place : Method → Placed) → BeginsAtOffsets files n offset place → (m : MemberId) (super z : List ℕ) → SaysSuper w n m super z → SelectionsAgree w n offset super z → SuperCallsReach files w n place m }
+    ensures { (files : Files) (w : List Class) (n : Naming) (offset : Found → ℕ) (place : Method → Placed) → BeginsAtOffsets files w n offset place → (m : MemberId) (super z : List ℕ) → SaysSuper w n m super z → SelectionsAgree w n offset super z → SuperCallsReach files w n place m }
 {}
 
 /// The same of a call of an interface's method: on an object of a class of the package that is not abstract, and on one of an
 /// imported class, where it is the event of the interface.
 pub fn interface_calls_reach()
-    ensures inside { (files : Files) (w : List Class) (n : Naming) (offset : Found → ℕ) (place : Method → Placed) → BeginsAtOffsets files n offset place → (x z : List ℕ) → SaysReceiver w x z → SelectionsAgree w n offset x z
+    ensures inside { (files : Files) (w : List Class) (n : Naming) (offset : Found → ℕ) (place : Method → Placed) → BeginsAtOffsets files w n offset place → (x z : List ℕ) → SaysReceiver w x z → SelectionsAgree w n offset x z
         → (m : MemberId) (c : Class) → class_named w x ≡ Some c → c.is_imported ≡ false → is_abstract c.flags ≡ false → SaysInterface w n m c → InterfaceCallReaches files w n place x m }
     ensures outside { (files : Files) (w : List Class) (n : Naming) (place : Method → Placed) (x : List ℕ) (m : MemberId) → SaysOutside w n x m → InterfaceCallReaches files w n place x m }
 {}

@@ -1,0 +1,45 @@
+use Rattle.cjc_components.specs.Package.{world}
+use Rattle.cjc_written_calls.proofs.Fitting.{interface_means, special_fits, static_fits, super_fits, virtual_fits}
+use Rattle.cjc_written_calls.proofs.Known.{facts}
+use Rattle.cjc_written_calls.proofs.Written.{methods_fit}
+use Rattle.cjc_written_calls.proofs.calls_fit_their_keys.Goals as goal
+
+pub returns-clause-virtual_call : goal.returns-clause-virtual_call
+returns-clause-virtual_call c = λ list p sound small keeps keep tokens.
+    let acyclic = keeps.rules.acyclic in
+    let laws = c.lookup_laws.ensures in
+    let dispatch = c.dispatch_laws.ensures in
+    let known = facts list p sound (methods_fit p small) keep keeps (laws.is_kin (world p) acyclic) (laws.one_kin (world p)) (dispatch.virtual_calls (world p) keeps.rules) (dispatch.interface_calls (world p) keeps.rules keeps.interfaces) (c.token_laws.ensures (world p) keeps.rules) in
+    virtual_fits p known tokens
+
+pub returns-clause-super_call : goal.returns-clause-super_call
+returns-clause-super_call c = λ list p sound small keeps keep tokens.
+    let acyclic = keeps.rules.acyclic in
+    let laws = c.lookup_laws.ensures in
+    let dispatch = c.dispatch_laws.ensures in
+    let known = facts list p sound (methods_fit p small) keep keeps (laws.is_kin (world p) acyclic) (laws.one_kin (world p)) (dispatch.virtual_calls (world p) keeps.rules) (dispatch.interface_calls (world p) keeps.rules keeps.interfaces) (c.token_laws.ensures (world p) keeps.rules) in
+    super_fits p known tokens
+
+pub returns-clause-interface_call : goal.returns-clause-interface_call
+returns-clause-interface_call c = λ list p sound small keeps keep tokens.
+    let acyclic = keeps.rules.acyclic in
+    let laws = c.lookup_laws.ensures in
+    let dispatch = c.dispatch_laws.ensures in
+    let known = facts list p sound (methods_fit p small) keep keeps (laws.is_kin (world p) acyclic) (laws.one_kin (world p)) (dispatch.virtual_calls (world p) keeps.rules) (dispatch.interface_calls (world p) keeps.rules keeps.interfaces) (c.token_laws.ensures (world p) keeps.rules) in
+    interface_means p known tokens
+
+pub returns-clause-special_call : goal.returns-clause-special_call
+returns-clause-special_call c = λ list p sound small keeps keep tokens.
+    let acyclic = keeps.rules.acyclic in
+    let laws = c.lookup_laws.ensures in
+    let dispatch = c.dispatch_laws.ensures in
+    let known = facts list p sound (methods_fit p small) keep keeps (laws.is_kin (world p) acyclic) (laws.one_kin (world p)) (dispatch.virtual_calls (world p) keeps.rules) (dispatch.interface_calls (world p) keeps.rules keeps.interfaces) (c.token_laws.ensures (world p) keeps.rules) in
+    special_fits p known tokens
+
+pub returns-clause-static_call : goal.returns-clause-static_call
+returns-clause-static_call c = λ list p sound small keeps keep tokens.
+    let acyclic = keeps.rules.acyclic in
+    let laws = c.lookup_laws.ensures in
+    let dispatch = c.dispatch_laws.ensures in
+    let known = facts list p sound (methods_fit p small) keep keeps (laws.is_kin (world p) acyclic) (laws.one_kin (world p)) (dispatch.virtual_calls (world p) keeps.rules) (dispatch.interface_calls (world p) keeps.rules keeps.interfaces) (c.token_laws.ensures (world p) keeps.rules) in
+    static_fits p known tokens

@@ -1,0 +1,114 @@
+//! Calls of a package's components by token are the calls of its narrow code: where its methods stand in Method and
+//! begin, what its class infos say of their tables, and what each call reaches. Whoever promises that components run
+//! as narrow code cites it. It has definitions and laws alone, and knows no instruction.
+#![tactic(auto)]
+
+ghost use Rattle.std.specs.Prelude.{ℕ, List, Option};
+ghost use Rattle.std.specs.Prelude.{◌≡◌, Some, false};
+ghost use Rattle.cjc_bytecode.specs.Alike.{IsFound, reached_as, start_as};
+ghost use Rattle.cjc_bytes.specs.declared.fault.MemberId.{MemberId as Member};
+ghost use Rattle.cjc_bytecode.specs.Machine.{Reached, Start, Within};
+ghost use Rattle.cjc_bytecode.specs.Renaming.{option_as, shape_as};
+ghost use Rattle.cjc_calls_by_token.specs.Reaching.{BeginsAtOffsets, reached_at};
+ghost use Rattle.cjc_by_name.specs.Linked.{Method};
+ghost use Rattle.cjc_calls_by_token.specs.Reaching as Reaching;
+ghost use Rattle.cjc_card.specs.Calls as Calls;
+ghost use Rattle.cjc_code.specs.declared.method_code.MethodCode.{MethodCode};
+ghost use Rattle.cjc_components.specs.Methods.{method_offset, placed_methods};
+ghost use Rattle.cjc_components.specs.Package.{Package, world};
+ghost use Rattle.cjc_components.specs.Written.{IsPackage};
+ghost use Rattle.cjc_list.specs.Listed.{ListTree};
+ghost use Rattle.cjc_bytecode.specs.Meanings as Meanings;
+ghost use Rattle.cjc_lower.specs.Naming.{Fit, IsClass, callee};
+ghost use Rattle.cjc_ncode.specs.declared.narrow.PoolKey.TheVariants as keys;
+ghost use Rattle.cjc_world.specs.Classes.{Class, class_named};
+ghost use Rattle.cjc_lower.specs.Package.{HoldsMethods};
+ghost use Rattle.cjc_lower.specs.Placed.{Placed, code_of, offset_of};
+ghost use Rattle.cjc_lower.specs.Agreement.{IsAmong};
+ghost use Rattle.cjc_ncode.specs.ByLabel.{Callee};
+ghost use Rattle.cjc_ncode.specs.ByLabel as ByLabel;
+ghost use Rattle.cjc_script.specs.Sorts.{Shape};
+ghost use Rattle.cjc_tables_by_token.specs.Loading.{naming, part};
+ghost use Rattle.cjc_tables_by_token.specs.Sound.{IsSound};
+ghost use Rattle.cjc_world.specs.Files.{Files};
+ghost use Rattle.cjc_vtable.specs.Kept.{Keeps};
+ghost use Rattle.cjc_written_calls.specs.Calls.{ExportsKeep, IsNamed, KeepsSubtypes, KeepsTokens, NoStaticMethods, Receives};
+ghost use Rattle.cjc_written_calls.specs.Standing.{AreMethods, AreReady, IsSmall, place};
+
+use cjc_layout::layouts_are_laid_out;
+use cjc_tables_by_token::classes_are_told;
+use cjc_vtable::{dispatch_laws, token_laws};
+use cjc_world::lookup_laws;
+
+/// Method holds the methods of a package one behind the other, with their handlers in the same order, where each can
+/// be laid out.
+pub fn methods_stand()
+    ensures { (p : Package) → AreReady p → HoldsMethods (naming p) (part p) (placed_methods p) }
+{
+    layouts_are_laid_out();
+}
+
+/// What is written for a package has its methods in the order of Method, abstract where their class files say so.
+pub fn methods_are_in_order<T>()
+    ensures { (list : ListTree) (files : Files) (codes : List MethodCode) (rows : Method → List (Option T)) (p : Package) → IsPackage list files codes rows p → AreMethods p }
+{}
+
+/// Each method of a class file that stands in Method begins on the card at its offset, with what its header says, and
+/// Descriptor lists it there.
+pub fn methods_begin_at_offsets()
+    ensures { (list : List ℕ) (p : Package) → IsSound list p.files → AreReady p → AreMethods p → BeginsAtOffsets p.files (world p) (naming p) (method_offset p) (place p) }
+{
+    layouts_are_laid_out();
+}
+
+/// Whether a call has a receiver is the same by name and by token.
+pub fn calls_take_objects_alike()
+    ensures { (p : Package) (m : Callee) → Calls.on_object (callee (naming p) m) ≡ ByLabel.on_object m }
+{}
+
+/// Each call that narrow code names reaches by token the method that it reaches by name, at its place, or makes the
+/// same event: a static method, a constructor or a private method, a virtual method of a class, one of the
+/// superclass, and one of an interface; on each object, on arrays, and without receiver. What it reaches is one of
+/// the methods of Method.
+pub fn calls_reach()
+    ensures alike { (list : List ℕ) (p : Package) → IsSound list p.files → AreReady p → AreMethods p → IsSmall p → Keeps (world p) → KeepsSubtypes (world p) → KeepsTokens (world p) → ExportsKeep p
+        → (m : Callee) → IsNamed (world p) m → (o : Option (Shape (List ℕ))) → Receives (world p) o → (r : Reached Placed) → reached_at p.files (world p) (place p) m o ≡ r → IsFound r
+        → (let n = naming p in Calls.reached n.loaded (callee n m) (option_as (shape_as n.class) o) ≡ reached_as (code_of n) (offset_of n) r) }
+    ensures there { (list : List ℕ) (p : Package) → IsSound list p.files → AreReady p → AreMethods p → IsSmall p → Keeps (world p) → ExportsKeep p
+        → (m : Callee) → IsNamed (world p) m → (o : Option (Shape (List ℕ))) → Receives (world p) o → (start : Start Placed) → reached_at p.files (world p) (place p) m o ≡ Within start → IsAmong (placed_methods p) start.code }
+{
+    layouts_are_laid_out();
+    dispatch_laws();
+    token_laws();
+    lookup_laws();
+    classes_are_told();
+}
+
+/// A static method that a script calls begins by token as it does by name, and is one of the methods of Method.
+pub fn entries_are_called()
+    ensures alike { (list : List ℕ) (p : Package) → IsSound list p.files → AreReady p → AreMethods p → IsSmall p → Keeps (world p) → ExportsKeep p → NoStaticMethods (world p)
+        → (id : Member) → (let n = naming p in let methods = Reaching.placed_methods p.files (place p) in Calls.called n.loaded id ≡ option_as (start_as (code_of n) (offset_of n)) (methods.called id)) }
+    ensures there { (list : List ℕ) (p : Package) → IsSound list p.files → AreReady p → AreMethods p → IsSmall p → Keeps (world p) → ExportsKeep p → NoStaticMethods (world p)
+        → (id : Member) (start : Start Placed) → (let methods = Reaching.placed_methods p.files (place p) in methods.called id ≡ Some start → IsAmong (placed_methods p) start.code) }
+{
+    layouts_are_laid_out();
+    dispatch_laws();
+    token_laws();
+    lookup_laws();
+    classes_are_told();
+}
+
+/// What the pool's entry of a call names is what the call names: a virtual method of a class by its token, one of the
+/// superclass, the interface of a call of its method, and of the package itself a static method, a constructor or a
+/// private method.
+pub fn calls_fit_their_keys()
+    ensures virtual_call { (list : List ℕ) (p : Package) → IsSound list p.files → IsSmall p → Keeps (world p) → ExportsKeep p → KeepsTokens (world p) → (m : Member) → IsNamed (world p) (ByLabel.OnObject m) → Fit (naming p) (Meanings.Calls Meanings.Virtual) (keys.Virtual m) }
+    ensures super_call { (list : List ℕ) (p : Package) → IsSound list p.files → IsSmall p → Keeps (world p) → ExportsKeep p → KeepsTokens (world p) → (m : Member) → IsNamed (world p) (ByLabel.OnSuper m) → Fit (naming p) (Meanings.Calls Meanings.Special) (keys.Super m) }
+    ensures interface_call { (list : List ℕ) (p : Package) → IsSound list p.files → IsSmall p → Keeps (world p) → ExportsKeep p → KeepsTokens (world p) → (words : ℕ) (m : Member) → IsNamed (world p) (ByLabel.OnInterface words m) → IsClass (naming p) m.class }
+    ensures special_call { (list : List ℕ) (p : Package) → IsSound list p.files → IsSmall p → Keeps (world p) → ExportsKeep p → KeepsTokens (world p) → (m : Member) (c : Class) → class_named (world p) m.class ≡ Some c → c.is_imported ≡ false → Fit (naming p) (Meanings.Calls Meanings.Special) (keys.StaticMethod m) }
+    ensures static_call { (list : List ℕ) (p : Package) → IsSound list p.files → IsSmall p → Keeps (world p) → ExportsKeep p → KeepsTokens (world p) → (m : Member) (c : Class) → class_named (world p) m.class ≡ Some c → c.is_imported ≡ false → Fit (naming p) (Meanings.Calls Meanings.Static) (keys.StaticMethod m) }
+{
+    dispatch_laws();
+    token_laws();
+    lookup_laws();
+}
