@@ -1,3 +1,3 @@
-mod Tests
-mod Sizes
-mod Starts
+pub mod Tests
+pub mod Sizes
+pub mod Starts

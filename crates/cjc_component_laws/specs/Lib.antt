@@ -1,2 +1,4 @@
 pub mod OwnNames
 pub mod Found
+pub mod Whole
+pub mod Methods
