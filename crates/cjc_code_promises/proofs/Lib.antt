@@ -1,0 +1,4 @@
+pub mod Ending
+pub mod KeyKinds
+pub mod Nothing
+pub mod Made
