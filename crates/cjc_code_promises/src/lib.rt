@@ -2,7 +2,7 @@
 //! rules which the package does not break. For whoever converts a package. It has laws alone; nothing here runs.
 #![tactic(auto)]
 
-ghost use Rattle.std.specs.Prelude.{◌≡◌, ◌<◌, ℕ, [], Bool, List, Option, Some, length, slice_get, true};
+ghost use Rattle.std.specs.Prelude.{◌≡◌, ◌<◌, ℕ, [], Bool, List, None, Option, Some, length, slice_get, true};
 ghost use Rattle.cjc_bytes.specs.declared.fault.MemberId.{MemberId as Member};
 ghost use Rattle.cjc_classfile.specs.Code.{CodeTree};
 ghost use Rattle.cjc_classfile.specs.declared.tree.ClassTree.{ClassTree};
@@ -10,6 +10,8 @@ ghost use Rattle.cjc_classfile.specs.declared.tree.MethodTree.{MethodTree};
 ghost use Rattle.cjc_code.specs.declared.insn.JInsn.{JInsn};
 ghost use Rattle.cjc_code.specs.declared.method_code.MethodCode.{MethodCode};
 ghost use Rattle.cjc_world.specs.Files.{Files};
+ghost use Rattle.cjc_by_name.specs.Linked.{Method};
+ghost use Rattle.cjc_by_name.specs.OnePackage.{method_at, method_by};
 ghost use Rattle.cjc_types.specs.declared.state.State.{State as Before};
 ghost use Rattle.cjc_types.specs.Flow.{body_of};
 ghost use Rattle.cjc_types.specs.Tables.{IsLeastTable, IsMethodOf};
@@ -19,12 +21,14 @@ ghost use Rattle.cjc_narrow.specs.Selected.{selected_code};
 ghost use Rattle.cjc_written.specs.Rows.{has_rows, rows_by};
 ghost use Rattle.cjc_layout.specs.Legal.{IsLeast};
 ghost use Rattle.cjc_emit.specs.Emitted.{CanBeWritten, placed_at};
+ghost use Rattle.cjc_select_laws.specs.Keeps.{FindsItself};
 ghost use Rattle.cjc_components.specs.Package.{LaidMethod};
+ghost use Rattle.cjc_components.specs.Written.{IsWritten};
 ghost use Rattle.cjc_code_consistency.specs.Caught.{HandlersLie};
 ghost use Rattle.cjc_code_consistency.specs.Ends.{AllStayInside, last_ends, StaysInside};
 ghost use Rattle.cjc_code_consistency.specs.Kinds.{AllHaveKinds, HasKind};
 ghost use Rattle.cjc_code_consistency.specs.Written.{AllWritable};
-ghost use Rattle.cjc_code_promises.specs.Made.{AllAreMade};
+ghost use Rattle.cjc_code_promises.specs.Made.{AllAreMade, IsMade};
 
 /// What is selected for a method that was decoded, of the instructions that its least type table reaches, does not go
 /// on behind its last instruction: where the method has an instruction.
@@ -55,4 +59,17 @@ pub fn made_methods_are_consistent()
     ensures inside { (n : Naming) (files : Files) (ms : List LaidMethod) → AllAreMade n files ms → AllStayInside ms }
     ensures handlers { (n : Naming) (files : Files) (ms : List LaidMethod) → AllAreMade n files ms → HandlersLie ms }
     ensures kinds { (n : Naming) (files : Files) (ms : List LaidMethod) → AllAreMade n files ms → AllHaveKinds ms }
+{}
+
+/// What is written for a method comes to its code as a package's does: one that its class got, or that has no code in its
+/// class file, has none; of any other it is what is selected by its least type table, where a look-up of its own name
+/// finds it and bytes can say it.
+pub fn written_methods_are_made()
+    ensures added { (n : Naming) (files : Files) (near : List Member) (rows : Method → List (Option Before)) (m : LaidMethod) → IsWritten files near rows m → method_at files m.member ≡ None → IsMade n files m }
+    ensures without_code { (n : Naming) (files : Files) (near : List Member) (rows : Method → List (Option Before)) (m : LaidMethod) → IsWritten files near rows m
+        → (class : ClassTree) (method : MethodTree) → method_at files m.member ≡ Some (method_by class method None) → IsMade n files m }
+    ensures selected { (n : Naming) (files : Files) (near : List Member) (rows : Method → List (Option Before)) (m : LaidMethod) → IsWritten files near rows m
+        → (code : MethodCode) (class : ClassTree) (method : MethodTree) (tree : CodeTree) → IsMethodOf files code class method tree → method_at files m.member ≡ Some (method_by class method (Some tree))
+        → FindsItself files class method → IsLeastTable (body_of class method tree code.insns) (rows (method_by class method (Some tree))) → 0 < length code.insns → CanBeWritten n (placed_at 0 m.code m.wide)
+        → IsMade n files m }
 {}
