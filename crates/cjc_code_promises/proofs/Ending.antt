@@ -9,6 +9,10 @@ use Rattle.cjc_bytes.specs.declared.fault.MemberId.{MemberId}
 use Rattle.cjc_classfile.specs.Code.{CodeTree}
 use Rattle.cjc_classfile.specs.declared.tree.ClassTree.{ClassTree}
 use Rattle.cjc_classfile.specs.declared.tree.MethodTree.{MethodTree}
+use Rattle.std.proofs.lemmas.List.{length-map}
+use Rattle.cjc_code.specs.Cut.{cut, IsCutFrom}
+use Rattle.cjc_code.specs.Rules.{stopped, with_names}
+use Rattle.cjc_code.proofs.OneCut.{is_cut}
 use Rattle.cjc_code.specs.declared.insn.JInsn.{JInsn}
 use Rattle.cjc_code.specs.declared.insn.JOp.{JOp}
 use Rattle.cjc_code.specs.declared.insn.JOp.TheVariants as jop
@@ -29,7 +33,7 @@ use Rattle.cjc_type_laws.specs.Closed.{IsClosedTable}
 use Rattle.cjc_type_laws.proofs.Lowered.{least_closed}
 use Rattle.cjc_type_laws.proofs.Standing.{next_there}
 use Rattle.cjc_layout.proofs.Places.{get_inside}
-use Rattle.cjc_select_laws.proofs.Cuts.{few}
+use Rattle.cjc_select_laws.proofs.Cuts.{decoded, few}
 use Rattle.cjc_sentences.specs.Instructions.{ends_code}
 use Rattle.cjc_code_consistency.specs.Ends.{last_ends}
 
@@ -141,12 +145,28 @@ module _ (files : Files) (code : MethodCode) (class : ClassTree) (method : Metho
       let one : at + 1 ≡ suc at = omega arith in
       (next.0, on.row, ap (slice_get code.insns) (sym one) ∙ next.1, ap (slice_get rows) (sym one) ∙ on.is_row)
 
-  pub selected_ends : 0 < length code.insns → (near : List MemberId) → last_ends (selected_code files near class method tree code.insns (rows_by (has_rows rows))).insns ≡ true
+  -- code with a byte has an instruction
+  some_insns : 0 < length tree.bytes → 0 < length code.insns
+  unfolding IsCutFrom
+  some_insns some = by (cut tree.bytes).insns refl
+    where
+      by : (insns : List _) → (cut tree.bytes).insns ≡ insns → 0 < length code.insns
+      by [] e =
+          let ended : IsCutFrom 0 tree.bytes [] (cut tree.bytes).stop = subst (λ insns. IsCutFrom 0 tree.bytes insns (cut tree.bytes).stop) e (is_cut tree.bytes) in
+          let at : (cut tree.bytes).stop ≡ 0 = ended.0 in
+          let told = decoded files code class method tree is in
+          absurd (told.fit (cut tree.bytes).stop (stopped (omega (arith, some, at))))
+      by (i ∷ insns) e =
+          let told = decoded files code class method tree is in
+          let many : length code.insns ≡ length (i ∷ insns) = ap length told.insns_are ∙ length-map (cut tree.bytes).insns (with_names class.pool) ∙ ap length e in
+          omega (arith, many)
+
+  pub selected_ends : 0 < length tree.bytes → (near : List MemberId) → last_ends (selected_code files near class method tree code.insns (rows_by (has_rows rows))).insns ≡ true
   selected_ends some near =
       let r = resolution files near class.name in
       let nargs = argument_words method.flags method.desc in
-      let front = get_inside code.insns 0 some in
-      let on = closed.first some in
+      let front = get_inside code.insns 0 (some_insns some) in
+      let on = closed.first (some_insns some) in
       let there = first_reached code.insns rows front.0 on.row front.1 on.is_row in
       subst (λ (m : NMethod). last_ends m.insns ≡ true) (by_rows_there r tree nargs code.insns rows)
       (reached_end r (place_in r (reached code.insns rows)) code.insns rows leads_on front.0 there.0 there.1)

@@ -45,7 +45,7 @@ module _ (n : Naming) (files : Files) (near : List MemberId) (rows : Method → 
 
   -- one with code
   pub made_selected : (code : MethodCode) (class : ClassTree) (method : MethodTree) (tree : CodeTree) → IsMethodOf files code class method tree → method_at files m.member ≡ Some (method_by class method (Some tree))
-      → FindsItself files class method → IsLeastTable (body_of class method tree code.insns) (rows (method_by class method (Some tree))) → 0 < length code.insns → CanBeWritten n (placed_at 0 m.code m.wide) → IsMade n files m
+      → FindsItself files class method → IsLeastTable (body_of class method tree code.insns) (rows (method_by class method (Some tree))) → 0 < length tree.bytes → CanBeWritten n (placed_at 0 m.code m.wide) → IsMade n files m
   made_selected code class method tree is e itself least some can =
       let x = method_by class method (Some tree) in
       by_selection is least some near

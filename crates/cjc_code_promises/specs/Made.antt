@@ -16,12 +16,12 @@ use Rattle.cjc_layout.specs.Legal.{IsLeast}
 use Rattle.cjc_emit.specs.Emitted.{CanBeWritten, placed_at}
 use Rattle.cjc_components.specs.Package.{LaidMethod}
 
--- An abstract method has no code. That of any other is what is selected for a method with an instruction, of those that its least type
--- table reaches, where bytes can say it.
+-- An abstract method has no code. That of any other is what is selected for a method whose code has a byte, of the instructions that
+-- its least type table reaches, where bytes can say it.
 pub data IsMade (n : Naming) (files : Files) (m : LaidMethod) : Type 0 where
   without_code : m.is_abstract ≡ true → (let code = m.code in code.insns ≡ []) → (let code = m.code in code.catches ≡ []) → (let code = m.code in IsLeast code.insns m.wide) → IsMade n files m
   by_selection : {code : MethodCode} {class : ClassTree} {method : MethodTree} {tree : CodeTree} → IsMethodOf files code class method tree
-      → {rows : List (Option State)} → IsLeastTable (body_of class method tree code.insns) rows → 0 < length code.insns
+      → {rows : List (Option State)} → IsLeastTable (body_of class method tree code.insns) rows → 0 < length tree.bytes
       → (near : List MemberId) → m.code ≡ selected_code files near class method tree code.insns (rows_by (has_rows rows)) → CanBeWritten n (placed_at 0 m.code m.wide) → IsMade n files m
 
 -- so do all of these

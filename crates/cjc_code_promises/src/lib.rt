@@ -22,8 +22,10 @@ ghost use Rattle.cjc_written.specs.Rows.{has_rows, rows_by};
 ghost use Rattle.cjc_layout.specs.Legal.{IsLeast};
 ghost use Rattle.cjc_emit.specs.Emitted.{CanBeWritten, placed_at};
 ghost use Rattle.cjc_select_laws.specs.Keeps.{FindsItself};
-ghost use Rattle.cjc_components.specs.Package.{LaidMethod};
-ghost use Rattle.cjc_components.specs.Written.{IsWritten};
+ghost use Rattle.cjc_components.specs.Package.{LaidMethod, Package};
+ghost use Rattle.cjc_components.specs.Written.{IsPackage, IsWritten};
+ghost use Rattle.cjc_component_laws.specs.Methods.{HasMethods};
+ghost use Rattle.cjc_list.specs.Listed.{ListTree};
 ghost use Rattle.cjc_code_consistency.specs.Caught.{HandlersLie};
 ghost use Rattle.cjc_code_consistency.specs.Ends.{AllStayInside, last_ends, StaysInside};
 ghost use Rattle.cjc_code_consistency.specs.Kinds.{AllHaveKinds, HasKind};
@@ -31,10 +33,10 @@ ghost use Rattle.cjc_code_consistency.specs.Written.{AllWritable};
 ghost use Rattle.cjc_code_promises.specs.Made.{AllAreMade, IsMade};
 
 /// What is selected for a method that was decoded, of the instructions that its least type table reaches, does not go
-/// on behind its last instruction: where the method has an instruction.
+/// on behind its last instruction: where its code has a byte.
 pub fn selected_code_ends()
     ensures { (files : Files) (code : MethodCode) (class : ClassTree) (method : MethodTree) (tree : CodeTree) → IsMethodOf files code class method tree
-        → (rows : List (Option Before)) → IsLeastTable (body_of class method tree code.insns) rows → 0 < length code.insns
+        → (rows : List (Option Before)) → IsLeastTable (body_of class method tree code.insns) rows → 0 < length tree.bytes
         → (near : List Member) → (let m = selected_code files near class method tree code.insns (rows_by (has_rows rows)) in last_ends m.insns ≡ true) }
 {}
 
@@ -70,6 +72,11 @@ pub fn written_methods_are_made()
         → (class : ClassTree) (method : MethodTree) → method_at files m.member ≡ Some (method_by class method None) → IsMade n files m }
     ensures selected { (n : Naming) (files : Files) (near : List Member) (rows : Method → List (Option Before)) (m : LaidMethod) → IsWritten files near rows m
         → (code : MethodCode) (class : ClassTree) (method : MethodTree) (tree : CodeTree) → IsMethodOf files code class method tree → method_at files m.member ≡ Some (method_by class method (Some tree))
-        → FindsItself files class method → IsLeastTable (body_of class method tree code.insns) (rows (method_by class method (Some tree))) → 0 < length code.insns → CanBeWritten n (placed_at 0 m.code m.wide)
+        → FindsItself files class method → IsLeastTable (body_of class method tree code.insns) (rows (method_by class method (Some tree))) → 0 < length tree.bytes → CanBeWritten n (placed_at 0 m.code m.wide)
         → IsMade n files m }
+{}
+
+/// A package, as the definition of what is written has it, has the methods of its classes in their order.
+pub fn packages_have_their_methods()
+    ensures { (list : ListTree) (files : Files) (codes : List MethodCode) (rows : Method → List (Option Before)) (p : Package) → IsPackage list files codes rows p → HasMethods p }
 {}
