@@ -1,6 +1,6 @@
 -- Entries of the pool name the members of imported classes that their keys name.
 use Rattle.std.proofs.Common.{◌≡◌, ℕ, zero, suc, ◌+◌, refl, sym, ap, ◌∙◌, arith, Bool, true, false, List, [], ◌∷◌, ◌++◌, length, map, Some, None}
-use Rattle.std.specs.Prelude.{◌==◌, ◌&&◌, ◌||◌, not, if◌then◌else◌, is_none, is_some, option_and_then, option_map, slice_get, unwrap_or}
+use Rattle.std.specs.Prelude.{◌==◌, ◌&&◌, ◌||◌, not, if◌then◌else◌, is_none, is_some, option_and_then, option_map, reverse, slice_get, unwrap_or}
 use Rattle.std.specs.List.{list_any}
 use Rattle.std.proofs.lemmas.List.{length-map}
 use Rattle.std.proofs.lemmas.Option.{slice_get-map}
@@ -11,9 +11,11 @@ use Rattle.cjc_export.specs.declared.tree.ExportField.{ExportField}
 use Rattle.cjc_export.specs.declared.tree.ExportMethod.{ExportMethod}
 use Rattle.cjc_export.specs.declared.tree.ExportTree.{ExportTree}
 use Rattle.cjc_capread.specs.declared.tree.ClassRef.TheVariants.{Outside}
-use Rattle.cjc_export.specs.Supers.{classes_of, upwards}
-use Rattle.cjc_sentences.specs.Classes.{class_with, imported}
-use Rattle.cjc_sentences.specs.Members.{class_has_field, describes_field, has_field, has_static_field, has_static_method, is_unbound, lists_field}
+use Rattle.cjc_capread.specs.declared.tree.ClassEntry.{ClassEntry}
+use Rattle.cjc_export.specs.Supers.{classes_of, has_virtual as lists_or_inherits, inherits_virtual, is_virtual, upwards}
+use Rattle.cjc_sentences.specs.Spots.{Placed}
+use Rattle.cjc_sentences.specs.Classes.{class_with, classes_at, imported}
+use Rattle.cjc_sentences.specs.Members.{class_has, class_has_field, describes_field, has_field, has_static_field, has_static_method, has_token, has_virtual, in_imported, is_unbound, lists_field}
 use Rattle.cjc_sentences.specs.PoolEntries.{is_field, is_method, names_member}
 use Rattle.cjc_tokens.specs.Members.{is_initialiser}
 use Rattle.cjc_tokens.specs.Tokens.{assigned, imports_of, joined, listed_field_token, listed_method_token, of_import}
@@ -21,11 +23,11 @@ use Rattle.cjc_world.specs.Lookup.{find_method}
 use Rattle.cjc_ncode.specs.declared.narrow.PoolKey.TheVariants as keys
 use Rattle.cjc_lower.specs.Naming.{entry_of}
 use Rattle.cjc_components.specs.Package.{Package, world}
-use Rattle.cjc_components.specs.Names.{field_token, member_ref, member_token, names, offset_where, ref_to}
+use Rattle.cjc_components.specs.Names.{field_token, member_ref, member_token, names, offset_where, ref_to, virtual_token}
 use Rattle.cjc_components.specs.Statics.{cell_offset}
 use Rattle.cjc_component_laws.specs.Whole.{exports_of, whole}
 use Rattle.cjc_component_laws.proofs.Tests.{same_number}
-use Rattle.cjc_code_consistency.specs.Members.{classes_before, imported_member, IsImportedClass, IsImportedField, IsImportedMethod}
+use Rattle.cjc_code_consistency.specs.Members.{classes_before, imported_member, IsImportedClass, IsImportedField, IsImportedMethod, IsImportedVirtual}
 use Rattle.cjc_code_consistency.proofs.Jumps.{any_at}
 
 -- ---- lists
@@ -138,3 +140,23 @@ module _ (p : Package) where
       ∙ ap (class_has_field (exports_of p) (Some c)) token
       ∙ ap (λ b. b || list_any (lists_field ef.token) (upwards (classes_of (exports_of p)) c.supers)) there in
       ap (λ x. has_field (whole p) (exports_of p) (ref_to x) (field_token p f)) of.named ∙ or_second (describes_field (whole p) (Outside of.file c.token) (field_token p f)) (class_has_field (exports_of p) (imported (exports_of p) of.file c.token) (field_token p f)) listed
+
+  -- a class_ref outside is no class of the package
+  outside_has : (items : List (Placed ClassEntry)) (import class token : ℕ) → has_token items (exports_of p) (Outside import class) token ≡ in_imported (exports_of p) (Outside import class) token
+  unfolding has_token
+  outside_has [] import class token = refl
+  outside_has (x ∷ items) import class token = outside_has items import class token
+
+  pub virtual_listed : (m : MemberId) → IsImportedVirtual p m → names_member (whole p) (exports_of p) (entry_of (names p) (keys.Virtual m)) ≡ true
+  virtual_listed m is =
+      let of = is.of in
+      let c = is.class in
+      let em = is.method in
+      let listed : list_any (λ (x : ExportMethod). is_virtual x && (x.token == em.token)) c.methods ≡ true =
+      any_at (λ (x : ExportMethod). is_virtual x && (x.token == em.token)) c.methods is.place em is.there (ap (λ b. b && (em.token == em.token)) is.is_virtual ∙ same_number em.token) in
+      ap (λ x. has_virtual (whole p) (exports_of p) (ref_to x) (virtual_token p m)) of.named
+      ∙ ap (has_virtual (whole p) (exports_of p) (Outside of.file c.token)) is.token
+      ∙ outside_has (reverse (let w = whole p in classes_at w.class)) of.file c.token em.token
+      ∙ ap (λ o. class_has (exports_of p) o em.token) (class_is m.class c of)
+      ∙ ap (λ b. not b && lists_or_inherits (classes_of (exports_of p)) em.token c) is.is_class
+      ∙ ap (λ b. b || inherits_virtual (classes_of (exports_of p)) em.token c) listed

@@ -2,13 +2,14 @@
 use Rattle.std.specs.Prelude.{◌≡◌, ℕ, zero, suc, ◌+◌, ◌<◌, ◌==◌, List, [], ◌∷◌, length, slice_get, Some, None, Bool, true, false}
 use Rattle.std.specs.List.{AllByRecursion, find, list_any}
 use Rattle.cjc_bytes.specs.declared.fault.MemberId.{MemberId}
-use Rattle.cjc_bytes.specs.AccessFlags.{is_static}
+use Rattle.cjc_bytes.specs.AccessFlags.{is_interface, is_static}
 use Rattle.cjc_classfile.specs.declared.tree.FieldTree.{FieldTree}
 use Rattle.cjc_card.specs.Classes.{Foreign}
 use Rattle.cjc_export.specs.declared.tree.ExportClass.{ExportClass}
 use Rattle.cjc_export.specs.declared.tree.ExportField.{ExportField}
 use Rattle.cjc_export.specs.declared.tree.ExportMethod.{ExportMethod}
 use Rattle.cjc_export.specs.declared.tree.ExportTree.{ExportTree}
+use Rattle.cjc_export.specs.Supers.{is_virtual}
 use Rattle.cjc_sentences.specs.Members.{is_unbound}
 use Rattle.cjc_sentences.specs.PoolEntries.{names_member}
 use Rattle.cjc_clinit.specs.Image.{field_id}
@@ -27,7 +28,7 @@ use Rattle.cjc_ncode.specs.PoolOrder.{same_member}
 use Rattle.cjc_lower.specs.Naming.{entry_of}
 use Rattle.cjc_components.specs.Package.{Package, pool, world}
 use Rattle.cjc_components.specs.Class.{fields_of}
-use Rattle.cjc_components.specs.Names.{class_at, names}
+use Rattle.cjc_components.specs.Names.{class_at, names, virtual_token}
 use Rattle.cjc_components.specs.Statics.{cell_order, size_of_field, value_bytes}
 use Rattle.cjc_component_laws.specs.Whole.{exports_of, whole}
 
@@ -120,6 +121,17 @@ pub record IsImportedField (p : Package) (of_class : Bool) (f : MemberId) : Type
   pub is_no_constant : field.constant ≡ None
   pub found : find_field (world p) f.class f.name f.desc ≡ Some (imported_member of.file of.place place (exports_of p))
 
+-- A virtual method of an imported class that is no interface, named by the class that lists it, with its token there.
+pub record IsImportedVirtual (p : Package) (m : MemberId) : Type 0 where
+  pub class : ExportClass
+  pub of : IsImportedClass p m.class class
+  pub is_class : is_interface class.flags ≡ false
+  pub place : ℕ
+  pub method : ExportMethod
+  pub there : slice_get class.methods place ≡ Some method
+  pub is_virtual : is_virtual method ≡ true
+  pub token : virtual_token p m ≡ method.token
+
 -- What a key names is there: a class, a member of the package or of an imported class by name, or what its entry names by tokens.
 pub data IsNamed (p : Package) : PoolKey → Type 0 where
   of_class : {c : List ℕ} → IsNamed p (keys.Class c)
@@ -128,6 +140,7 @@ pub data IsNamed (p : Package) : PoolKey → Type 0 where
   of_method : {m : MemberId} → IsOwnMethod p m → IsNamed p (keys.StaticMethod m)
   imported_field : {f : MemberId} → IsImportedField p false f → IsNamed p (keys.Field f)
   imported_cell : {f : MemberId} → IsImportedField p true f → IsNamed p (keys.StaticField f)
+  imported_virtual : {m : MemberId} → IsImportedVirtual p m → IsNamed p (keys.Virtual m)
   imported_method : {m : MemberId} → IsImportedMethod p m → IsNamed p (keys.StaticMethod m)
   by_token : {key : PoolKey} → names_member (whole p) (exports_of p) (entry_of (names p) key) ≡ true → IsNamed p key
 

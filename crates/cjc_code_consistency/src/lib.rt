@@ -73,8 +73,9 @@ pub fn methods_start_where_they_stand()
     ensures { (p : Package) → HaveOwnNames (class_order (world p)) → HasMethods p → (k : ℕ) (f : Place) → slice_get (method_order (world p)) k ≡ Some f → is_method_start (whole p) (method_offset p f) ≡ true }
 {}
 
-/// The entries of the constant pool name what is there: an instance field or a method of the package, which their keys
-/// name by name; of every other entry but a Classref it is asked that it names something by its tokens.
+/// The entries of the constant pool name what is there: fields, static methods, constructors and private methods of the
+/// package and of imported classes, which their keys name by name, and virtual methods that imported classes list; of
+/// every other entry but a Classref it is asked that it names something by its tokens.
 pub fn pool_entries_name_members()
     ensures { (p : Package) → HaveOwnNames (class_order (world p)) → HasMethods p → AllAreNamed p → pool_spots (whole p) (exports_of p) ≡ [] }
 {}
