@@ -1,0 +1,5 @@
+pub mod Ending
+pub mod KeyKinds
+pub mod Nothing
+pub mod Made
+pub mod Written
