@@ -81,7 +81,7 @@ element_word _ (base {b = b} {kind = kind} e) f =
 element_word _ (object {name = name} spelt) f = ap (λ o. is_word_sort (reference_to o)) (class_read name spelt).array
 element_word _ (array t) f = absurd cc
 
-type_word : {p : Part} {bytes : List ℕ} → IsType p bytes → is_foreign_part p ≡ false → is_int_part p ≡ false → is_word_sort (sort_of p) ≡ true
+pub type_word : {p : Part} {bytes : List ℕ} → IsType p bytes → is_foreign_part p ≡ false → is_int_part p ≡ false → is_word_sort (sort_of p) ≡ true
 type_word (base {b = b} {kind = kind} e) f g = number_word b kind e (or_left (is_other kind) (is_foreign_name []) f) (or_left (is_int kind) (is_int_name []) g)
 type_word (object {name = name} spelt) f g = ap (λ o. is_word_sort (reference_to o)) (class_read name spelt).class
 type_word (array {bytes = bytes} t) f g = element_word bytes t f

@@ -1,0 +1,6 @@
+pub mod Entries
+pub mod Opcodes
+pub mod Numbers
+pub mod Wide
+pub mod Decoded
+pub mod Members
