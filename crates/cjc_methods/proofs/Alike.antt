@@ -41,6 +41,7 @@ module _ (files : Files) (codes : List MethodCode) (types : List TypeTable) (rea
           with_code files near rows codes types ready are f t k own.own is h x e ∙ sym (with_code files near others codes types ready these f t k own.own is h x e))
           (λ past. absurd (let le = past.0 in omega (arith, lt, le)))
           (slice_get_cases types k).1
+
       by : (t : ClassTree) → slice_get files.classes f.class ≡ Some t → own.class ≡ declared f.class t → (o : Option ℕ) → IsPlaced files codes f.class (f.member - length t.fields) o → code_at files near rows f ≡ code_at files near others f
       by t is same None none =
           without_code files near rows codes types ready f t own.class own.own is own.is_class same none ∙ sym (without_code files near others codes types ready f t own.class own.own is own.is_class same none)
@@ -75,6 +76,7 @@ module _ (files : Files) (codes : List MethodCode) (types : List TypeTable) (rea
           record { place = k; code = h.code; class = h.class; method = h.method; tree = h.tree; table = x; is_code = h.is_code; is_table = e; is_own = h.is_own; is = with_code files near rows codes types ready are f t k own.own is h x e })
           (λ past. absurd (let le = past.0 in omega (arith, lt, le)))
           (slice_get_cases types k).1
+
       by : (t : ClassTree) → slice_get files.classes f.class ≡ Some t → own.class ≡ declared f.class t → (o : Option ℕ) → IsPlaced files codes f.class (f.member - length t.fields) o → IsFromCode (code_at files near rows f)
       by t is same None none =
           let empty = without_code files near rows codes types ready f t own.class own.own is own.is_class same none in
