@@ -10,7 +10,8 @@ use Rattle.cjc_components.specs.Package.{Package, tokens, world}
 use Rattle.cjc_components.specs.Methods as methods
 use Rattle.cjc_components.specs.Methods.{extent_of}
 use Rattle.cjc_components.specs.Statics.{cell_offset}
-use Rattle.cjc_type_info.specs.TypeTable.{AreOf, ref_of, type_table}
+use Rattle.cjc_class_info.specs.Refs.{ref_of}
+use Rattle.cjc_type_info.specs.TypeTable.{AreOf, type_table}
 use Rattle.cjc_descriptor.specs.declared.parts.Extent.{Extent}
 use Rattle.cjc_descriptor.specs.declared.parts.Parts.{Parts}
 

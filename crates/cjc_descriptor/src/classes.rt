@@ -8,7 +8,7 @@ ghost use Rattle.cjc_world.specs.Working.Places.{at_places};
 ghost use Rattle.cjc_tokens.specs.Tokens.{token_of_class};
 ghost use Rattle.cjc_components.specs.Package.{Package};
 ghost use Rattle.cjc_components.specs.Descriptor.{descriptor};
-ghost use Rattle.cjc_type_info.specs.TypeTable.{ref_of};
+ghost use Rattle.cjc_class_info.specs.Refs.{ref_of};
 ghost use Rattle.cjc_descriptor.specs.Made.{AreMade};
 ghost use Rattle.cjc_descriptor.specs.Working.Described.{class_at, class_in, classes_at, inputs_of, key_type, names_at};
 
@@ -18,9 +18,9 @@ use crate::methods::methods_of;
 use crate::parts::Parts;
 use cjc_bytes::{MemberId, NoMemory, Row};
 use cjc_capread::{ClassDescriptor, ClassRef, Descriptor};
+use cjc_class_info::ClassRefs;
 use cjc_classfile::ClassTree;
 use cjc_ncode::PoolKey;
-use cjc_type_info::ClassRefs;
 use cjc_world::{Known, World};
 use std::alloc::Global;
 
@@ -28,13 +28,13 @@ use std::alloc::Global;
 fn put_ref<'a>(
     row: &mut Row<ClassRef>,
     world: &'a World<'a>,
-    refs: &ClassRefs<'a>,
+    refs: &ClassRefs,
     place: u32,
 ) -> Result<(), NoMemory>
     ensures { OnOk result (row.new ≡ row.old ++ class_in (ref_of refs.now) (all_classes world.now) place) }
 {
     match world.class_in(place) {
-        Some(class) => row.push(refs.class_ref(class.name())),
+        Some(class) => row.push(refs.named(class.name())),
         None => Ok(()),
     }
 }
@@ -44,7 +44,7 @@ fn put_ref<'a>(
 fn refs_at<'a>(
     alloc: Global,
     world: &'a World<'a>,
-    refs: &ClassRefs<'a>,
+    refs: &ClassRefs,
     places: &[u32],
 ) -> Result<Row<ClassRef>, NoMemory>
     ensures { IfOk result (λ row. row ≡ map (λ i. ref_of refs.now i.name) (at_places (all_classes world.now) places.now)) }
@@ -88,7 +88,7 @@ fn class_at<'a>(
     Ok(ClassDescriptor {
         token: parts.tokens.class_token(number).unwrap_or(0xFF),
         flags: class_flags(class.flags),
-        this_class: parts.refs.class_ref(class.name.items()),
+        this_class: parts.refs.named(class.name.items()),
         interfaces,
         fields,
         methods,

@@ -3,16 +3,18 @@
 ghost use Rattle.std.specs.Prelude.{◌≡◌, ◌++◌, ◌<◌, ◌^◌, length, IfOk, OnOk};
 ghost use Rattle.cjc_script.specs.Sorts.{field_sort};
 ghost use Rattle.cjc_tokens.specs.Fields.{is_constant};
-ghost use Rattle.cjc_type_info.specs.TypeTable.{offset_in, ref_of};
+ghost use Rattle.cjc_class_info.specs.Refs.{ref_of};
+ghost use Rattle.cjc_type_info.specs.TypeTable.{offset_in};
 ghost use Rattle.cjc_descriptor.specs.Working.Described.{field_at, field_if, field_type_by, fields_at, inputs_of, place_at};
 
 use crate::flags::field_flags;
 use crate::parts::{Parts, cell_of, token_of};
 use cjc_bytes::{NoMemory, Row, is_static};
 use cjc_capread::{FieldDescriptor, FieldPlace, FieldType};
+use cjc_class_info::ClassRefs;
 use cjc_classfile::{ClassTree, FieldTree};
 use cjc_export::may_be_constant;
-use cjc_type_info::{ClassRefs, Sort, Types, field_sort};
+use cjc_type_info::{Sort, Types, field_sort};
 use std::alloc::Global;
 
 /// A static final field of a number with a number as ConstantValue.
@@ -26,7 +28,7 @@ fn is_constant(field: &FieldTree) -> bool
 fn field_type<'a>(
     alloc: Global,
     types: &Types,
-    refs: &ClassRefs<'a>,
+    refs: &ClassRefs,
     desc: &'a [u8],
 ) -> Result<FieldType, NoMemory>
     ensures { IfOk result (λ t. t ≡ field_type_by (offset_in types.now (ref_of refs.now) desc.now) (field_sort desc.now)) }
@@ -59,7 +61,7 @@ fn place_at<'a>(
         FieldPlace::Static(cell_of(parts.cells, number, place as usize))
     } else {
         FieldPlace::Instance {
-            class: parts.refs.class_ref(class),
+            class: parts.refs.named(class),
             token,
         }
     }

@@ -6,9 +6,10 @@ ghost use Rattle.cjc_tokens.specs.Tokens.{token_of_member};
 ghost use Rattle.cjc_descriptor.specs.Working.Described.{extent_in, number_in, token_in};
 
 use cjc_bytes::Row;
+use cjc_class_info::ClassRefs;
 use cjc_ncode::PoolKey;
 use cjc_tokens::Tokens;
-use cjc_type_info::{ClassRefs, Types};
+use cjc_type_info::Types;
 use cjc_world::{Found, World};
 
 /// Where a method stands in Method; all are 0 of one that stands nowhere, as those of interfaces.
@@ -28,7 +29,7 @@ pub struct Parts<'a> {
     pub world: &'a World<'a>,
     pub tokens: &'a Tokens,
     /// The class_ref of each name.
-    pub refs: &'a ClassRefs<'a>,
+    pub refs: &'a ClassRefs,
     /// The numbers of the package's classes in the order of Class.
     pub order: &'a [u32],
     /// The keys of the constant pool.

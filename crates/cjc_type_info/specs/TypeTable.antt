@@ -1,7 +1,6 @@
 -- Type descriptors and where they begin.
 use Rattle.std.specs.Prelude.{◌≡◌, ℕ, List, Option, map, slice_get, option_map, option_and_then, position, unwrap_or, Some}
 use Rattle.std.specs.Str.{bytes_eq}
-use Rattle.std.specs.Map.{lookup}
 use Rattle.cjc_capread.specs.declared.tree.ClassRef.{ClassRef}
 use Rattle.cjc_classfile.specs.declared.tree.ClassTree.{ClassTree}
 use Rattle.cjc_world.specs.Files.{Files}
@@ -12,11 +11,6 @@ use Rattle.cjc_components.specs.Package.{Package, pool, world}
 use Rattle.cjc_components.specs.Names.{class_ref}
 use Rattle.cjc_components.specs.Types.{nibbles_by, type_starts, types_of}
 use Rattle.cjc_type_info.specs.Working.Nibbles.{nibbles_in}
-use Rattle.cjc_type_info.specs.Working.Refs.{ref_or_first}
-
--- the class_ref of a name among these; of one that is not, that of the class at the offset 0
-abbrev pub ref_of : List ((List ℕ) × ClassRef) → (name : List ℕ) → ClassRef
-ref_of refs name = ref_or_first (lookup (bytes_eq name) refs)
 
 -- by their nibbles, and the offset of each
 pub record TypeTable : Type 0 where

@@ -1,13 +1,11 @@
-//! The types of values as descriptors say them, class_refs by name, and the type descriptors of a package (Java Card Virtual
+//! The types of values as descriptors say them, and the type descriptors of a package (Java Card Virtual
 //! Machine Specification 2.2.2, sections 6.1 and 6.13.4). Whoever writes StaticField and Descriptor calls it. It knows no token
 //! and no code.
 #![tactic(auto)]
 
-mod class_refs;
 mod nibbles;
 mod sort;
 mod types;
 
-pub use class_refs::ClassRefs;
 pub use sort::{Sort, field_sort};
 pub use types::Types;

@@ -5,13 +5,13 @@ ghost use Rattle.std.specs.List.{flat_map};
 ghost use Rattle.cjc_script.specs.Sorts.{result_by, sort_of};
 ghost use Rattle.cjc_components.specs.Types.{ref_nibbles, result_nibbles, sort_nibbles};
 ghost use Rattle.cjc_type_info.specs.Meant.{sort_meant};
-ghost use Rattle.cjc_type_info.specs.TypeTable.{ref_of};
+ghost use Rattle.cjc_class_info.specs.Refs.{ref_of};
 ghost use Rattle.cjc_type_info.specs.Working.Nibbles.{nibbles_in, parts_nibbles};
 
-use crate::class_refs::ClassRefs;
 use crate::sort::{Sort, parsed, sort_at};
 use cjc_bytes::{Bytes, Desc, Kind, NoMemory, Row};
 use cjc_capread::ClassRef;
+use cjc_class_info::ClassRefs;
 use std::alloc::Global;
 
 fn put_byte(out: &mut Bytes, byte: u8) -> Result<(), NoMemory>
@@ -40,17 +40,17 @@ fn put_ref(out: &mut Bytes, class: ClassRef) -> Result<(), NoMemory>
 /// A nibble, and a class.
 fn put_class<'a>(
     out: &mut Bytes,
-    refs: &ClassRefs<'a>,
+    refs: &ClassRefs,
     nibble: u8,
     class: &'a [u8],
 ) -> Result<(), NoMemory>
     ensures { OnOk result (out.new ≡ out.old ++ nibble ∷ ref_nibbles (ref_of refs.now class.now)) }
 {
     out.push(nibble)?;
-    put_ref(out, refs.class_ref(class))
+    put_ref(out, refs.named(class))
 }
 
-fn put_sort<'a>(out: &mut Bytes, refs: &ClassRefs<'a>, sort: Sort<'a>) -> Result<(), NoMemory>
+fn put_sort<'a>(out: &mut Bytes, refs: &ClassRefs, sort: Sort<'a>) -> Result<(), NoMemory>
     ensures { OnOk result (out.new ≡ out.old ++ sort_nibbles (ref_of refs.now) (sort_meant sort.entry)) }
 {
     match sort {
@@ -69,7 +69,7 @@ fn put_sort<'a>(out: &mut Bytes, refs: &ClassRefs<'a>, sort: Sort<'a>) -> Result
 }
 
 #[tactic(auto, using(crate::proofs::Parts::params_next))]
-fn put_params<'a>(out: &mut Bytes, refs: &ClassRefs<'a>, desc: &Desc<'a>) -> Result<(), NoMemory>
+fn put_params<'a>(out: &mut Bytes, refs: &ClassRefs, desc: &Desc<'a>) -> Result<(), NoMemory>
     ensures { OnOk result (out.new ≡ out.old ++ flat_map (sort_nibbles (ref_of refs.now)) (map sort_of desc.now.params)) }
 {
     for i in 0..desc.params() {
@@ -78,7 +78,7 @@ fn put_params<'a>(out: &mut Bytes, refs: &ClassRefs<'a>, desc: &Desc<'a>) -> Res
     Ok(())
 }
 
-fn put_result<'a>(out: &mut Bytes, refs: &ClassRefs<'a>, desc: &Desc<'a>) -> Result<(), NoMemory>
+fn put_result<'a>(out: &mut Bytes, refs: &ClassRefs, desc: &Desc<'a>) -> Result<(), NoMemory>
     ensures { let d = desc.now in let r = d.result in OnOk result (out.new ≡ out.old ++ result_nibbles (ref_of refs.now) (result_by r.kind r)) }
 {
     let count = desc.params();
@@ -92,7 +92,7 @@ fn put_result<'a>(out: &mut Bytes, refs: &ClassRefs<'a>, desc: &Desc<'a>) -> Res
 }
 
 /// The type of a field, or the parameters and the result of a method.
-fn put_parts<'a>(out: &mut Bytes, refs: &ClassRefs<'a>, desc: &Desc<'a>) -> Result<(), NoMemory>
+fn put_parts<'a>(out: &mut Bytes, refs: &ClassRefs, desc: &Desc<'a>) -> Result<(), NoMemory>
     ensures { OnOk result (out.new ≡ out.old ++ parts_nibbles (ref_of refs.now) desc.now) }
 {
     if desc.is_method() {
@@ -104,11 +104,7 @@ fn put_parts<'a>(out: &mut Bytes, refs: &ClassRefs<'a>, desc: &Desc<'a>) -> Resu
     }
 }
 
-fn nibbles_of_parts<'a>(
-    alloc: Global,
-    refs: &ClassRefs<'a>,
-    desc: &Desc<'a>,
-) -> Result<Bytes, NoMemory>
+fn nibbles_of_parts<'a>(alloc: Global, refs: &ClassRefs, desc: &Desc<'a>) -> Result<Bytes, NoMemory>
     ensures { IfOk result (λ nibbles. nibbles ≡ parts_nibbles (ref_of refs.now) desc.now) }
 {
     let mut out = Row::new(alloc);
@@ -120,7 +116,7 @@ fn nibbles_of_parts<'a>(
 #[tactic(auto, using(crate::proofs::Parts::nibbles_of_none, crate::proofs::Parts::nibbles_of_some))]
 pub(crate) fn nibbles_in<'a>(
     alloc: Global,
-    refs: &ClassRefs<'a>,
+    refs: &ClassRefs,
     desc: &'a [u8],
 ) -> Result<Bytes, NoMemory>
     ensures { IfOk result (λ nibbles. nibbles ≡ nibbles_in (ref_of refs.now) desc.now) }

@@ -12,14 +12,15 @@ ghost use Rattle.cjc_clinit.specs.Fields.{is_reference};
 ghost use Rattle.cjc_components.specs.Package.{Package};
 ghost use Rattle.cjc_components.specs.Types.{desc_of_field, desc_of_key, type_descriptor};
 ghost use Rattle.cjc_supers.specs.Working.Walk.{fed, names-equivalence, same-fed, with_all};
-ghost use Rattle.cjc_type_info.specs.TypeTable.{AreOf, offset_in, ref_of, type_table};
+ghost use Rattle.cjc_class_info.specs.Refs.{ref_of};
+ghost use Rattle.cjc_type_info.specs.TypeTable.{AreOf, offset_in, type_table};
 ghost use Rattle.cjc_type_info.specs.Working.Nibbles.{nibbles_in};
 ghost use Rattle.cjc_type_info.specs.Working.Descs.{desc_of_added, desc_of_method, descs_at, descs_in, nibbles_of_each};
 
-use crate::class_refs::ClassRefs;
 use crate::nibbles::nibbles_in;
 use cjc_bytes::{Bytes, MemberId, NoMemory, Row};
 use cjc_capread::TypeDescriptor;
+use cjc_class_info::ClassRefs;
 use cjc_classfile::{ClassTree, FieldTree, MethodTree};
 use cjc_ncode::PoolKey;
 use cjc_world::World;
@@ -93,12 +94,7 @@ fn is_reference(desc: &[u8]) -> bool
 }
 
 impl Met {
-    fn put<'a>(
-        &mut self,
-        alloc: Global,
-        refs: &ClassRefs<'a>,
-        desc: &'a [u8],
-    ) -> Result<(), NoMemory>
+    fn put<'a>(&mut self, alloc: Global, refs: &ClassRefs, desc: &'a [u8]) -> Result<(), NoMemory>
         ensures { OnOk result (self.new ≡ insert_key bytes_eq self.old (nibbles_in (ref_of refs.now) desc.now)) }
     {
         let bytes = nibbles_in(alloc, refs, desc)?;
@@ -110,7 +106,7 @@ impl Met {
     fn put_key<'a>(
         &mut self,
         alloc: Global,
-        refs: &ClassRefs<'a>,
+        refs: &ClassRefs,
         key: &'a PoolKey,
     ) -> Result<(), NoMemory>
         ensures { OnOk result (self.new ≡ with_all self.old (nibbles_of_each (ref_of refs.now) desc_of_key key.now)) }
@@ -129,7 +125,7 @@ impl Met {
     fn put_keys<'a>(
         &mut self,
         alloc: Global,
-        refs: &ClassRefs<'a>,
+        refs: &ClassRefs,
         keys: &'a [PoolKey],
     ) -> Result<(), NoMemory>
         ensures { OnOk result (self.new ≡ with_all self.old (flat_map (nibbles_of_each (ref_of refs.now) desc_of_key) keys.now)) }
@@ -144,7 +140,7 @@ impl Met {
     fn put_field<'a>(
         &mut self,
         alloc: Global,
-        refs: &ClassRefs<'a>,
+        refs: &ClassRefs,
         field: &'a FieldTree,
     ) -> Result<(), NoMemory>
         ensures { OnOk result (self.new ≡ with_all self.old (nibbles_of_each (ref_of refs.now) desc_of_field field.now)) }
@@ -160,7 +156,7 @@ impl Met {
     fn put_fields<'a>(
         &mut self,
         alloc: Global,
-        refs: &ClassRefs<'a>,
+        refs: &ClassRefs,
         fields: &'a [FieldTree],
     ) -> Result<(), NoMemory>
         ensures { OnOk result (self.new ≡ with_all self.old (flat_map (nibbles_of_each (ref_of refs.now) desc_of_field) fields.now)) }
@@ -174,7 +170,7 @@ impl Met {
     fn put_method<'a>(
         &mut self,
         alloc: Global,
-        refs: &ClassRefs<'a>,
+        refs: &ClassRefs,
         method: &'a MethodTree<'_>,
     ) -> Result<(), NoMemory>
         ensures { OnOk result (self.new ≡ with_all self.old (nibbles_of_each (ref_of refs.now) desc_of_method method.now)) }
@@ -190,7 +186,7 @@ impl Met {
     fn put_methods<'a>(
         &mut self,
         alloc: Global,
-        refs: &ClassRefs<'a>,
+        refs: &ClassRefs,
         methods: &'a [MethodTree<'_>],
     ) -> Result<(), NoMemory>
         ensures { OnOk result (self.new ≡ with_all self.old (flat_map (nibbles_of_each (ref_of refs.now) desc_of_method) methods.now)) }
@@ -206,7 +202,7 @@ impl Met {
     fn put_added<'a>(
         &mut self,
         alloc: Global,
-        refs: &ClassRefs<'a>,
+        refs: &ClassRefs,
         added: &'a [MemberId],
     ) -> Result<(), NoMemory>
         ensures { OnOk result (self.new ≡ with_all self.old (flat_map (nibbles_of_each (ref_of refs.now) desc_of_added) added.now)) }
@@ -222,7 +218,7 @@ impl Met {
     fn put_class<'a>(
         &mut self,
         alloc: Global,
-        refs: &ClassRefs<'a>,
+        refs: &ClassRefs,
         class: &'a ClassTree<'_>,
         added: &'a [MemberId],
     ) -> Result<(), NoMemory>
@@ -237,7 +233,7 @@ impl Met {
     fn put_number<'a>(
         &mut self,
         alloc: Global,
-        refs: &ClassRefs<'a>,
+        refs: &ClassRefs,
         world: &'a World<'_>,
         number: u32,
     ) -> Result<(), NoMemory>
@@ -253,7 +249,7 @@ impl Met {
     fn put_classes<'a>(
         &mut self,
         alloc: Global,
-        refs: &ClassRefs<'a>,
+        refs: &ClassRefs,
         world: &'a World<'_>,
         order: &[u32],
     ) -> Result<(), NoMemory>
@@ -344,7 +340,7 @@ impl Types {
     /// Those of a package, by the numbers of its classes in their order and by the keys of its pool.
     pub fn of<'a>(
         alloc: Global,
-        refs: &ClassRefs<'a>,
+        refs: &ClassRefs,
         world: &'a World<'_>,
         order: &[u32],
         keys: &'a [PoolKey],
@@ -364,7 +360,7 @@ impl Types {
     pub fn offset<'a>(
         &self,
         alloc: Global,
-        refs: &ClassRefs<'a>,
+        refs: &ClassRefs,
         desc: &'a [u8],
     ) -> Result<u64, NoMemory>
         ensures { IfOk result (λ n. n ≡ offset_in self.now (ref_of refs.now) desc.now) }

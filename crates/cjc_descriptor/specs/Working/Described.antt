@@ -26,7 +26,8 @@ use Rattle.cjc_components.specs.Class.{interfaces_of}
 use Rattle.cjc_descriptor.specs.declared.parts.Extent.{Extent}
 use Rattle.cjc_components.specs.Descriptor.{added_flags, class_flags, field_flags, flag_where}
 use Rattle.cjc_components.specs.Types.{desc_of_key}
-use Rattle.cjc_type_info.specs.TypeTable.{TypeTable, offset_in, ref_of}
+use Rattle.cjc_class_info.specs.Refs.{ref_of}
+use Rattle.cjc_type_info.specs.TypeTable.{TypeTable, offset_in}
 use Rattle.cjc_descriptor.specs.declared.parts.Parts.{Parts}
 
 -- what is made before

@@ -2,7 +2,7 @@ use Rattle.std.proofs.Common.{ℕ, List, map, ap, ◌∙◌}
 use Rattle.cjc_world.specs.Classes.{Class, all_classes, declared}
 use Rattle.cjc_world.specs.Working.Places.{at_places}
 use Rattle.cjc_vtable.proofs.MapPlaces.{interfaces-are}
-use Rattle.cjc_type_info.specs.TypeTable.{ref_of}
+use Rattle.cjc_class_info.specs.Refs.{ref_of}
 use Rattle.cjc_descriptor.proofs.classes.interfaces_of.Goals as goal
 
 pub returns : goal.returns

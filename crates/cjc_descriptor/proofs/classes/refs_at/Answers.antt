@@ -1,7 +1,7 @@
 use Rattle.std.proofs.Common.{◌+◌, ◌++◌, map, drop, ap, ◌∙◌}
 use Rattle.cjc_world.specs.Classes.{Class, all_classes}
 use Rattle.cjc_world.specs.Working.Places.{at_places}
-use Rattle.cjc_type_info.specs.TypeTable.{ref_of}
+use Rattle.cjc_class_info.specs.Refs.{ref_of}
 use Rattle.cjc_descriptor.proofs.Rows.{places_end, places_next}
 use Rattle.cjc_descriptor.proofs.classes.refs_at.Goals as goal
 

@@ -1,6 +1,7 @@
 use Rattle.std.proofs.Common.{ℕ, List, ap, ◌∙◌}
 use Rattle.cjc_script.specs.Sorts.{field_sort}
-use Rattle.cjc_type_info.specs.TypeTable.{offset_in, ref_of}
+use Rattle.cjc_class_info.specs.Refs.{ref_of}
+use Rattle.cjc_type_info.specs.TypeTable.{offset_in}
 use Rattle.cjc_descriptor.specs.Working.Described.{field_type_by, inputs_of, place_at}
 use Rattle.cjc_descriptor.proofs.fields.field_at.Goals as goal
 

@@ -1,7 +1,7 @@
 use Rattle.std.proofs.Common.{◌≡◌, drop}
 use Rattle.std.specs.List.{flat_map}
 use Rattle.cjc_supers.specs.Working.Walk.{with_all}
-use Rattle.cjc_type_info.specs.TypeTable.{ref_of}
+use Rattle.cjc_class_info.specs.Refs.{ref_of}
 use Rattle.cjc_type_info.specs.Working.Descs.{descs_at, nibbles_of_each}
 use Rattle.cjc_type_info.proofs.types.Met.put_classes.Given as goal
 

@@ -4,7 +4,7 @@ use Rattle.cjc_sentences.specs.Spots.{starts}
 use Rattle.cjc_sentences.specs.Complete.{type_size}
 use Rattle.cjc_supers.specs.Working.Walk.{with_all}
 use Rattle.cjc_components.specs.Types.{desc_of_key, type_descriptor}
-use Rattle.cjc_type_info.specs.TypeTable.{ref_of}
+use Rattle.cjc_class_info.specs.Refs.{ref_of}
 use Rattle.cjc_type_info.specs.Working.Descs.{descs_at, nibbles_of_each}
 use Rattle.cjc_type_info.proofs.Order.{table_is}
 use Rattle.cjc_type_info.proofs.types.Types.of.Goals as goal

@@ -1,0 +1,9 @@
+pub mod Each
+pub mod Own
+pub mod Names
+pub mod Texts
+pub mod Supers
+pub mod Flags
+pub mod Tokens
+pub mod Fields
+pub mod Classes
