@@ -1,3 +1,4 @@
 pub mod Fits
+pub mod Keys
 pub mod Made
 pub mod Working

@@ -6,11 +6,13 @@ ghost use Rattle.std.specs.Cmp.{partial_equiv_from_equiv};
 ghost use Rattle.cjc_ncode.specs.PoolOrder.{same_member};
 ghost use Rattle.cjc_clinit.specs.Image.{field_id};
 ghost use Rattle.cjc_components.specs.Statics.{cell_offset};
+ghost use Rattle.cjc_descriptor.specs.Keys.{key_cell};
 ghost use Rattle.cjc_descriptor.specs.Working.Cells.{HasCell, HasOffset, StandBehind, fed, member-equivalence, offset_of, same-fed};
 
 use crate::statics::{size_of_field, sum};
 use cjc_bytes::{MemberId, NoMemory, Row};
 use cjc_classfile::{ClassTree, FieldTree};
+use cjc_ncode::PoolKey;
 use cjc_world::{ArrayCell, StaticImage, ValueCell};
 use indexmap::IndexMap;
 use std::alloc::Global;
@@ -91,6 +93,7 @@ struct Cells<'a> {
 }
 
 impl<'a> Model for Cells<'a> {
+    ghost use Rattle.cjc_descriptor.specs.Keys.{key_cell};
     ghost use Rattle.cjc_descriptor.specs.Working.Cells.{Placed};
 
     ghost Value = { Placed };
@@ -122,6 +125,19 @@ impl<'a> Cells<'a> {
         match self.offsets.get(&name) {
             Some(offset) => *offset,
             None => self.end,
+        }
+    }
+
+    /// The offset of the cell of the static field of a key; 0 of a key of another kind.
+    fn key_offset(&self, key: &'a PoolKey) -> u64
+        ensures { result ≡ key_cell (offset_of self.now) key.now }
+    {
+        match key {
+            PoolKey::StaticField(field) => match self.offsets.get(&name_of(field)) {
+                Some(offset) => *offset,
+                None => self.end,
+            },
+            _ => 0,
         }
     }
 
@@ -197,4 +213,28 @@ pub fn cell_offsets(
         rows.push(offsets_in(alloc, &cells, class)?)?;
     }
     Ok(rows)
+}
+
+/// The offsets of the cells of the static fields of some keys.
+fn offsets_at<'a>(
+    alloc: Global,
+    cells: &Cells<'a>,
+    keys: &'a [PoolKey],
+) -> Result<Row<u64>, NoMemory>
+    ensures { IfOk result (λ row. row ≡ map (key_cell (offset_of cells.now)) keys.now) }
+{
+    let mut row = Row::new(alloc);
+    for key in keys {
+        row.push(cells.key_offset(key))?;
+    }
+    Ok(row)
+}
+
+/// The offset of the cell of the static field of each key, in bytes; of a field without a cell, where the image ends. 0 of a
+/// key of another kind.
+pub fn key_cells(alloc: Global, image: &StaticImage, keys: &[PoolKey]) -> Result<Row<u64>, NoMemory>
+    ensures { IfOk result (λ row. row ≡ map (key_cell (cell_offset image.now)) keys.now) }
+{
+    let cells = cells_of(alloc, image)?;
+    offsets_at(alloc, &cells, keys)
 }

@@ -11,7 +11,7 @@ mod methods;
 mod parts;
 mod statics;
 
-pub use cells::cell_offsets;
+pub use cells::{cell_offsets, key_cells};
 pub use classes::descriptor;
 pub use parts::{Extent, Parts};
 pub use statics::static_field;
