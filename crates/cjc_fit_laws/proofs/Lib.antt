@@ -8,3 +8,6 @@ pub mod Statics
 pub mod Locations
 pub mod Exports
 pub mod Classes
+pub mod Methods
+pub mod Described
+pub mod Whole

@@ -79,7 +79,7 @@ starts_below size at limit (x ∷ xs) le =
     let l = sum_by-cons size x xs in
     (omega (arith, le, l), starts_below size (at + size x) limit xs (omega (arith, le, l)))
 
-all_both : {A : Type 0} (P : A → Type 0) (xs ys : List A) → AllByRecursion P xs → AllByRecursion P ys → AllByRecursion P (xs ++ ys)
+pub all_both : {A : Type 0} (P : A → Type 0) (xs ys : List A) → AllByRecursion P xs → AllByRecursion P ys → AllByRecursion P (xs ++ ys)
 all_both P [] ys a b = b
 all_both P (x ∷ xs) ys a b = (a.0, all_both P xs ys a.1 b)
 

@@ -11,6 +11,8 @@ use Rattle.cjc_world.specs.Order.{class_order}
 use Rattle.cjc_tokens.specs.Fields.{is_open_static}
 use Rattle.cjc_vtable.specs.declared.table.InterfaceMap.{InterfaceMap}
 use Rattle.cjc_vtable.specs.Tables.{table_of}
+use Rattle.cjc_ncode.specs.declared.narrow.NInsn.{NInsn}
+use Rattle.cjc_layout.specs.Forms.{HasForm}
 use Rattle.cjc_layout.specs.Sizes.{widest_size}
 use Rattle.cjc_components.specs.Package.{LaidMethod, Package, pool, world}
 use Rattle.cjc_components.specs.Class.{fields_of, interfaces_of}
@@ -45,10 +47,11 @@ pub record ExportsFew (p : Package) (c : Class) : Type 0 where
 
 -- ---- methods
 
--- no form has more bytes than the widest count, which 415 keeps low
+-- with every jump wide it has no more bytes than its widest count, which 415 keeps low; its instructions have their forms
 pub record MethodIsShort (m : LaidMethod) : Type 0 where
   pub size : (let code = m.code in widest_size code.insns ≤ code.widest)
   pub short : (let code = m.code in code.widest ≤ 32767)
+  pub forms : (k : ℕ) (i : NInsn) → (let code = m.code in slice_get code.insns k ≡ Some i) → HasForm i
 
 -- ---- static fields
 

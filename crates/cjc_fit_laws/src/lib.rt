@@ -4,17 +4,20 @@
 
 ghost use Rattle.std.specs.Prelude.{IfSome};
 ghost use Rattle.cjc_capwrite.specs.Fits.{
-    AppletFits, ClassInfoFits, ExportFits, HeaderFits, ImportFits, LocationsFit, PoolFits, StaticFieldFits,
+    AppletFits, ClassInfoFits, DescriptorFits, DirectoryFits, ExportFits, HeaderFits, ImportFits, LocationsFit, MethodFits,
+    PoolFits, StaticFieldFits,
 };
+ghost use Rattle.cjc_capwrite.specs.Writable.{IsWritable};
 ghost use Rattle.cjc_components.specs.Class.{class_info};
-ghost use Rattle.cjc_components.specs.Components.{applet, header, import, reference_location};
+ghost use Rattle.cjc_components.specs.Components.{applet, components_of, directory_with, header, import, method, reference_location, sizes};
+ghost use Rattle.cjc_components.specs.Descriptor.{descriptor};
 ghost use Rattle.cjc_components.specs.Exports.{export};
 ghost use Rattle.cjc_components.specs.Names.{class_ref, pool_entries};
 ghost use Rattle.cjc_components.specs.Package.{Package};
 ghost use Rattle.cjc_components.specs.Statics.{static_field};
 ghost use Rattle.cjc_fit_laws.specs.Premises.{IsLimited};
 
-/// Components of a package that keeps the rules and the limits fit.
+/// The components of a package that keeps the rules and the limits fit: each by itself, and all of them.
 pub fn components_fit()
     ensures header { (p : Package) → IsLimited p → HeaderFits (header p) }
     ensures applet { (p : Package) → IsLimited p → IfSome (applet p) AppletFits }
@@ -24,4 +27,8 @@ pub fn components_fit()
     ensures statics { (p : Package) → IsLimited p → StaticFieldFits (static_field p.image) }
     ensures locations { (p : Package) → IsLimited p → LocationsFit (reference_location p) }
     ensures export { (p : Package) → IsLimited p → IfSome (export p) ExportFits }
+    ensures method { (p : Package) → IsLimited p → MethodFits (method p) }
+    ensures descriptor { (p : Package) → IsLimited p → DescriptorFits (descriptor p) }
+    ensures directory { (p : Package) → IsLimited p → DirectoryFits (directory_with (sizes p) p) }
+    ensures all { (p : Package) → IsLimited p → IsWritable (components_of p) }
 {}

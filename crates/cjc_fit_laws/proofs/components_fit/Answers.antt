@@ -4,6 +4,9 @@ use Rattle.cjc_fit_laws.proofs.Statics.{statics_fit}
 use Rattle.cjc_fit_laws.proofs.Locations.{locations_fit}
 use Rattle.cjc_fit_laws.proofs.Exports.{export_fits}
 use Rattle.cjc_fit_laws.proofs.Classes.{classes_fit}
+use Rattle.cjc_fit_laws.proofs.Methods.{method_fits}
+use Rattle.cjc_fit_laws.proofs.Described.{descriptor_fits}
+use Rattle.cjc_fit_laws.proofs.Whole.{all_fit, directory_fits}
 use Rattle.cjc_fit_laws.proofs.components_fit.Goals as goal
 
 pub returns-clause-header : goal.returns-clause-header
@@ -29,3 +32,15 @@ returns-clause-locations c p h = locations_fit p h
 
 pub returns-clause-export : goal.returns-clause-export
 returns-clause-export c p h = export_fits p h
+
+pub returns-clause-method : goal.returns-clause-method
+returns-clause-method c p h = method_fits p h
+
+pub returns-clause-descriptor : goal.returns-clause-descriptor
+returns-clause-descriptor c p h = descriptor_fits p h
+
+pub returns-clause-directory : goal.returns-clause-directory
+returns-clause-directory c p h = directory_fits p h
+
+pub returns-clause-all : goal.returns-clause-all
+returns-clause-all c p h = all_fit p h
