@@ -4,7 +4,6 @@ use Rattle.std.specs.Prelude.{slice_get, not, ◌&&◌, if◌then◌else◌}
 use Rattle.std.specs.List.{AllByRecursion}
 use Rattle.std.proofs.lemmas.List.{length-map}
 use Rattle.cjc_bytes.specs.AccessFlags.{is_interface}
-use Rattle.cjc_capread.specs.declared.tree.ClassRef.{ClassRef}
 use Rattle.cjc_capwrite.specs.Fits.{ClassEntryFits, ClassFits, ClassInfoFits, Fits2, ImplementedFits, InterfaceFits}
 use Rattle.cjc_world.specs.declared.found.Found.{Found}
 use Rattle.cjc_world.specs.Classes.{Class}
@@ -12,11 +11,11 @@ use Rattle.cjc_world.specs.Order.{and_then, class_order, in_order, is_in, is_of_
 use Rattle.cjc_vtable.specs.declared.table.InterfaceMap.{InterfaceMap}
 use Rattle.cjc_vtable.specs.Tables.{table_of}
 use Rattle.cjc_components.specs.Package.{Package, world}
-use Rattle.cjc_components.specs.Class.{class_entry, class_info, implemented, info_flags, interface_entry, interfaces_of, is_shareable, superclass, table_entry}
+use Rattle.cjc_components.specs.Class.{class_entry, class_info, implemented, interface_entry, interfaces_of, is_shareable, superclass, table_entry}
 use Rattle.cjc_components.specs.Methods.{method_offset}
 use Rattle.cjc_components.specs.Names.{class_ref}
 use Rattle.cjc_fit_laws.specs.Premises.{ClassIsSmall, IsLimited}
-use Rattle.cjc_fit_laws.proofs.Lists.{all_mapped, at_place}
+use Rattle.cjc_fit_laws.proofs.Lists.{all_mapped}
 use Rattle.cjc_fit_laws.proofs.Offsets.{offset_low}
 use Rattle.cjc_fit_laws.proofs.Refs.{class_fits}
 

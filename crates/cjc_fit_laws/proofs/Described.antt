@@ -1,6 +1,6 @@
 -- Descriptor.
-use Rattle.std.proofs.Common.{◌≡◌, ℕ, zero, suc, ◌+◌, ◌*◌, ◌/◌, ◌%◌, ◌^◌, ◌<◌, ◌≤◌, refl, sym, ap, subst, ◌∙◌, Bool, true, false, List, [], ◌∷◌, ◌++◌, map, length, arith, Option, Some, None}
-use Rattle.std.specs.Prelude.{slice_get, sum_by, flat_map, position, unwrap_or, option_and_then, nat_lt, ◌||◌, if◌then◌else◌}
+use Rattle.std.proofs.Common.{◌≡◌, ℕ, zero, suc, ◌+◌, ◌*◌, ◌^◌, ◌<◌, ◌≤◌, refl, ap, ◌∙◌, Bool, true, false, List, [], ◌∷◌, ◌++◌, map, length, arith, Option, Some, None}
+use Rattle.std.specs.Prelude.{slice_get, flat_map, position, unwrap_or, option_and_then, nat_lt, if◌then◌else◌}
 use Rattle.std.specs.List.{AllByRecursion, list_any}
 use Rattle.std.specs.Str.{bytes_eq}
 use Rattle.std.proofs.lemmas.List.{length-map}
@@ -10,14 +10,13 @@ use Rattle.cjc_capread.specs.declared.tree.ClassRef.TheVariants.{Inside, Outside
 use Rattle.cjc_capread.specs.declared.tree.ClassDescriptor.{ClassDescriptor}
 use Rattle.cjc_capread.specs.declared.tree.FieldPlace.TheVariants as places
 use Rattle.cjc_capread.specs.declared.tree.TypeDescriptor.{TypeDescriptor}
-use Rattle.cjc_capwrite.specs.Descriptor.{class_descriptor_bytes, descriptor_bytes, type_bytes}
+use Rattle.cjc_capwrite.specs.Descriptor.{class_descriptor_bytes, type_bytes}
 use Rattle.cjc_capwrite.specs.Files.{is_wide}
 use Rattle.cjc_capwrite.specs.Fits.{ClassDescriptorFits, ClassFits, DescriptorFits, FieldFits, Fits2, MethodDescriptorFits, PlaceFits, TypeDescriptorFits, TypeFits}
 use Rattle.cjc_capwrite.proofs.Lengths.{class_descriptor_length, descriptor_length, type_length, types_length}
 use Rattle.cjc_classfile.specs.declared.tree.FieldTree.{FieldTree}
 use Rattle.cjc_clinit.specs.Image.{field_id}
 use Rattle.cjc_export.specs.Supers.{is_one_of}
-use Rattle.cjc_ncode.specs.declared.narrow.PoolKey.{PoolKey}
 use Rattle.cjc_script.specs.Sorts.{Element, Booleans, Bytes, Shorts, Ints, Shape, OfClass, OfNumbers, OfReferences, Sort, Boolean, Byte, Short, Int, Reference, NoValue, Signature, field_sort, signature_of}
 use Rattle.cjc_sentences.specs.Complete.{type_size}
 use Rattle.cjc_supers.specs.Supers.{each_once}
@@ -27,14 +26,14 @@ use Rattle.cjc_world.specs.Classes.{Class}
 use Rattle.cjc_world.specs.Order.{class_order, methods_of_class}
 use Rattle.cjc_components.specs.Package.{Package, pool, world}
 use Rattle.cjc_components.specs.Class.{fields_of, interfaces_of}
-use Rattle.cjc_components.specs.Descriptor.{class_descriptor, descriptor, field_descriptor, field_flags, field_place, field_type, fields_from, flag_where, method_descriptor, method_in, pool_type, type_by}
+use Rattle.cjc_components.specs.Descriptor.{class_descriptor, descriptor, field_descriptor, field_flags, field_place, field_type, fields_from, method_descriptor, method_in, pool_type, type_by}
 use Rattle.cjc_components.specs.Methods.{extent_of}
 use Rattle.cjc_components.specs.Names.{class_ref}
 use Rattle.cjc_components.specs.Statics.{cell_offset}
 use Rattle.cjc_components.specs.Types.{all_descs, array_nibble, desc_of_key, nibbles_by, nibbles_of, ref_nibbles, result_nibbles, shape_nibbles, sort_nibbles, type_descriptor, type_offset, type_starts, types_of}
-use Rattle.cjc_fit_laws.specs.Premises.{ClassIsSmall, IsLimited}
+use Rattle.cjc_fit_laws.specs.Premises.{IsLimited}
 use Rattle.cjc_fit_laws.proofs.Lists.{all_mapped, at_place, one_of_all}
-use Rattle.cjc_fit_laws.proofs.Limits.{at_most, first_off, narrow_types, second_off, types_near}
+use Rattle.cjc_fit_laws.proofs.Limits.{at_most, entries_few, first_off, narrow_types, second_off, sizes_kept, types_near}
 use Rattle.cjc_fit_laws.proofs.Offsets.{cell_low, descriptor_short, extent_low}
 use Rattle.cjc_fit_laws.proofs.Refs.{all_both, class_fits, each_size, starts_below}
 
@@ -139,7 +138,7 @@ module _ (p : Package) (h : IsLimited p) where
   starts_low : AllByRecursion (λ s. s ≤ 32767) (type_starts p)
   starts_low =
       let d = descriptor p in
-      let near = types_near p h.sizes in
+      let near = types_near p (sizes_kept p h.limits) in
       let long = types_length d in
       let all = each_size type_bytes type_size type_is d.types in
       let count = length-map (pool p) (pool_type p) in
@@ -165,7 +164,7 @@ module _ (p : Package) (h : IsLimited p) where
 
   types_fit : AllByRecursion TypeDescriptorFits (map type_descriptor (types_of p))
   types_fit =
-      types_by (types_of p) (narrow_types p h.sizes)
+      types_by (types_of p) (narrow_types p (sizes_kept p h.limits))
       (once_all (λ (x : List ℕ). AllByRecursion (λ n. n < 16) x) [] (map (nibbles_of p) (all_descs p))
       (all_mapped (λ (x : List ℕ). AllByRecursion (λ n. n < 16) x) (nibbles_of p) (all_descs p) (λ k desc e. nibbles_low (class_ref p) (class_fits p h) desc (signature_of desc))))
 
@@ -254,7 +253,7 @@ module _ (p : Package) (h : IsLimited p) where
   descriptor_fits = record {
     count = (let n = h.few_classes in let same = length-map (class_order (world p)) (class_descriptor p) in let lt : length (map (class_descriptor p) (class_order (world p))) < 2 ^ 8 = omega (arith, n, same) in lt);
     classes = all_mapped ClassDescriptorFits (class_descriptor p) (class_order (world p)) described;
-    pool_count = (let n = h.few_entries in let same = length-map (pool p) (pool_type p) in let lt : length (map (pool_type p) (pool p)) < 2 ^ 16 = omega (arith, n, same) in lt);
+    pool_count = (let n = (entries_few p h.limits) in let same = length-map (pool p) (pool_type p) in let lt : length (map (pool_type p) (pool p)) < 2 ^ 16 = omega (arith, n, same) in lt);
     pool_types = all_mapped Fits2 (pool_type p) (pool p) (λ k key e. entry_low (desc_of_key key));
     types = types_fit;
   }

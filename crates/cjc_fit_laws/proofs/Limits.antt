@@ -1,15 +1,15 @@
 -- What is kept where 411 and 416 are not broken.
-use Rattle.std.proofs.Common.{◌≡◌, ℕ, ◌<◌, ◌≤◌, refl, Bool, true, false, List, [], ◌++◌, length, arith}
-use Rattle.std.specs.Prelude.{◌||◌, nat_lt, Some}
+use Rattle.std.proofs.Common.{◌≡◌, ℕ, ◌≤◌, refl, Bool, true, false, List, [], ◌∷◌, ◌++◌, length, arith}
+use Rattle.std.specs.Prelude.{◌||◌, nat_lt}
 use Rattle.std.specs.List.{list_any}
 use Rattle.std.proofs.lemmas.Bool.Decides.{nat_tests}
 use Rattle.cjc_bytes.specs.Breaks.{Break, Spot, at}
-use Rattle.cjc_capwrite.specs.Files.{Infos, infos_of, is_long, is_too_large, is_wide}
+use Rattle.cjc_capwrite.specs.Files.{Infos, infos_of, is_too_large, is_wide}
 use Rattle.cjc_capwrite.specs.Descriptor.{types_bytes}
-use Rattle.cjc_components.specs.Package.{Package}
+use Rattle.cjc_components.specs.Package.{Package, pool}
 use Rattle.cjc_components.specs.Components.{components_of}
 use Rattle.cjc_components.specs.Descriptor.{descriptor}
-use Rattle.cjc_components.specs.Limits.{has_far_types, has_large_component, size_breaks, spot_of_list, widest_method}
+use Rattle.cjc_components.specs.Limits.{else_of, form_breaks, has_far_types, has_large_component, has_many_entries, layout_breaks, limit_breaks, of_methods, size_breaks, spot_of_list, widest_method, word_breaks}
 
 pub first_off : (a b : Bool) → (a || b) ≡ false → a ≡ false
 first_off true b e = cc
@@ -31,6 +31,36 @@ back_off false false s m n e = refl
 -- at most so many
 pub at_most : (limit n : ℕ) → nat_lt limit n ≡ false → n ≤ limit
 at_most limit n e = grind (arith, nat_tests, e)
+
+-- ---- what is tested first is not broken either
+
+after_first : (a b : List Break) → else_of a b ≡ [] → b ≡ []
+after_first [] b e = e
+after_first (x ∷ a) b e = cc
+
+before_second : (a b : List Break) → else_of a b ≡ [] → a ≡ []
+before_second [] b e = refl
+before_second (x ∷ a) b e = cc
+
+behind_off : (a : List Break) (b : Bool) (s : Spot) (n : ℕ) → a ++ at b s n ≡ [] → b ≡ false
+behind_off [] true s n e = cc
+behind_off [] false s n e = refl
+behind_off (x ∷ a) b s n e = cc
+
+module _ (p : Package) (none : limit_breaks p ≡ []) where
+  forms_kept : else_of (form_breaks p) (size_breaks p) ≡ []
+  forms_kept = after_first (of_methods p (word_breaks p)) (else_of (form_breaks p) (size_breaks p)) none
+
+  pub sizes_kept : size_breaks p ≡ []
+  sizes_kept = after_first (form_breaks p) (size_breaks p) forms_kept
+
+  many_off : has_many_entries p ≡ false
+  many_off = behind_off (of_methods p (layout_breaks p)) (has_many_entries p) (spot_of_list p) 414 (before_second (form_breaks p) (size_breaks p) forms_kept)
+
+  pub entries_few : length (pool p) ≤ 16383
+  entries_few = at_most 16383 (length (pool p)) (first_off _ _ many_off)
+
+-- ---- bytes
 
 -- the bytes of components that are not too large
 pub record AreShort (i : Infos) : Type 0 where

@@ -1,13 +1,12 @@
 -- Method.
-use Rattle.std.proofs.Common.{◌≡◌, ℕ, zero, suc, ◌+◌, ◌-◌, ◌*◌, ◌^◌, ◌<◌, ◌≤◌, refl, sym, ap, subst, ◌∙◌, Bool, true, false, List, [], ◌∷◌, ◌++◌, map, length, length-append, cond, arith, Option, Some, None, ℤ, pos, negsuc}
-use Rattle.std.specs.Prelude.{slice_get, sum_by, unwrap_or, nat_lt}
+use Rattle.std.proofs.Common.{◌≡◌, ℕ, zero, suc, ◌+◌, ◌-◌, ◌^◌, ◌<◌, ◌≤◌, refl, ap, Bool, true, false, List, [], ◌∷◌, ◌++◌, length, length-append, cond, arith, Option, Some, None, ℤ}
+use Rattle.std.specs.Prelude.{sum_by, unwrap_or, nat_lt}
 use Rattle.std.specs.List.{AllByRecursion, position_or_len}
 use Rattle.std.proofs.lemmas.Bool.Decides.{nat_tests}
 use Rattle.std.proofs.lemmas.List.Sums.{sum_by-cons}
-use Rattle.cjc_capread.specs.Decode.{Instruction, before_table, emitted, in_table, operand_bytes, operands_bytes}
+use Rattle.cjc_capread.specs.Decode.{Instruction, before_table, in_table, operand_bytes, operands_bytes}
 use Rattle.cjc_capread.specs.Decode as Decode
 use Rattle.cjc_capread.specs.Opcodes.{Operand, Byte, Signed1, Signed2, Signed4, Index1, Index2, Form, form, width, widths}
-use Rattle.cjc_capread.specs.declared.tree.Handler.{Handler}
 use Rattle.cjc_capwrite.specs.Fits.{HandlerFits, MethodFits}
 use Rattle.cjc_capwrite.specs.Method.{method_bytes}
 use Rattle.cjc_capwrite.proofs.Lengths.{method_length}
@@ -15,7 +14,7 @@ use Rattle.cjc_keys.specs.Index.{index_of}
 use Rattle.cjc_layout.specs.Handlers.{table_order}
 use Rattle.cjc_layout.specs.Sizes as Sizes
 use Rattle.cjc_layout.proofs.Lowered.{before_same}
-use Rattle.cjc_lower.specs.Handlers.{handler_of, handlers_of}
+use Rattle.cjc_lower.specs.Handlers.{handlers_of}
 use Rattle.cjc_lower.specs.Laid.{class_index, laid}
 use Rattle.cjc_lower.proofs.Places.{size_same}
 use Rattle.cjc_lower.specs.Package.{all_bytes, all_handlers}
@@ -30,6 +29,7 @@ use Rattle.cjc_components.specs.Methods.{bytecode_count, first_method, handler_c
 use Rattle.cjc_components.specs.Names.{names}
 use Rattle.cjc_components.specs.Package.{LaidMethod, Package, pool}
 use Rattle.cjc_fit_laws.specs.Premises.{IsLimited, MethodIsShort}
+use Rattle.cjc_fit_laws.proofs.Limits.{entries_few}
 use Rattle.cjc_fit_laws.proofs.Lists.{all_of}
 use Rattle.cjc_fit_laws.proofs.Offsets.{code_few, methods_short}
 use Rattle.cjc_fit_laws.proofs.Refs.{all_both}
@@ -154,7 +154,7 @@ module _ (p : Package) (h : IsLimited p) where
   pub method_fits : MethodFits (method p)
   method_fits = record {
     count = (let few = h.few_handlers in let same = handlers_many p (first_method p.methods) p.methods in let lt : length (all_handlers (names p) (placed_methods p)) < 2 ^ 8 = omega (arith, few, same) in lt);
-    handlers = handlers_fit p h.few_entries (first_method p.methods) p.methods all_short (methods_short p h);
+    handlers = handlers_fit p (entries_few p h.limits) (first_method p.methods) p.methods all_short (methods_short p h);
   }
 
   -- all of Method
@@ -162,6 +162,6 @@ module _ (p : Package) (h : IsLimited p) where
   method_low =
       let long = method_length (method p) in
       let same = handlers_many p (first_method p.methods) p.methods in
-      let bytes = bytes_short p h.few_entries (first_method p.methods) p.methods all_short in
+      let bytes = bytes_short p (entries_few p h.limits) (first_method p.methods) p.methods all_short in
       let room = methods_short p h in
       omega (arith, long, same, bytes, room)

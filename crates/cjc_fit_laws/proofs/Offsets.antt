@@ -1,11 +1,10 @@
 -- Offsets of cells and of methods, by what stands before them.
-use Rattle.std.proofs.Common.{◌≡◌, ℕ, zero, suc, ◌+◌, ◌*◌, ◌^◌, ◌<◌, ◌≤◌, ◌==◌, refl, sym, ap, subst, ◌∙◌, Bool, true, false, List, [], ◌∷◌, ◌++◌, map, length, length-append, arith, Some}
-use Rattle.std.specs.Prelude.{slice_get, sum_by, flat_map, if◌then◌else◌}
+use Rattle.std.proofs.Common.{◌≡◌, ℕ, ◌+◌, ◌*◌, ◌^◌, ◌<◌, ◌≤◌, ◌==◌, Bool, true, false, List, [], ◌∷◌, map, length, length-append, arith}
+use Rattle.std.specs.Prelude.{sum_by, flat_map, if◌then◌else◌}
 use Rattle.std.specs.List.{AllByRecursion}
 use Rattle.std.proofs.lemmas.List.Sums.{sum_by-cons}
 use Rattle.cjc_bytes.specs.declared.fault.MemberId.{MemberId}
-use Rattle.cjc_capwrite.specs.Descriptor.{class_descriptor_bytes, descriptor_bytes, types_bytes}
-use Rattle.cjc_capwrite.specs.Files.{infos_of}
+use Rattle.cjc_capwrite.specs.Descriptor.{class_descriptor_bytes, descriptor_bytes}
 use Rattle.cjc_capwrite.proofs.Lengths.{class_descriptor_length, descriptor_length}
 use Rattle.cjc_script.specs.Sorts.{Sort, Boolean, Byte, Short, Int, Reference, NoValue, field_sort}
 use Rattle.cjc_world.specs.declared.found.Found.{Found}
@@ -23,7 +22,7 @@ use Rattle.cjc_components.specs.Methods.{Extent, bytecode_count, extent_at, exte
 use Rattle.cjc_components.specs.Statics.{cell_offset, cell_order, cell_size, offset_from, size_of_field}
 use Rattle.cjc_fit_laws.specs.Premises.{IsLimited, MethodIsShort}
 use Rattle.cjc_fit_laws.proofs.Lists.{all_of}
-use Rattle.cjc_fit_laws.proofs.Limits.{components_short, method_counted}
+use Rattle.cjc_fit_laws.proofs.Limits.{components_short, method_counted, sizes_kept}
 
 -- ---- cells
 
@@ -55,7 +54,7 @@ fields_long p (c ∷ cs) =
 
 module _ (p : Package) (h : IsLimited p) where
   pub descriptor_short : length (descriptor_bytes (descriptor p)) ≤ 65535
-  descriptor_short = let s = components_short p h.sizes in s.descriptor
+  descriptor_short = let s = components_short p (sizes_kept p h.limits) in s.descriptor
 
   pub few_cells : 4 * length (cell_order p.image) ≤ 65535
   few_cells =
@@ -125,7 +124,7 @@ module _ (p : Package) (h : IsLimited p) where
   pub methods_short : first_method p.methods + sum_by method_size p.methods ≤ 65535
   methods_short =
       let few = methods_few p.methods (all_of MethodIsShort p.methods h.methods) in
-      let all = method_counted p h.sizes in
+      let all = method_counted p (sizes_kept p h.limits) in
       omega (arith, few, all)
 
   pub extent_low : (f : Found) → IsWithin 65535 255 (extent_of p f)

@@ -1,11 +1,10 @@
 -- Header, Applet and Import.
-use Rattle.std.proofs.Common.{◌≡◌, ℕ, ◌+◌, ◌<◌, ◌≤◌, ◌^◌, refl, sym, ap, subst, ◌∙◌, Bool, true, false, List, [], ◌∷◌, length, map, arith}
-use Rattle.std.specs.Prelude.{slice_get, nat_le, ◌&&◌, Option, Some, None, IfSome, codes, if◌then◌else◌}
+use Rattle.std.proofs.Common.{◌≡◌, ℕ, ◌<◌, ◌≤◌, ◌^◌, refl, Bool, true, false, List, [], ◌∷◌, length, map, arith}
+use Rattle.std.specs.Prelude.{nat_le, ◌&&◌, Some, None, IfSome, codes, if◌then◌else◌}
 use Rattle.std.proofs.lemmas.Bool.Decides.{nat_tests}
 use Rattle.std.specs.List.{AllByRecursion}
 use Rattle.std.proofs.lemmas.List.{length-map}
 use Rattle.cjc_capwrite.specs.Fits.{AppletEntryFits, AppletFits, HeaderFits, ImportedPackageFits, ImportFits}
-use Rattle.cjc_export.specs.declared.tree.ExportTree.{ExportTree}
 use Rattle.cjc_export.specs.Pool.{aid_length}
 use Rattle.cjc_components.specs.Package.{Package}
 use Rattle.cjc_components.specs.Components.{applet, applet_entry, applet_with, header, import, imported_package}

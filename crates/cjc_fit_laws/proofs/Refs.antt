@@ -1,5 +1,5 @@
 -- References to classes and to static members.
-use Rattle.std.proofs.Common.{◌≡◌, ℕ, zero, suc, ◌+◌, ◌*◌, ◌^◌, ◌<◌, ◌≤◌, refl, sym, ap, subst, ◌∙◌, Bool, true, false, List, [], ◌∷◌, ◌++◌, map, length, length-append, arith, Option, Some, None}
+use Rattle.std.proofs.Common.{◌≡◌, ℕ, ◌+◌, ◌*◌, ◌^◌, ◌<◌, ◌≤◌, refl, sym, ap, subst, ◌∙◌, Bool, true, false, List, [], ◌∷◌, ◌++◌, map, length, length-append, arith, Option, Some, None}
 use Rattle.std.specs.Prelude.{slice_get, sum_by, flat_map, position, option_and_then, option_map, unwrap_or, if◌then◌else◌}
 use Rattle.std.specs.List.{AllByRecursion}
 use Rattle.std.specs.Str.{bytes_eq}
@@ -30,7 +30,7 @@ use Rattle.cjc_components.specs.Class.{class_info, class_entry, interface_entry,
 use Rattle.cjc_components.specs.Names.{class_at, class_offset, class_ref, field_ref, info_starts, member_ref, method_ref, offset_where, ref_to}
 use Rattle.cjc_fit_laws.specs.Premises.{IsLimited}
 use Rattle.cjc_fit_laws.proofs.Lists.{all_of, at_place}
-use Rattle.cjc_fit_laws.proofs.Limits.{components_short}
+use Rattle.cjc_fit_laws.proofs.Limits.{components_short, sizes_kept}
 use Rattle.cjc_fit_laws.proofs.Offsets.{cell_low, offset_low}
 
 -- ---- the bytes of Class, whatever class_refs it holds
@@ -112,7 +112,7 @@ static_by (Foreign file class) offset token fits low = fits.0
 
 module _ (p : Package) (h : IsLimited p) where
   pub class_short : length (class_info_bytes (class_info (class_ref p) p)) ≤ 32767
-  class_short = let s = components_short p h.sizes in s.class
+  class_short = let s = components_short p (sizes_kept p h.limits) in s.class
 
   info_short : class_info_size (class_info (λ name. Inside 0) p) ≤ 32767
   info_short =

@@ -1,5 +1,5 @@
 -- StaticField, and the numbers of Directory that are its own.
-use Rattle.std.proofs.Common.{◌≡◌, ℕ, suc, ◌+◌, ◌*◌, ◌^◌, ◌<◌, ◌≤◌, refl, ap, ◌∙◌, List, [], ◌∷◌, ◌++◌, map, length, length-append, arith}
+use Rattle.std.proofs.Common.{◌≡◌, ℕ, suc, ◌+◌, ◌*◌, ◌^◌, ◌<◌, ◌≤◌, refl, List, [], ◌∷◌, ◌++◌, map, length, length-append, arith}
 use Rattle.std.specs.Prelude.{flat_map, sum_by, ℤ, Some, slice_get}
 use Rattle.std.specs.List.{AllByRecursion}
 use Rattle.std.proofs.lemmas.List.{length-map}
@@ -20,8 +20,8 @@ use Rattle.cjc_world.specs.declared.image.ValueCell.{ValueCell}
 use Rattle.cjc_components.specs.Package.{Package}
 use Rattle.cjc_components.specs.Statics.{array_init, cell_order, default_size, other_values, reference_count, size_of_field, static_field, type_number, value_by, value_bytes}
 use Rattle.cjc_fit_laws.specs.Premises.{IsLimited}
-use Rattle.cjc_fit_laws.proofs.Lists.{all_mapped, many, one_of_all}
-use Rattle.cjc_fit_laws.proofs.Limits.{components_short}
+use Rattle.cjc_fit_laws.proofs.Lists.{many, one_of_all}
+use Rattle.cjc_fit_laws.proofs.Limits.{components_short, sizes_kept}
 use Rattle.cjc_fit_laws.proofs.Offsets.{few_cells, size_small}
 
 -- ---- cells
@@ -99,7 +99,7 @@ module _ (p : Package) (h : IsLimited p) where
   shown = static_field p.image
 
   short : length (static_field_bytes shown) ≤ 65535
-  short = let s = components_short p h.sizes in s.statics
+  short = let s = components_short p (sizes_kept p h.limits) in s.statics
 
   in_arrays : length (flat_map array_init_bytes (let s = shown in s.array_inits)) ≤ 65525
   in_arrays = let s = short in let l = static_field_length shown in omega (arith, s, l)

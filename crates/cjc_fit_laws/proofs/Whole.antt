@@ -1,16 +1,15 @@
 -- Directory, and all components.
-use Rattle.std.proofs.Common.{◌≡◌, ℕ, ◌+◌, ◌*◌, ◌^◌, ◌<◌, ◌≤◌, refl, List, [], ◌∷◌, length, arith}
+use Rattle.std.proofs.Common.{◌≡◌, ℕ, ◌^◌, ◌<◌, ◌≤◌, refl, length, arith}
 use Rattle.std.specs.Prelude.{replicate}
 use Rattle.std.specs.List.{AllByRecursion}
 use Rattle.cjc_capwrite.specs.Package.{directory_bytes}
-use Rattle.cjc_capwrite.specs.Files.{infos_of}
 use Rattle.cjc_capwrite.specs.Fits.{DirectoryFits, Fits2}
 use Rattle.cjc_capwrite.specs.Writable.{IsWritable}
 use Rattle.cjc_capwrite.proofs.Lengths.{directory_length}
-use Rattle.cjc_components.specs.Components.{components_of, components_with, directory_with, sizes}
+use Rattle.cjc_components.specs.Components.{components_of, directory_with, sizes}
 use Rattle.cjc_components.specs.Package.{Package}
 use Rattle.cjc_fit_laws.specs.Premises.{IsLimited}
-use Rattle.cjc_fit_laws.proofs.Limits.{components_short}
+use Rattle.cjc_fit_laws.proofs.Limits.{components_short, sizes_kept}
 use Rattle.cjc_fit_laws.proofs.Package.{applet_fits, header_fits, import_fits}
 use Rattle.cjc_fit_laws.proofs.Pool.{pool_fits}
 use Rattle.cjc_fit_laws.proofs.Statics.{array_bytes_low, arrays_few, image_low, statics_fit}
@@ -35,7 +34,7 @@ module _ (p : Package) (h : IsLimited p) where
       omega (arith, l, twelve)
 
   sizes_fit : AllByRecursion Fits2 (sizes p)
-  sizes_fit = let s = components_short p h.sizes in
+  sizes_fit = let s = components_short p (sizes_kept p h.limits) in
       (low _ s.header, (low _ own_size, (low _ s.applet, (low _ s.import, (low _ s.pool, (lower _ s.class, (low _ (method_low p h), (low _ s.statics, (low _ s.locations, (low _ s.export, (low _ s.descriptor, (low 0 (omega arith), tt))))))))))))
 
   pub directory_fits : DirectoryFits (directory_with (sizes p) p)

@@ -1,5 +1,5 @@
 -- What of a package its components rest on so that they fit: what its list and its files keep by their formats, and the rules that it does not break.
-use Rattle.std.specs.Prelude.{◌≡◌, ◌≤◌, ℕ, List, [], length, slice_get, sum_by, filter, Some, if◌then◌else◌}
+use Rattle.std.specs.Prelude.{◌≡◌, ◌≤◌, ℕ, [], length, slice_get, sum_by, filter, Some, if◌then◌else◌}
 use Rattle.std.specs.List.{AllByRecursion}
 use Rattle.cjc_bytes.specs.AccessFlags.{is_interface}
 use Rattle.cjc_bytes.specs.declared.settings.AppletLine.{AppletLine}
@@ -14,11 +14,11 @@ use Rattle.cjc_vtable.specs.Tables.{table_of}
 use Rattle.cjc_ncode.specs.declared.narrow.NInsn.{NInsn}
 use Rattle.cjc_layout.specs.Forms.{HasForm}
 use Rattle.cjc_layout.specs.Sizes.{widest_size}
-use Rattle.cjc_components.specs.Package.{LaidMethod, Package, pool, world}
+use Rattle.cjc_components.specs.Package.{LaidMethod, Package, world}
 use Rattle.cjc_components.specs.Class.{fields_of, interfaces_of}
 use Rattle.cjc_components.specs.Descriptor.{fields_from}
 use Rattle.cjc_components.specs.Exports.{exported_classes, open_methods}
-use Rattle.cjc_components.specs.Limits.{size_breaks}
+use Rattle.cjc_components.specs.Limits.{limit_breaks}
 use Rattle.cjc_components.specs.Methods.{handler_count}
 use Rattle.cjc_components.specs.Statics.{cell_order}
 
@@ -74,9 +74,7 @@ pub record IsLimited (p : Package) : Type 0 where
   pub exported : (k : ℕ) (c : Class) → slice_get (exported_classes p) k ≡ Some c → ExportsFew p c
   -- 407
   pub few_handlers : sum_by handler_count p.methods ≤ 255
-  -- 414
-  pub few_entries : length (pool p) ≤ 16383
-  -- 411 and 416
-  pub sizes : size_breaks p ≡ []
+  -- 411, 414 and 416
+  pub limits : limit_breaks p ≡ []
   pub methods : (k : ℕ) (m : LaidMethod) → slice_get p.methods k ≡ Some m → MethodIsShort m
   pub cells : CellsAreDescribed p
