@@ -1,0 +1,13 @@
+pub mod Lists
+pub mod Limits
+pub mod Offsets
+pub mod Refs
+pub mod Package
+pub mod Pool
+pub mod Statics
+pub mod Locations
+pub mod Exports
+pub mod Classes
+pub mod Methods
+pub mod Described
+pub mod Whole
