@@ -30,7 +30,7 @@ use Rattle.cjc_class_laws.proofs.Refs.{info, class_begins}
 
 -- ---- lists
 
-any_has : {A : Type 0} (test : A → Bool) (x : A) (xs : List A) → Has x xs → test x ≡ true → list_any test xs ≡ true
+pub any_has : {A : Type 0} (test : A → Bool) (x : A) (xs : List A) → Has x xs → test x ≡ true → list_any test xs ≡ true
 any_has test x [] h e = elim h [ ]
 any_has test x (y ∷ xs) at_front e = ap (λ b. b || list_any test xs) e
 any_has test x (y ∷ xs) (behind h) e = last (test y) (any_has test x xs h e)

@@ -10,3 +10,5 @@ mod Supers
 mod Installs
 mod Tabled
 mod Leaving
+mod Listing
+mod Exporting

@@ -6,7 +6,8 @@ use Rattle.cjc_bytes.specs.declared.settings.AppletLine.{AppletLine}
 use Rattle.cjc_subset.specs.Applets.{is_unfit_applet}
 use Rattle.cjc_script.specs.Sorts.{Shape, OfClass, OfNumbers, OfReferences, Sort, Boolean, Byte, Short, Int, Reference, NoValue, Signature, field_sort, signature_of}
 use Rattle.cjc_sentences.specs.Complete.{class_info_size}
-use Rattle.cjc_world.specs.Classes.{Class, class_named}
+use Rattle.cjc_world.specs.Classes.{Class, Member, class_named}
+use Rattle.cjc_tokens.specs.Methods.{is_open_bound}
 use Rattle.cjc_ncode.specs.declared.narrow.PoolKey.{PoolKey}
 use Rattle.cjc_ncode.specs.declared.narrow.PoolKey.TheVariants as keys
 use Rattle.cjc_capwrite.specs.Files.{ends_too_far}
@@ -83,6 +84,12 @@ HaveInstalls p =
     → (is_unfit_applet (world p) a.class ≡ false) × ((c : Class) → class_named (world p) a.class ≡ Some c → is_interface c.flags ≡ false)
 
 -- ---- methods
+
+-- No interface of the package has a public or protected static method or constructor, its initialiser aside.
+abbrev pub InterfacesAreUnbound : Package → Type 0
+InterfacesAreUnbound p =
+    (x : List ℕ) (c : Class) → class_named (world p) x ≡ Some c → c.is_imported ≡ false → is_interface c.flags ≡ true
+    → (k : ℕ) (m : Member) → slice_get c.methods k ≡ Some m → is_open_bound m ≡ false
 
 -- Method has at most 65,535 bytes
 abbrev pub HasShortMethods : Package → Type 0

@@ -1,5 +1,5 @@
 //! That what is written for the classes of a package is consistent, one law a sentence or a part of one: class_refs,
-//! superclasses, tables, install methods and Descriptor. The converter's promise rests on them. Nothing here runs.
+//! superclasses, tables, install methods, Export and Descriptor. The converter's promise rests on them. Nothing here runs.
 #![tactic(auto)]
 
 ghost use Rattle.std.specs.Prelude.{◌≡◌, ◌==◌, ◌≤◌, ◌+◌, false, ℕ, List, length, None, []};
@@ -9,6 +9,7 @@ ghost use Rattle.cjc_sentences.specs.Complete.{class_info_size, described_size};
 ghost use Rattle.cjc_sentences.specs.ClassRefs.{class_ref_spots, pool_count_at, super_spots};
 ghost use Rattle.cjc_sentences.specs.Tables.{table_spots};
 ghost use Rattle.cjc_sentences.specs.Statics.{install_spots};
+ghost use Rattle.cjc_sentences.specs.Exports.{export_spots};
 ghost use Rattle.cjc_sentences.specs.Described.{all_ascend, descriptor_spots, types_in_class, types_in_pool};
 ghost use Rattle.cjc_components.specs.Package.{Package, world};
 ghost use Rattle.cjc_components.specs.Class.{class_info};
@@ -20,7 +21,7 @@ ghost use Rattle.cjc_components.specs.Limits.{has_far_types, has_large_component
 ghost use Rattle.cjc_components.specs.Names.{class_ref, pool_entries};
 ghost use Rattle.cjc_components.specs.Descriptor.{descriptor};
 ghost use Rattle.cjc_tables_by_token.specs.Sound.{AreTyped, IsSound};
-ghost use Rattle.cjc_class_laws.specs.Premises.{HaveInstalls, HasNearTypes, HasShortMethods, HasShortRefs, KeysAreKnown, TypesAreKnown};
+ghost use Rattle.cjc_class_laws.specs.Premises.{HaveInstalls, HasNearTypes, HasShortMethods, HasShortRefs, InterfacesAreUnbound, KeysAreKnown, TypesAreKnown};
 
 use cjc_component_laws::{descriptor_classes_are_in_order, named_classes_are_there};
 use cjc_world::lookup_laws;
@@ -86,6 +87,13 @@ pub fn descriptor_describes_what_is_there()
     members_have_types();
     methods_are_described_in_order();
 }
+
+/// The offsets of Export are starts of classes, cells and static methods, in the order of the tokens that Descriptor
+/// gives them.
+pub fn exports_are_described()
+    ensures { (list : List ℕ) (p : Package) → IsSound list p.files → HasMethods p → InterfacesAreUnbound p
+        → export_spots (whole p) ≡ [] }
+{}
 
 /// Where neither 411 nor 416 is broken, types have offsets up to 32,767, and so have the infos of Class.
 pub fn limits_are_kept()
