@@ -20,7 +20,7 @@ use Rattle.cjc_vtable.proofs.Filed.{Has, IsFiled, at_front, behind, filed, get-h
 use Rattle.cjc_world.specs.Classes.{Class, Member, all_classes, class_named, method_of_class, method_of_export}
 use Rattle.cjc_world.specs.Files.{Files}
 
-each_after : {A : Type 0} (P : List A → A → Type 0) (before xs : List A) (x : A) → EachAfter P before xs → Has x xs → (b : List A) × P b x
+pub each_after : {A : Type 0} (P : List A → A → Type 0) (before xs : List A) (x : A) → EachAfter P before xs → Has x xs → (b : List A) × P b x
 each_after P before [] x h i = elim i [ ]
 each_after P before (y ∷ xs) x h at_front = (before, h.0)
 each_after P before (y ∷ xs) x h (behind i) = each_after P _ xs x h.1 i

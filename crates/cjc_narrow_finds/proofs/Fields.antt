@@ -61,15 +61,15 @@ use Rattle.cjc_world.specs.Files.{Files}
 use Rattle.cjc_world.specs.Lookup.{find_field, member_at, object, receiver}
 use Rattle.cjc_world.specs.Subtype.{is_subtype, starts}
 
-or_left : (a b : Bool) → (a || b) ≡ false → a ≡ false
+pub or_left : (a b : Bool) → (a || b) ≡ false → a ≡ false
 or_left true b e = absurd cc
 or_left false b e = refl
 
-or_right : (a b : Bool) → (a || b) ≡ false → b ≡ false
+pub or_right : (a b : Bool) → (a || b) ≡ false → b ≡ false
 or_right true b e = absurd cc
 or_right false b e = e
 
-true_not_false : (b : Bool) → b ≡ true → b ≡ false → ⊥
+pub true_not_false : (b : Bool) → b ≡ true → b ≡ false → ⊥
 true_not_false true e f = cc
 true_not_false false e f = cc
 
@@ -77,7 +77,7 @@ true_or_false : (b : Bool) → (b ≡ true) ⊎ (b ≡ false)
 true_or_false true = inl refl
 true_or_false false = inr refl
 
-second : (a b c : Bool) → (a || b || c) ≡ false → b ≡ false
+pub second : (a b c : Bool) → (a || b || c) ≡ false → b ≡ false
 second a b c e = or_right a b (or_left (a || b) c e)
 
 on_object : (flags : ℕ) → is_other_kind false flags ≡ false → is_static flags ≡ false
@@ -94,7 +94,7 @@ no_constant flags desc e = by (is_static flags) e
     by true e = absurd cc
     by false e = refl
 
-lists_has : (f : MemberId) (fields : List MemberId) → Has f fields → lists fields f ≡ true
+pub lists_has : (f : MemberId) (fields : List MemberId) → Has f fields → lists fields f ≡ true
 lists_has f _ (upward.foremost {xs = xs}) = by (bytes_eq f.class f.class) (bytes_eq f.name f.name) (bytes_eq f.desc f.desc) (bytes-refl f.class) (bytes-refl f.name) (bytes-refl f.desc)
   where
     by : (a b c : Bool) → a ≡ true → b ≡ true → c ≡ true → ((a && (b && c)) || lists xs f) ≡ true
@@ -109,7 +109,7 @@ lists_has f _ (upward.after {y = g} {xs = xs} h) = by (same_member g f) (lists x
     by false b e = e
 
 -- a field's descriptor that names none of the types which a package may not use is of one word
-word_field : (desc : List ℕ) (d : Parts) → length desc < 2 ^ 32 → desc_of desc ≡ Some d → d.is_method ≡ false → is_foreign_desc desc ≡ false → is_int_desc desc ≡ false → IsWordField desc
+pub word_field : (desc : List ℕ) (d : Parts) → length desc < 2 ^ 32 → desc_of desc ≡ Some d → d.is_method ≡ false → is_foreign_desc desc ≡ false → is_int_desc desc ≡ false → IsWordField desc
 unfolding parts is_foreign_desc is_int_desc
 word_field desc d short is is_field no_foreign no_int =
     let fits : nat_lt (length desc) (2 ^ 32) ≡ true = lt-ltb (length desc) (2 ^ 32) short in
@@ -122,11 +122,11 @@ word_field desc d short is is_field no_foreign no_int =
     by (field {p = p} t) m f g = type_word t (or_left (is_foreign_part p) false f) (or_left (is_int_part p) false g)
     by (method ts t) m f g = absurd cc
 
-abbrev tested : Class → Member → subset.Hit
+abbrev pub tested : Class → Member → subset.Hit
 tested d m = record { owner = d; flags = m.flags }
 
 -- what the tests know of a field that is found
-tested_field : (w : List Class) (d : Class) (place : ℕ) (m : Member) → class_at w d.is_imported d.number ≡ Some d → slice_get d.fields place ≡ Some m → subset.hit w true (Some (member_at d place)) ≡ Some (tested d m)
+pub tested_field : (w : List Class) (d : Class) (place : ℕ) (m : Member) → class_at w d.is_imported d.number ≡ Some d → slice_get d.fields place ≡ Some m → subset.hit w true (Some (member_at d place)) ≡ Some (tested d m)
 unfolding subset.hit
 tested_field w d place m numbered there =
     let off : place - 0 ≡ place = omega arith in

@@ -1,0 +1,4 @@
+pub mod Operations
+pub mod Objects
+pub mod Statics
+pub mod Named

@@ -1,0 +1,25 @@
+//! The narrow code of a package that breaks no rule over sound export files runs as its class files: what the instructions of its methods
+//! name fits their types. Laws alone: nothing here runs.
+#![tactic(auto)]
+
+ghost use Rattle.std.specs.Prelude.{ℕ, List};
+ghost use Rattle.cjc_bytes.specs.declared.fault.MemberId.{MemberId};
+ghost use Rattle.cjc_bytes.specs.declared.settings.Settings.{Settings};
+ghost use Rattle.cjc_by_name.specs.Linked.{Method};
+ghost use Rattle.cjc_code.specs.declared.method_code.MethodCode.{MethodCode};
+ghost use Rattle.cjc_narrow_finds.specs.Whole.{IsWhole};
+ghost use Rattle.cjc_narrow_runs.specs.Converted.{IsConverted, IsFirst};
+ghost use Rattle.cjc_narrow_runs.specs.Names.{AreNamed};
+ghost use Rattle.cjc_narrow_runs.specs.Tables.{Tables, look_ups};
+ghost use Rattle.cjc_world.specs.Files.{Files};
+ghost use Rattle.cjc_world.specs.declared.image.StaticImage.{StaticImage};
+
+/// Each instruction that the type table of a method reaches is one that the card has, and what it names is in the class files and export
+/// files and fits the types of the stack. So the narrow code of the package runs as its class files, for every script, where what the
+/// image says is of sound types.
+pub fn instructions_fit_their_files()
+    ensures named { (list : List ℕ) (files : Files) (codes : List MethodCode) (settings : Settings) (tables : Tables) → IsWhole list files codes settings tables
+        → (image : StaticImage) (near : List MemberId) (m : Method) → AreNamed files image near tables m }
+    ensures converted { (list : List ℕ) (files : Files) (codes : List MethodCode) (settings : Settings) (tables : Tables) → IsWhole list files codes settings tables
+        → (image : StaticImage) (near : List MemberId) → IsFirst (look_ups files image near tables) files image → IsConverted files image near tables }
+{}
