@@ -98,6 +98,18 @@ pub fn entries_are_called()
     classes_are_told();
 }
 
+/// Each method that a script sends to an object is one of the methods of Method.
+pub fn sent_methods_stand()
+    ensures { (list : List ℕ) (p : Package) → IsSound list p.files → AreReady p → AreMethods p → IsSmall p → Keeps (world p) → ExportsKeep p
+        → (kind : Shape (List ℕ)) → Receives (world p) (Some kind) → (id : Member) (start : Start Placed) → (let methods = Reaching.placed_methods p.files (place p) in methods.sent kind id ≡ Some start → IsAmong (placed_methods p) start.code) }
+{
+    layouts_are_laid_out();
+    dispatch_laws();
+    token_laws();
+    lookup_laws();
+    classes_are_told();
+}
+
 /// What the pool's entry of a call names is what the call names: a virtual method of a class by its token, one of the
 /// superclass, the interface of a call of its method, and of the package itself a static method, a constructor or a
 /// private method.
