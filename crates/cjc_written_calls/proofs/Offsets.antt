@@ -119,6 +119,10 @@ module _ (forms : FormsLaw) (offsets : OffsetsLaw) (p : Package) (ready : AreRea
         ∙ ap (λ t. Some (start_on_card (naming p) t q)) is_abstract_same
         ∙ ap (λ x. Some (start_on_card (naming p) m.is_abstract x)) (sym stood.found)
 
+    -- what is asked of the code of each method of Method holds of the code at its place
+    pub place_has : (Q : LaidMethod → Type 0) → ((j : ℕ) (t : LaidMethod) → slice_get p.methods j ≡ Some t → t.member ≡ f → Q t) → (offset : ℕ) × (t : LaidMethod) × (place p m ≡ placed_at offset t) × Q t
+    place_has Q all = (stood.offset, stood.method, stood.found, all stood.number stood.method stood.there member_is)
+
     -- its place is one of those of Method
     pub place_among : IsAmong (placed_methods p) (place p m)
     place_among = record { place = stood.number; there = stood.placed ∙ ap Some (sym stood.found) }

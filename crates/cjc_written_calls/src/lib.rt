@@ -25,6 +25,7 @@ ghost use Rattle.cjc_world.specs.Classes.{Class, class_named};
 ghost use Rattle.cjc_lower.specs.Package.{HoldsMethods};
 ghost use Rattle.cjc_lower.specs.Placed.{Placed, code_of, offset_of};
 ghost use Rattle.cjc_lower.specs.Agreement.{IsAmong};
+ghost use Rattle.cjc_narrow.specs.Package.{words};
 ghost use Rattle.cjc_ncode.specs.ByLabel.{Callee};
 ghost use Rattle.cjc_ncode.specs.ByLabel as ByLabel;
 ghost use Rattle.cjc_script.specs.Sorts.{Shape};
@@ -32,7 +33,7 @@ ghost use Rattle.cjc_tables_by_token.specs.Loading.{naming, part};
 ghost use Rattle.cjc_tables_by_token.specs.Sound.{IsSound};
 ghost use Rattle.cjc_world.specs.Files.{Files};
 ghost use Rattle.cjc_vtable.specs.Kept.{Keeps};
-ghost use Rattle.cjc_written_calls.specs.Calls.{ExportsKeep, IsNamed, KeepsSubtypes, KeepsTokens, NoStaticMethods, Receives};
+ghost use Rattle.cjc_written_calls.specs.Calls.{ExportsKeep, IsNamed, KeepsSubtypes, KeepsTokens, NoStaticMethods, Receives, TakesWords};
 ghost use Rattle.cjc_written_calls.specs.Standing.{AreMethods, AreReady, IsSmall, place};
 
 use cjc_layout::layouts_are_laid_out;
@@ -76,6 +77,19 @@ pub fn calls_reach()
         → (let n = naming p in Calls.reached n.loaded (callee n m) (option_as (shape_as n.class) o) ≡ reached_as (code_of n) (offset_of n) r) }
     ensures there { (list : List ℕ) (p : Package) → IsSound list p.files → AreReady p → AreMethods p → IsSmall p → Keeps (world p) → ExportsKeep p
         → (m : Callee) → IsNamed (world p) m → (o : Option (Shape (List ℕ))) → Receives (world p) o → (start : Start Placed) → reached_at p.files (world p) (place p) m o ≡ Within start → IsAmong (placed_methods p) start.code }
+{
+    layouts_are_laid_out();
+    dispatch_laws();
+    token_laws();
+    lookup_laws();
+    classes_are_told();
+}
+
+/// Each call takes by token as many words of arguments as it takes by name: by the header of the method where it is one
+/// of the package, by the descriptor of an imported one, and an interface's by its operand.
+pub fn calls_take_words<T>()
+    ensures { (list : List ℕ) (tree : ListTree) (codes : List MethodCode) (rows : Method → List (Option T)) (p : Package) → IsSound list p.files → IsPackage tree p.files codes rows p → AreReady p → IsSmall p → Keeps (world p) → KeepsSubtypes (world p) → KeepsTokens (world p) → ExportsKeep p
+        → (m : Callee) → IsNamed (world p) m → TakesWords (world p) m → (k : ℕ) → words p.files (world p) m ≡ Some k → (let n = naming p in Calls.words n.loaded (callee n m) ≡ Some k) }
 {
     layouts_are_laid_out();
     dispatch_laws();
