@@ -235,7 +235,7 @@ module _ (p : Package) (facts : Facts p) (subtypes : KeepsSubtypes (world p)) (t
 
     pub interface_reached : (words : ℕ) (o : Option (Shape (List ℕ))) → Receives w o → (r : Reached Placed) → reached_at p.files w place (OnInterface words m) o ≡ r → IsFound r → Calls.reached n.loaded (callee n (OnInterface words m)) (option_as (shape_as n.class) o) ≡ reached_as (code_of n) (offset_of n) r
     interface_reached words o none r h is = absurd (subst IsFound (sym h) is)
-    interface_reached words o (one_of {x = x} c e not_interface made) r h is = interface_on words x c e not_interface (λ own. made) r h is
+    interface_reached words o (one_of {x = x} c e not_interface made) r h is = interface_on words x c e not_interface made r h is
     interface_reached words o (numbers {element = element}) r h is = interface_array words (OfNumbers element) (numbers_array element) refl r h is
     interface_reached words o (references {x = x}) r h is = interface_array words (OfReferences x) (references_array x) refl r h is
 

@@ -1,18 +1,18 @@
 -- Calls take as many words by token as by name.
-use Rattle.std.proofs.Common.{◌≡◌, ℕ, ◌+◌, ◌-◌, refl, sym, ap, subst, ◌∙◌, arith, Bool, true, false, List, [], ◌∷◌, length}
-use Rattle.std.specs.Prelude.{Option, Some, None, slice_get, option_map, option_and_then, not, is_some, ◌&&◌, if◌then◌else◌}
+use Rattle.std.proofs.Common.{◌≡◌, ℕ, ◌+◌, ◌-◌, refl, sym, ap, ◌∙◌, arith, Bool, true, false, List, [], ◌∷◌, length}
+use Rattle.std.specs.Prelude.{Option, Some, None, slice_get, option_map, option_and_then, not, if◌then◌else◌}
 use Rattle.cjc_bytes.specs.AccessFlags.{is_interface, is_private, is_static}
 use Rattle.cjc_bytes.specs.declared.fault.MemberId.{MemberId}
 use Rattle.cjc_bytecode.specs.Arguments.{widths}
 use Rattle.cjc_bytecode.specs.Machine.{Start}
 use Rattle.cjc_by_name.specs.Linked.{Method}
-use Rattle.cjc_by_name.specs.OnePackage.{callee_at, first_imported, first_super, is_initialiser, method_at, method_hit, of_class, select_in, selected_from}
+use Rattle.cjc_by_name.specs.OnePackage.{callee_at, first_imported, is_initialiser, method_at, method_hit, of_class, select_in, selected_from}
 use Rattle.cjc_by_token.specs.Supers.{SaysKinds}
 use Rattle.cjc_calls_by_token.specs.Dispatching.{event, selection_of}
 use Rattle.cjc_calls_by_token.specs.Reaching.{BeginsAtOffsets, SaysSuper, StandsInMethod, is_in_method}
 use Rattle.cjc_calls_by_token.specs.Selecting.{signature}
 use Rattle.cjc_card.specs.Calls as card
-use Rattle.cjc_card.specs.Dispatch.{At, Outward, above, dispatched, tower}
+use Rattle.cjc_card.specs.Dispatch.{At, Outward, dispatched, tower}
 use Rattle.cjc_card.specs.Methods.{Code, start_of}
 use Rattle.cjc_card.specs.Operations as operations
 use Rattle.cjc_code.specs.declared.method_code.MethodCode.{MethodCode}
@@ -23,11 +23,10 @@ use Rattle.cjc_list.specs.Listed.{ListTree}
 use Rattle.cjc_lower.specs.Naming.{Naming, callee}
 use Rattle.cjc_lower.specs.Placed.{Placed}
 use Rattle.cjc_narrow.specs.Package.{flags_of, words, words_where, words_with}
-use Rattle.cjc_narrow.specs.Package as narrow
 use Rattle.cjc_narrow.specs.Resolved.{argument_words, method_found, parameter_words}
 use Rattle.cjc_narrow.specs.Selected.{near_fields}
 use Rattle.cjc_ncode.specs.declared.narrow.NMethod.{NMethod}
-use Rattle.cjc_ncode.specs.ByLabel.{Callee, Fixed, OnInterface, OnObject, OnSuper}
+use Rattle.cjc_ncode.specs.ByLabel.{Callee, Fixed, OnObject, OnSuper}
 use Rattle.cjc_script.specs.Sorts.{Signature, signature_of}
 use Rattle.cjc_tables_by_token.specs.Loading.{loaded, naming}
 use Rattle.cjc_tokens.specs.Lines.{line_of}
@@ -37,8 +36,8 @@ use Rattle.cjc_world.specs.declared.found.Found.{Found}
 use Rattle.cjc_world.specs.Classes.{Class, Member, class_named}
 use Rattle.cjc_world.specs.Files.{Files}
 use Rattle.cjc_world.specs.Kin.{kin, line, upwards}
-use Rattle.cjc_world.specs.Lookup.{find_method, first, member_at, or_else, own_method, receiver, selected}
-use Rattle.cjc_written_calls.specs.Calls.{ExportsKeep, IsNamed, IsSought, KeepsSubtypes, KeepsTokens, TakesWords, fixed, fixed_words, interface_words, on_interface, on_object, on_super, super_words, virtual_words}
+use Rattle.cjc_world.specs.Lookup.{first, member_at, or_else, own_method, receiver, selected}
+use Rattle.cjc_written_calls.specs.Calls.{ExportsKeep, IsNamed, IsSought, KeepsSubtypes, KeepsTokens, TakesWords, fixed, fixed_words, on_interface, on_object, on_super, super_words, virtual_words}
 use Rattle.cjc_written_calls.specs.Standing.{AreMethods, AreReady, ClassesStand, HaveOwnIds, place}
 use Rattle.cjc_written_calls.proofs.Facts.{Facts}
 use Rattle.cjc_written_calls.proofs.Files.{and_true}

@@ -49,12 +49,12 @@ pub record ExportsKeep (p : Package) : Type 0 where
 abbrev pub NoStaticMethods : List Class → Type 0
 NoStaticMethods w = (x : List ℕ) (c : Class) → class_named w x ≡ Some c → c.is_imported ≡ false → is_interface c.flags ≡ true → (k : ℕ) (m : Member) → slice_get c.methods k ≡ Some m → is_static m.flags ≡ true → is_initialiser m.name ≡ true
 
--- A class of which objects are made; arrays have the methods of java/lang/Object.
+-- A class whose objects are there, of the package one that is not abstract; arrays have the methods of java/lang/Object.
 pub data Receives (w : List Class) : Option (Shape (List ℕ)) → Type 0 where
   none : Receives w None
   numbers : {element : Element} → Receives w (Some (OfNumbers element))
   references : {x : List ℕ} → Receives w (Some (OfReferences x))
-  one_of : {x : List ℕ} (c : Class) → class_named w x ≡ Some c → is_interface c.flags ≡ false → is_abstract c.flags ≡ false → Receives w (Some (OfClass x))
+  one_of : {x : List ℕ} (c : Class) → class_named w x ≡ Some c → is_interface c.flags ≡ false → (c.is_imported ≡ false → is_abstract c.flags ≡ false) → Receives w (Some (OfClass x))
 
 -- ---- calls
 
