@@ -16,12 +16,12 @@ use Rattle.cjc_card.specs.Dispatch.{At, Outward, dispatched, tower}
 use Rattle.cjc_card.specs.Methods.{Code, start_of}
 use Rattle.cjc_card.specs.Operations as operations
 use Rattle.cjc_code.specs.declared.method_code.MethodCode.{MethodCode}
-use Rattle.cjc_components.specs.Methods.{method_offset}
+use Rattle.cjc_components.specs.Methods.{method_offset, placed_at}
 use Rattle.cjc_components.specs.Package.{LaidMethod, Package, pool, world}
-use Rattle.cjc_components.specs.Written.{IsPackage, code_by}
+use Rattle.cjc_components.specs.Written.{IsPackage, added_words, code_by}
 use Rattle.cjc_list.specs.Listed.{ListTree}
 use Rattle.cjc_lower.specs.Naming.{Naming, callee}
-use Rattle.cjc_lower.specs.Placed.{Placed}
+use Rattle.cjc_lower.specs.Placed.{Placed, start_on_card}
 use Rattle.cjc_narrow.specs.Package.{flags_of, words, words_where, words_with}
 use Rattle.cjc_narrow.specs.Resolved.{argument_words, method_found, parameter_words}
 use Rattle.cjc_narrow.specs.Selected.{near_fields}
@@ -33,7 +33,7 @@ use Rattle.cjc_tokens.specs.Lines.{line_of}
 use Rattle.cjc_vtable.specs.Calls.{finds_hidden}
 use Rattle.cjc_vtable.specs.Laws.{itself, selection}
 use Rattle.cjc_world.specs.declared.found.Found.{Found}
-use Rattle.cjc_world.specs.Classes.{Class, Member, class_named}
+use Rattle.cjc_world.specs.Classes.{Class, Member, class_at, class_named}
 use Rattle.cjc_world.specs.Files.{Files}
 use Rattle.cjc_world.specs.Kin.{kin, line, upwards}
 use Rattle.cjc_world.specs.Lookup.{first, member_at, or_else, own_method, receiver, selected}
@@ -44,7 +44,7 @@ use Rattle.cjc_written_calls.proofs.Files.{and_true}
 use Rattle.cjc_written_calls.proofs.Found.{Own, first_own, line_named, own_is}
 use Rattle.cjc_written_calls.proofs.Held.{FormsLaw, OffsetsLaw}
 use Rattle.cjc_written_calls.proofs.Kins.{name_is}
-use Rattle.cjc_written_calls.proofs.Offsets.{place_has}
+use Rattle.cjc_written_calls.proofs.Offsets.{added_starts, place_has, stood, stood_has}
 use Rattle.cjc_written_calls.proofs.Reached.{agrees, find_first, fixed_is, hidden_own, super_class, super_says}
 use Rattle.cjc_written_calls.proofs.Receivers.{first_step, found_stands, line_found}
 use Rattle.cjc_written_calls.proofs.Tokens.{token_says}
@@ -226,3 +226,18 @@ counts_from list files codes rows p is forms offsets ready methods own classes f
     let r = place_has forms offsets p ready methods own classes f k inside there (λ t. nargs_of t.code ≡ argument_words (flags_of (method_found (world p) k.id)) (let id = k.id in id.desc))
     (λ j t e same. written_words list files codes rows p is j t e k (ap (method_at p.files) same ∙ there)) in
     ap (λ (q : Placed). nargs_of q.method) r.2 ∙ r.3
+
+-- A method that is added to its class begins as an abstract one with the words of its descriptor.
+pub added_begins : {A : Type 0} (list : ListTree) (files : Files) (codes : List MethodCode) (rows : Method → List (Option A)) (p : Package) → IsPackage list files codes rows p → (forms : FormsLaw) (offsets : OffsetsLaw) → AreReady p → AreMethods p → HaveOwnIds p → ClassesStand p
+    → (f : Found) → f.imported ≡ false → is_in_method (world p) f ≡ true → method_at p.files f ≡ None
+    → (s : Start Code) × (start_of (loaded p) 0 (method_offset p f) ≡ Some s) × (s.is_abstract ≡ true) × (s.nargs ≡ added_words (world p) f (class_at (world p) f.imported f.class))
+added_begins list files codes rows p is forms offsets ready methods ids classes f own inside none =
+    let here = added_starts forms offsets p ready methods ids classes f own inside none in
+    let takes = stood_has forms offsets p ready methods ids classes f own inside (λ t. nargs_of t.code ≡ added_words (world p) f (class_at (world p) f.imported f.class))
+    (λ j t e same. (let q = is.methods j t e in
+    ap nargs_of q.code
+    ∙ ap (λ fs. nargs_of (code_by fs (near_fields (pool p)) rows t.member (method_at fs t.member))) (sym is.by_files)
+    ∙ ap (λ g. nargs_of (code_by p.files (near_fields (pool p)) rows g (method_at p.files g))) same
+    ∙ ap (λ o. nargs_of (code_by p.files (near_fields (pool p)) rows f o)) none)) in
+    let at = stood forms offsets p ready methods ids classes f own inside in
+    (start_on_card (naming p) true (placed_at at.offset at.method), here, refl, takes)

@@ -4,24 +4,26 @@
 #![tactic(auto)]
 
 ghost use Rattle.std.specs.Prelude.{ℕ, List, Option};
-ghost use Rattle.std.specs.Prelude.{◌≡◌, Some, false};
+ghost use Rattle.std.specs.Prelude.{◌≡◌, None, Some, false, true};
 ghost use Rattle.cjc_bytecode.specs.Alike.{IsFound, reached_as, start_as};
 ghost use Rattle.cjc_bytes.specs.declared.fault.MemberId.{MemberId as Member};
 ghost use Rattle.cjc_bytecode.specs.Machine.{Reached, Start, Within};
 ghost use Rattle.cjc_bytecode.specs.Renaming.{option_as, shape_as};
-ghost use Rattle.cjc_calls_by_token.specs.Reaching.{BeginsAtOffsets, reached_at};
+ghost use Rattle.cjc_calls_by_token.specs.Reaching.{BeginsAtOffsets, is_in_method, reached_at};
 ghost use Rattle.cjc_by_name.specs.Linked.{Method};
+ghost use Rattle.cjc_by_name.specs.OnePackage.{method_at};
 ghost use Rattle.cjc_calls_by_token.specs.Reaching as Reaching;
 ghost use Rattle.cjc_card.specs.Calls as Calls;
+ghost use Rattle.cjc_card.specs.Methods.{Code, start_of};
 ghost use Rattle.cjc_code.specs.declared.method_code.MethodCode.{MethodCode};
 ghost use Rattle.cjc_components.specs.Methods.{method_offset, placed_methods};
 ghost use Rattle.cjc_components.specs.Package.{Package, world};
-ghost use Rattle.cjc_components.specs.Written.{IsPackage};
+ghost use Rattle.cjc_components.specs.Written.{IsPackage, added_words};
 ghost use Rattle.cjc_list.specs.Listed.{ListTree};
 ghost use Rattle.cjc_bytecode.specs.Meanings as Meanings;
 ghost use Rattle.cjc_lower.specs.Naming.{Fit, IsClass, callee};
 ghost use Rattle.cjc_ncode.specs.declared.narrow.PoolKey.TheVariants as keys;
-ghost use Rattle.cjc_world.specs.Classes.{Class, class_named};
+ghost use Rattle.cjc_world.specs.Classes.{Class, class_at, class_named};
 ghost use Rattle.cjc_lower.specs.Package.{HoldsMethods};
 ghost use Rattle.cjc_lower.specs.Placed.{Placed, code_of, offset_of};
 ghost use Rattle.cjc_lower.specs.Agreement.{IsAmong};
@@ -31,6 +33,7 @@ ghost use Rattle.cjc_ncode.specs.ByLabel as ByLabel;
 ghost use Rattle.cjc_script.specs.Sorts.{Shape};
 ghost use Rattle.cjc_tables_by_token.specs.Loading.{naming, part};
 ghost use Rattle.cjc_tables_by_token.specs.Sound.{IsSound};
+ghost use Rattle.cjc_world.specs.declared.found.Found.{Found};
 ghost use Rattle.cjc_world.specs.Files.{Files};
 ghost use Rattle.cjc_vtable.specs.Kept.{Keeps};
 ghost use Rattle.cjc_written_calls.specs.Calls.{ExportsKeep, IsNamed, KeepsSubtypes, KeepsTokens, NoStaticMethods, Receives, TakesWords};
@@ -58,6 +61,16 @@ pub fn methods_are_in_order<T>()
 /// Descriptor lists it there.
 pub fn methods_begin_at_offsets()
     ensures { (list : List ℕ) (p : Package) → IsSound list p.files → AreReady p → AreMethods p → BeginsAtOffsets p.files (world p) (naming p) (method_offset p) (place p) }
+{
+    layouts_are_laid_out();
+}
+
+/// A method of an interface that a class has no code of, and that so is added to the class in Method, begins on the card
+/// at its offset as an abstract one, with the words of its descriptor.
+pub fn added_methods_begin<T>()
+    ensures { (list : List ℕ) (tree : ListTree) (codes : List MethodCode) (rows : Method → List (Option T)) (p : Package) → IsSound list p.files → IsPackage tree p.files codes rows p → AreReady p
+        → (f : Found) → f.imported ≡ false → is_in_method (world p) f ≡ true → method_at p.files f ≡ None
+        → (s : Start Code) × ((let n = naming p in start_of n.loaded n.part (method_offset p f)) ≡ Some s) × (s.is_abstract ≡ true) × (s.nargs ≡ added_words (world p) f (class_at (world p) f.imported f.class)) }
 {
     layouts_are_laid_out();
 }
