@@ -4,14 +4,14 @@
 #![tactic(auto)]
 
 ghost use Rattle.std.specs.Prelude.{ℕ, List, Option};
-ghost use Rattle.std.specs.Prelude.{◌≡◌, None, Some, false, true};
+ghost use Rattle.std.specs.Prelude.{◌≡◌, ◌+◌, ◌||◌, None, Some, false, length, slice_get, true};
 ghost use Rattle.cjc_bytecode.specs.Alike.{IsFound, reached_as, start_as};
 ghost use Rattle.cjc_bytes.specs.declared.fault.MemberId.{MemberId as Member};
 ghost use Rattle.cjc_bytecode.specs.Machine.{Reached, Start, Within};
 ghost use Rattle.cjc_bytecode.specs.Renaming.{option_as, shape_as};
 ghost use Rattle.cjc_calls_by_token.specs.Reaching.{BeginsAtOffsets, is_in_method, reached_at};
 ghost use Rattle.cjc_by_name.specs.Linked.{Method};
-ghost use Rattle.cjc_by_name.specs.OnePackage.{method_at};
+ghost use Rattle.cjc_by_name.specs.OnePackage.{is_initialiser, method_at};
 ghost use Rattle.cjc_calls_by_token.specs.Reaching as Reaching;
 ghost use Rattle.cjc_card.specs.Calls as Calls;
 ghost use Rattle.cjc_card.specs.Methods.{Code, start_of};
@@ -24,6 +24,11 @@ ghost use Rattle.cjc_bytecode.specs.Meanings as Meanings;
 ghost use Rattle.cjc_lower.specs.Naming.{Fit, IsClass, callee};
 ghost use Rattle.cjc_ncode.specs.declared.narrow.PoolKey.TheVariants as keys;
 ghost use Rattle.cjc_world.specs.Classes.{Class, class_at, class_named};
+ghost use Rattle.cjc_world.specs.Classes.{Member as ClassMember};
+ghost use Rattle.cjc_world.specs.Lookup.{member_at, own_method};
+ghost use Rattle.cjc_tokens.specs.Members.{is_constructor};
+ghost use Rattle.cjc_bytes.specs.AccessFlags.{is_private, is_static};
+ghost use Rattle.cjc_components.specs.Descriptor.{method_descriptor};
 ghost use Rattle.cjc_lower.specs.Package.{HoldsMethods};
 ghost use Rattle.cjc_lower.specs.Placed.{Placed, code_of, offset_of};
 ghost use Rattle.cjc_lower.specs.Agreement.{IsAmong};
@@ -109,6 +114,21 @@ pub fn calls_take_words<T>()
     token_laws();
     lookup_laws();
     classes_are_told();
+}
+
+/// A method that a class of the package declares is the one that Descriptor lists under its name and descriptor, and has
+/// no token there just where it is static, private or a constructor.
+pub fn methods_are_declared()
+    ensures declared { (list : List ℕ) (p : Package) → IsSound list p.files → IsSmall p → Keeps (world p) → ExportsKeep p
+        → (id : Member) (c : Class) → class_named (world p) id.class ≡ Some c → c.is_imported ≡ false → is_initialiser id.name ≡ false → (f : Found) → own_method false id.name id.desc c ≡ Some f
+        → (let n = naming p in Calls.declared n.loaded (n.class id.class) id ≡ Some (record { part = n.part; method = method_descriptor p c f })) }
+    ensures tokens { (list : List ℕ) (p : Package) → IsSound list p.files → IsSmall p → Keeps (world p) → ExportsKeep p
+        → (x : List ℕ) (c : Class) → class_named (world p) x ≡ Some c → c.is_imported ≡ false → (i : ℕ) (m : ClassMember) → slice_get c.methods i ≡ Some m
+        → Calls.has_no_token (method_descriptor p c (member_at c (length c.fields + i))) ≡ (is_static m.flags || (is_private m.flags || is_constructor m.name)) }
+{
+    dispatch_laws();
+    token_laws();
+    lookup_laws();
 }
 
 /// A static method that a script calls begins by token as it does by name, and is one of the methods of Method.
