@@ -1,9 +1,9 @@
 -- A static method that a script calls begins by token as it does by name.
 use Rattle.std.proofs.Common.{◌≡◌, ℕ, zero, suc, ◌+◌, ◌-◌, refl, sym, ap, subst, ◌∙◌, arith, Bool, true, false, List, [], ◌∷◌, ◌++◌, length}
-use Rattle.std.specs.Prelude.{Option, Some, None, slice_get, map, option_map, option_and_then, unwrap_or, not, position, ◌==◌, ◌&&◌, if◌then◌else◌, codes}
+use Rattle.std.specs.Prelude.{Option, Some, None, slice_get, map, option_map, option_and_then, unwrap_or, not, position, ◌==◌, ◌&&◌, ◌||◌, if◌then◌else◌, codes}
 use Rattle.std.specs.Str.{bytes_eq}
 use Rattle.std.proofs.lemmas.Bool.Decides.{nat_tests}
-use Rattle.cjc_bytes.specs.AccessFlags.{has, is_interface, is_static, acc_abstract, acc_final, acc_private, acc_protected, acc_public}
+use Rattle.cjc_bytes.specs.AccessFlags.{has, is_interface, is_private, is_static, acc_abstract, acc_final, acc_private, acc_protected, acc_public}
 use Rattle.cjc_bytes.specs.declared.fault.MemberId.{MemberId}
 use Rattle.cjc_bytecode.specs.Alike.{start_as}
 use Rattle.cjc_bytecode.specs.Machine.{Start}
@@ -15,7 +15,7 @@ use Rattle.cjc_calls_by_token.specs.Reaching.{BeginsAtOffsets, is_in_method, sta
 use Rattle.cjc_capread.specs.declared.tree.ClassDescriptor.{ClassDescriptor}
 use Rattle.cjc_capread.specs.declared.tree.MethodDescriptor.{MethodDescriptor}
 use Rattle.cjc_capread.specs.ClassRefs.{is_inside}
-use Rattle.cjc_card.specs.Calls.{called, class_among, declared, is_named, named_among, named_in_part, static_start}
+use Rattle.cjc_card.specs.Calls.{acc_constructor, called, class_among, declared, has_no_token, is_named, named_among, named_in_part, static_start}
 use Rattle.cjc_card.specs.Classes.{Own, number_of}
 use Rattle.cjc_card.specs.Classes as card
 use Rattle.cjc_card.specs.Loaded.{MethodName}
@@ -91,6 +91,27 @@ static_by a b c d e g h =
 static_same : (m : Member) → is_static (method_flags m) ≡ is_static m.flags
 unfolding flags_by
 static_same m = static_by (has m.flags acc_public) (has m.flags acc_private) (has m.flags acc_protected) (is_static m.flags) (has m.flags acc_final) (has m.flags acc_abstract) (is_constructor m.name)
+
+-- a descriptor of these flags has no token
+no_token : ℕ → Bool
+no_token n = is_static n || (is_private n || has n acc_constructor)
+
+token_by : (a b c d e g h : Bool) → no_token (flags_by a b c d e g h) ≡ (d || (b || h))
+unfolding flags_by alike all_of no_token
+token_by a b c d e g h =
+    are_alike (d || (b || h)) (no_token (flags_by a b c d e g h))
+    (all_tell (λ h. alike (d || (b || h)) (no_token (flags_by a b c d e g h)))
+    (all_tell (λ g. all_of (λ h. alike (d || (b || h)) (no_token (flags_by a b c d e g h))))
+    (all_tell (λ e. all_of (λ g. all_of (λ h. alike (d || (b || h)) (no_token (flags_by a b c d e g h)))))
+    (all_tell (λ d. all_of (λ e. all_of (λ g. all_of (λ h. alike (d || (b || h)) (no_token (flags_by a b c d e g h))))))
+    (all_tell (λ c. all_of (λ d. all_of (λ e. all_of (λ g. all_of (λ h. alike (d || (b || h)) (no_token (flags_by a b c d e g h)))))))
+    (all_tell (λ b. all_of (λ c. all_of (λ d. all_of (λ e. all_of (λ g. all_of (λ h. alike (d || (b || h)) (no_token (flags_by a b c d e g h))))))))
+    (all_tell (λ a. all_of (λ b. all_of (λ c. all_of (λ d. all_of (λ e. all_of (λ g. all_of (λ h. alike (d || (b || h)) (no_token (flags_by a b c d e g h)))))))))
+    refl a) b) c) d) e) g) h)
+
+token_same : (m : Member) → no_token (method_flags m) ≡ (is_static m.flags || (is_private m.flags || is_constructor m.name))
+unfolding flags_by no_token
+token_same m = token_by (has m.flags acc_public) (has m.flags acc_private) (has m.flags acc_protected) (is_static m.flags) (has m.flags acc_final) (has m.flags acc_abstract) (is_constructor m.name)
 
 own_same : (c : Class) (id : MemberId) → option_map (λ j. member_at c (length c.fields + j)) (position (λ (m : Member). is_called id.name id.desc m) c.methods) ≡ own_method false id.name id.desc c
 unfolding own_method
@@ -287,36 +308,56 @@ module _ (p : Package) (facts : Facts p) where
       by (x ∷ xs) all zero h = all 0 d h
       by (x ∷ xs) all (suc j) h = by xs (λ i b g. all (suc i) b g) j h
 
+  -- ---- what Descriptor says of a class and its methods
+
+  module _ (x : List ℕ) (c : Class) (known : class_named w x ≡ Some c) (own : c.is_imported ≡ false) where
+    info : HasInfo p c
+    info = facts.own x c known own
+
+    one_class : (j : ℕ) (d : Class) → slice_get (class_order w) j ≡ Some d → is_inside (class_ref p d.name) info.offset ≡ true → d ≡ c
+    one_class j d e inside =
+        let r = class_ordered j d e in
+        let i = facts.own d.name d r.0 r.1 in
+        let same : i.offset ≡ info.offset = number_same i.offset info.offset (sym (ap (λ ref. is_inside ref info.offset) i.ref) ∙ inside) in
+        let numbers : Some i.number ≡ Some info.number = sym i.numbered ∙ ap (number_of (part p)) same ∙ info.numbered in
+        let number : i.number ≡ info.number = cc in
+        let both : Some d ≡ Some c = sym i.ordered ∙ ap (slice_get (class_order w)) number ∙ info.ordered in
+        cc
+
+    descriptor_there : class_among (map (class_descriptor p) (class_order w)) info.offset ≡ Some (class_descriptor p c)
+    descriptor_there = class_found info.offset c (class_order w) info.number info.ordered (ap (λ ref. is_inside ref info.offset) info.ref ∙ same_number info.offset) one_class
+
+    declared_as : (id : MemberId) → declared (loaded p) (class_at p c.name) id ≡ option_map (λ m. record { part = 0; method = m }) (option_map (md c) (first_named c id (methods_of_class w c)))
+    declared_as id =
+        ap (λ k. declared (loaded p) k id) info.on_card
+        ∙ ap (λ o. option_and_then (λ ns. named_in_part 0 info.offset id ns (part p)) o) info.names
+        ∙ ap (λ o. option_and_then (λ (d : ClassDescriptor). option_map (λ m. record { part = 0; method = m }) (named_among (method_names w c) d.methods id)) o) descriptor_there
+        ∙ ap (λ o. option_map (λ m. record { part = 0; method = m }) o) (named_first c id (methods_of_class w c))
+
+    -- a method that the class declares
+    pub declared_own : (id : MemberId) → is_initialiser id.name ≡ false → (f : Found) → own_method false id.name id.desc c ≡ Some f → declared (loaded p) (class_at p c.name) id ≡ Some (record { part = 0; method = method_descriptor p c f })
+    declared_own id plain f found =
+        declared_as id
+        ∙ ap (λ o. option_map (λ m. record { part = 0; method = m }) (option_map (md c) o))
+        (written_first c id plain (length c.fields) c.methods (λ j m e. own_in c j m e) (places c (length c.fields + length c.methods) (length (added w c)))
+        ∙ ap (λ o. or_else o (first_named c id (places c (length c.fields + length c.methods) (length (added w c))))) (own_same c id ∙ found))
+
+    pub token_there : (i : ℕ) (m : Member) → slice_get c.methods i ≡ Some m → has_no_token (method_descriptor p c (member_at c (length c.fields + i))) ≡ (is_static m.flags || (is_private m.flags || is_constructor m.name))
+    unfolding no_token
+    token_there i m e = ap (λ (q : Member). no_token (method_flags q)) (own_in c i m e) ∙ token_same m
+
   module _ (names : NamesAgree w (naming p)) (place : Method → Placed) (begins : BeginsAtOffsets p.files w (naming p) (method_offset p) place) (interfaces : NoStaticMethods w) where
     abbrev begun : Option Method → Option (Start Code)
     begun o = option_as (start_as (code_of (naming p)) (offset_of (naming p))) (option_map (start_placed place) o)
 
     module _ (id : MemberId) (c : Class) (known : class_named w id.class ≡ Some c) (own : c.is_imported ≡ false) where
-      info : HasInfo p c
-      info = facts.own id.class c known own
-
-      on_card : card.class_named (loaded p) id.class ≡ Some (Own 0 info.offset)
-      on_card = names.class_named id.class ∙ ap (λ o. option_as (class_at p) (option_map (λ (q : Class). q.name) o)) known ∙ ap Some info.on_card
-
-      one_class : (j : ℕ) (d : Class) → slice_get (class_order w) j ≡ Some d → is_inside (class_ref p d.name) info.offset ≡ true → d ≡ c
-      one_class j d e inside =
-          let r = class_ordered j d e in
-          let i = facts.own d.name d r.0 r.1 in
-          let same : i.offset ≡ info.offset = number_same i.offset info.offset (sym (ap (λ ref. is_inside ref info.offset) i.ref) ∙ inside) in
-          let numbers : Some i.number ≡ Some info.number = sym i.numbered ∙ ap (number_of (part p)) same ∙ info.numbered in
-          let number : i.number ≡ info.number = cc in
-          let both : Some d ≡ Some c = sym i.ordered ∙ ap (slice_get (class_order w)) number ∙ info.ordered in
-          cc
-
-      descriptor_there : class_among (map (class_descriptor p) (class_order w)) info.offset ≡ Some (class_descriptor p c)
-      descriptor_there = class_found info.offset c (class_order w) info.number info.ordered (ap (λ ref. is_inside ref info.offset) info.ref ∙ same_number info.offset) one_class
+      on_card : card.class_named (loaded p) id.class ≡ Some (class_at p c.name)
+      on_card = names.class_named id.class ∙ ap (λ o. option_as (class_at p) (option_map (λ (q : Class). q.name) o)) known
 
       by_token : called (loaded p) id ≡ starts c (first_named c id (methods_of_class w c))
       by_token =
           ap (option_and_then (λ k. option_and_then (static_start (loaded p)) (declared (loaded p) k id))) on_card
-          ∙ ap (λ o. option_and_then (static_start (loaded p)) (option_and_then (λ ns. named_in_part 0 info.offset id ns (part p)) o)) info.names
-          ∙ ap (λ o. option_and_then (static_start (loaded p)) (option_and_then (λ (d : ClassDescriptor). option_map (λ m. record { part = 0; method = m }) (named_among (method_names w c) d.methods id)) o)) descriptor_there
-          ∙ ap (λ o. option_and_then (static_start (loaded p)) (option_map (λ m. record { part = 0; method = m }) o)) (named_first c id (methods_of_class w c))
+          ∙ ap (option_and_then (static_start (loaded p))) (declared_as id.class c known own id)
 
       -- a method that is declared
       declared_same : is_initialiser id.name ≡ false → (f : Found) → OwnMethod w false id.name id.desc c f → starts c (Some f) ≡ begun (option_and_then (λ (hit : Hit). if is_static hit.flags then method_at p.files f else None) (method_hit (c ∷ []) f))
@@ -343,7 +384,8 @@ module _ (p : Package) (facts : Facts p) where
               ∙ ap (λ t. begun (if t then method_at p.files (member_at c (length c.fields + o.place)) else None)) is)
           same_here true is =
               let k = facts.filed id.class c known own o.place o.method o.there in
-              let inside = stands_in_method w info.number c info.ordered (class_here is) own o.place o.method o.there (ap is_initialiser o.name_is ∙ plain) in
+              let i = facts.own id.class c known own in
+              let inside = stands_in_method w i.number c i.ordered (class_here is) own o.place o.method o.there (ap is_initialiser o.name_is ∙ plain) in
               ap (λ t. if t then start_of (loaded p) 0 (method_offset p (member_at c (length c.fields + o.place))) else None) (flags_same ∙ is)
               ∙ begins (member_at c (length c.fields + o.place)) k.0 inside k.1
               ∙ sym (ap (λ h. begun (option_and_then (λ (hit : Hit). if is_static hit.flags then method_at p.files (member_at c (length c.fields + o.place)) else None) h)) (hit_is c o.place o.method o.there)

@@ -66,8 +66,12 @@ same_extent at k (m ∷ ms) f g low some e = by (is_member f m) (is_member g m) 
 
 -- ---- where a member stands
 
--- A member that is one of these methods: the method with its place among them, its offset and the number of handlers before it; and it is the one that is found by an id.
-pub record Stands (files : Files) (id : MemberId) (at k : ℕ) (ms : List LaidMethod) (f : Found) : Type 0 where
+-- the id is that of the member and of no other
+abbrev pub Tells : Files → MemberId → List LaidMethod → Found → Type 0
+Tells files id ms f = (j : ℕ) (m : LaidMethod) → slice_get ms j ≡ Some m → is_member f m ≡ is_method_of id (method_at files m.member)
+
+-- A member that is one of these methods: the method with its place among them, its offset and the number of handlers before it; and it is the one that is found by its id.
+pub record Stands (at k : ℕ) (ms : List LaidMethod) (f : Found) : Type 0 where
   pub number : ℕ
   pub method : LaidMethod
   pub offset : ℕ
@@ -76,18 +80,14 @@ pub record Stands (files : Files) (id : MemberId) (at k : ℕ) (ms : List LaidMe
   pub is : is_member f method ≡ true
   pub placed : slice_get (placed_from at ms) number ≡ Some (placed_at offset method)
   pub extent : extent_from at k ms f ≡ extent_at offset handlers method
-  pub found : place_from files at ms id ≡ placed_at offset method
+  pub found : (files : Files) (id : MemberId) → Tells files id ms f → place_from files at ms id ≡ placed_at offset method
   pub low : at ≤ offset
 
--- the id is that of the member and of no other
-abbrev pub Tells : Files → MemberId → List LaidMethod → Found → Type 0
-Tells files id ms f = (j : ℕ) (m : LaidMethod) → slice_get ms j ≡ Some m → is_member f m ≡ is_method_of id (method_at files m.member)
-
-pub stands : (files : Files) (id : MemberId) (at k : ℕ) (ms : List LaidMethod) (f : Found) → Tells files id ms f → list_any (is_member f) ms ≡ true → Stands files id at k ms f
-stands files id at k [] f tells any = absurd (cc)
-stands files id at k (m ∷ ms) f tells any = by (is_member f m) refl any (stands files id (at + method_size m) (k + handler_count m) ms f (λ j o e. tells (suc j) o e))
+pub stands : (at k : ℕ) (ms : List LaidMethod) (f : Found) → list_any (is_member f) ms ≡ true → Stands at k ms f
+stands at k [] f any = absurd (cc)
+stands at k (m ∷ ms) f any = by (is_member f m) refl any (stands (at + method_size m) (k + handler_count m) ms f)
   where
-    by : (t : Bool) → is_member f m ≡ t → (t || list_any (is_member f) ms) ≡ true → (list_any (is_member f) ms ≡ true → Stands files id (at + method_size m) (k + handler_count m) ms f) → Stands files id at k (m ∷ ms) f
+    by : (t : Bool) → is_member f m ≡ t → (t || list_any (is_member f) ms) ≡ true → (list_any (is_member f) ms ≡ true → Stands (at + method_size m) (k + handler_count m) ms f) → Stands at k (m ∷ ms) f
     by true is any rest = record {
       number = 0;
       method = m;
@@ -97,7 +97,7 @@ stands files id at k (m ∷ ms) f tells any = by (is_member f m) refl any (stand
       is = is;
       placed = refl;
       extent = ap (λ t. if t then extent_at at k m else extent_from (at + method_size m) (k + handler_count m) ms f) is;
-      found = ap (λ t. if t then placed_at at m else place_from files (at + method_size m) ms id) (sym (tells 0 m refl) ∙ is);
+      found = λ files id tells. ap (λ t. if t then placed_at at m else place_from files (at + method_size m) ms id) (sym (tells 0 m refl) ∙ is);
       low = omega arith;
     }
     by false is any rest =
@@ -112,6 +112,6 @@ stands files id at k (m ∷ ms) f tells any = by (is_member f m) refl any (stand
           is = r.is;
           placed = r.placed;
           extent = ap (λ t. if t then extent_at at k m else extent_from (at + method_size m) (k + handler_count m) ms f) is ∙ r.extent;
-          found = ap (λ t. if t then placed_at at m else place_from files (at + method_size m) ms id) (sym (tells 0 m refl) ∙ is) ∙ r.found;
+          found = λ files id tells. ap (λ t. if t then placed_at at m else place_from files (at + method_size m) ms id) (sym (tells 0 m refl) ∙ is) ∙ r.found files id (λ j o e. tells (suc j) o e);
           low = omega (arith, low);
         }

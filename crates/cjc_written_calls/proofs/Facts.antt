@@ -15,7 +15,7 @@ use Rattle.cjc_vtable.specs.Laws.{InterfaceCallsAgree, KeepsInterfaces, KeepsRul
 use Rattle.cjc_world.specs.declared.found.Found.{Found}
 use Rattle.cjc_world.specs.Classes.{Class, Member, class_at, class_named, imported}
 use Rattle.cjc_world.specs.Kin.{IsKin, Kin, kin}
-use Rattle.cjc_world.specs.Lookup.{member_at, object}
+use Rattle.cjc_world.specs.Lookup.{member_at, object, own_method}
 use Rattle.cjc_world.specs.Order.{class_order, in_order}
 
 -- the classes of its export files
@@ -45,4 +45,7 @@ pub record Facts (p : Package) : Type 0 where
   pub tokens_once : TokensAreOnce (world p)
   pub object_class : (c : Class) × (class_named (world p) object ≡ Some c) × (c.is_imported ≡ true) × (is_interface c.flags ≡ false)
   -- a class of the package has its methods in its class file
-  pub filed : (x : List ℕ) (c : Class) → class_named (world p) x ≡ Some c → c.is_imported ≡ false → (i : ℕ) (m : Member) → slice_get c.methods i ≡ Some m → (k : Method) × (method_at p.files (member_at c (length c.fields + i)) ≡ Some k)
+  pub filed : (x : List ℕ) (c : Class) → class_named (world p) x ≡ Some c → c.is_imported ≡ false → (i : ℕ) (m : Member) → slice_get c.methods i ≡ Some m
+      → (k : Method) × (method_at p.files (member_at c (length c.fields + i)) ≡ Some k) × (k.id ≡ record { class = x; name = m.name; desc = m.desc })
+  -- and none twice
+  pub first_one : (x : List ℕ) (c : Class) → class_named (world p) x ≡ Some c → c.is_imported ≡ false → (i : ℕ) (m : Member) → slice_get c.methods i ≡ Some m → own_method false m.name m.desc c ≡ Some (member_at c (length c.fields + i))

@@ -1,13 +1,13 @@
 -- What calls reach stands in Method, at its place.
 use Rattle.std.proofs.Common.{◌≡◌, ℕ, refl, sym, ap, subst, ◌∙◌, Bool, true, false, List, [], ◌∷◌}
-use Rattle.std.specs.Prelude.{Option, Some, None, slice_get, option_map, option_and_then, is_some, if◌then◌else◌}
+use Rattle.std.specs.Prelude.{Option, Some, None, slice_get, option_map, option_and_then, is_some, not, ◌&&◌, if◌then◌else◌}
 use Rattle.cjc_bytes.specs.AccessFlags.{is_interface}
 use Rattle.cjc_bytes.specs.declared.fault.MemberId.{MemberId}
 use Rattle.cjc_bytecode.specs.Machine.{Start, Reached, Nowhere, Within}
 use Rattle.cjc_bytecode.specs.Machine as machine
 use Rattle.cjc_by_name.specs.Linked.{Method, Inside}
 use Rattle.cjc_by_name.specs.Linked
-use Rattle.cjc_by_name.specs.OnePackage.{callee_at, first_imported, first_super, interface_callee, is_initialiser, method_at, of_class, select_in, selected_from}
+use Rattle.cjc_by_name.specs.OnePackage.{Hit, callee_at, first_imported, first_super, interface_callee, is_constructor, is_initialiser, is_sendable, method_at, method_hit, method_in, of_class, select_in, selected_from, sent_by, sent_named}
 use Rattle.cjc_by_token.specs.Supers.{SaysKinds}
 use Rattle.cjc_calls_by_token.specs.Reaching.{StandsInMethod, is_in_method, reached_at, reached_placed, start_placed}
 use Rattle.cjc_components.specs.Methods.{placed_methods}
@@ -21,7 +21,7 @@ use Rattle.cjc_tables_by_token.specs.Loading.{naming}
 use Rattle.cjc_world.specs.declared.found.Found.{Found}
 use Rattle.cjc_world.specs.Classes.{Class, class_named}
 use Rattle.cjc_world.specs.Kin.{kin, line, upwards}
-use Rattle.cjc_world.specs.Lookup.{first, or_else, own_method, receiver, selected}
+use Rattle.cjc_world.specs.Lookup.{find_method, first, is_selectable, or_else, own_method, receiver, selected}
 use Rattle.cjc_world.specs.Subtype.{is_subtype}
 use Rattle.cjc_written_calls.specs.Calls.{IsNamed, Receives, fixed, numbers, on_interface, on_object, on_super, one_of, references}
 use Rattle.cjc_written_calls.proofs.Facts.{Facts}
@@ -139,3 +139,49 @@ module _ (p : Package) (facts : Facts p) (kinds : SaysKinds (world p) (naming p)
   reached_placed_there m (on_interface i k known interface_here plain placed) None receives start e = no_start start e
   reached_placed_there m (on_interface {words = words} {m = id} i k known interface_here plain placed) (Some kind) receives start e =
       let has = received kind receives in on_kind (OnInterface words id) kind (interface_placed words id plain kind has) start e
+
+  -- ---- methods that a script sends
+
+  sent_placed : (f : Found) → StandsInMethod w f → (start : Start Placed) → option_map (start_placed place) (method_at p.files f) ≡ Some start → Stood start
+  sent_placed f stands start e = by f.imported refl e
+    where
+      split : (o : Option Method) → method_at p.files f ≡ o → is_in_method w f ≡ true → option_map (start_placed place) o ≡ Some start → Stood start
+      split None there inside h = absurd (cc)
+      split (Some k) there inside h = let same : start_placed place k ≡ start = cc in subst Stood same (places f k inside there)
+
+      by : (t : Bool) → f.imported ≡ t → option_map (start_placed place) (if t then None else option_and_then (method_in f.member) (slice_get p.files.classes f.class)) ≡ Some start → Stood start
+      by true import h = absurd (cc)
+      by false own h = split (method_at p.files f) refl (stands own) e
+
+  sent_selected : (x : List ℕ) (m : MemberId) (c : Class) → is_initialiser m.name ≡ false → class_named w (receiver x) ≡ Some c → is_interface c.flags ≡ false → (start : Start Placed) → option_map (start_placed place) (option_and_then (method_at p.files) (select_in w x m)) ≡ Some start → Stood start
+  unfolding selected
+  sent_selected x m c plain known class_here start e = by (select_in w x m) refl e
+    where
+      by : (o : Option Found) → select_in w x m ≡ o → option_map (start_placed place) (option_and_then (method_at p.files) o) ≡ Some start → Stood start
+      by None is h = absurd (cc)
+      by (Some f) is h = sent_placed f (found_stands p facts true m.name m.desc plain (receiver x) c known class_here f is) start h
+
+  -- Each method that a script sends to an object is one of those in Method.
+  pub sent_placed_there : (kind : Shape (List ℕ)) → Receives w (Some kind) → (id : MemberId) (start : Start Placed) → option_map (start_placed place) (sent_named p.files w (shape_name kind) id) ≡ Some start → Stood start
+  sent_placed_there kind receives id start e = by_found (find_method w id.class id.name id.desc) e
+    where
+      plain_of : (a b c d : Bool) → ((a && not b && not c) && d) ≡ true → c ≡ false
+      plain_of a b false d h = refl
+      plain_of true true true d h = absurd (cc)
+      plain_of true false true d h = absurd (cc)
+      plain_of false true true d h = absurd (cc)
+      plain_of false false true d h = absurd (cc)
+
+      chosen : (t : Bool) → (t ≡ true → is_initialiser id.name ≡ false) → option_map (start_placed place) (if t then option_and_then (method_at p.files) (select_in w (shape_name kind) id) else None) ≡ Some start → Stood start
+      chosen false plain h = absurd (cc)
+      chosen true plain h = let has = received kind receives in sent_selected (shape_name kind) id has.class (plain refl) has.known has.class_here start h
+
+      by_hit : (o : Option Hit) → option_map (start_placed place) (option_and_then (sent_by p.files w (select_in w) (shape_name kind) id) o) ≡ Some start → Stood start
+      by_hit None h = absurd (cc)
+      by_hit (Some hit) h =
+          chosen (is_sendable id hit && is_subtype w (shape_name kind) id.class)
+          (λ q. plain_of (is_selectable hit.flags) (is_constructor id.name) (is_initialiser id.name) (is_subtype w (shape_name kind) id.class) q) h
+
+      by_found : (o : Option Found) → option_map (start_placed place) (option_and_then (λ f. option_and_then (sent_by p.files w (select_in w) (shape_name kind) id) (method_hit w f)) o) ≡ Some start → Stood start
+      by_found None h = absurd (cc)
+      by_found (Some f) h = by_hit (method_hit w f) h

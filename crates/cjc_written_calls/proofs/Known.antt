@@ -1,15 +1,20 @@
 -- A package of read files that breaks no rule of classes and names is known.
-use Rattle.cjc_world.specs.Lookup.{member_at}
+use Rattle.cjc_world.specs.Lookup.{is_called, member_at, own_method}
+use Rattle.cjc_world.specs.Rules.{is_twice}
+use Rattle.cjc_bytes.specs.declared.fault.MemberId.{MemberId}
+use Rattle.cjc_classfile.specs.Code.{CodeTree}
+use Rattle.cjc_classfile.specs.declared.tree.ClassTree.{ClassTree}
+use Rattle.cjc_tables_by_token.proofs.Fields.{first_here}
 use Rattle.std.proofs.lemmas.List.{length-map}
 use Rattle.cjc_classfile.specs.declared.tree.MethodTree.{MethodTree}
 use Rattle.cjc_by_name.specs.OnePackage.{method_at, method_by, method_in}
 use Rattle.cjc_by_name.specs.Linked.{Method}
 use Rattle.std.proofs.Common.{◌≡◌, ℕ, zero, suc, refl, sym, ap, subst, ◌∙◌, arith, Bool, true, false, List, [], ◌∷◌, length, ◌+◌, ◌-◌}
-use Rattle.std.specs.Prelude.{Some, slice_get, not, ◌==◌, ◌&&◌, if◌then◌else◌, option_map, option_and_then, map}
+use Rattle.std.specs.Prelude.{Option, Some, None, slice_get, not, ◌==◌, ◌&&◌, if◌then◌else◌, option_map, option_and_then, map}
 use Rattle.std.specs.Str.{bytes_eq}
 use Rattle.std.proofs.lemmas.Bool.Decides.{nat_tests}
 use Rattle.cjc_bytes.specs.AccessFlags.{is_interface}
-use Rattle.cjc_by_token.proofs.Members.{bytes_tell}
+use Rattle.cjc_by_token.proofs.Members.{bytes_same, bytes_tell}
 use Rattle.cjc_card.specs.Classes.{IsClass, IsInterface}
 use Rattle.cjc_card.specs.Methods.{is_class_at, is_class_info}
 use Rattle.cjc_components.specs.Class.{class_entry, interface_entry}
@@ -86,10 +91,18 @@ export_named (v ∷ es) k e h = by (bytes_eq v.name e.name) refl k h (λ j g. ex
         let clash : true ≡ false = sym (Rattle.cjc_by_token.proofs.Members.bytes_same v.name) ∙ ap (λ (q : ExportClass). bytes_eq v.name q.name) same ∙ is in absurd (cc)
     by false is (suc j) g rest = rest j g
 
-tree_method : (ms : List MethodTree) (i : ℕ) (m : Member) → slice_get (map method_of_class ms) i ≡ Some m → (r : MethodTree) × (slice_get ms i ≡ Some r)
+tree_method : (ms : List MethodTree) (i : ℕ) (m : Member) → slice_get (map method_of_class ms) i ≡ Some m → (r : MethodTree) × (slice_get ms i ≡ Some r) × (method_of_class r ≡ m)
 tree_method [] i m e = absurd (cc)
-tree_method (n ∷ ms) zero m e = (n, refl)
+tree_method (n ∷ ms) zero m e = (n, refl, cc)
 tree_method (n ∷ ms) (suc i) m e = tree_method ms i m e
+
+-- a method of a class by its name and descriptor
+abbrev member_id : List ℕ → Member → MemberId
+member_id x m = record { class = x; name = m.name; desc = m.desc }
+
+id_by : (t : ClassTree) (m : MethodTree) (o : Option CodeTree) → (method_by t m o).id ≡ member_id t.name (method_of_class m)
+id_by t m None = refl
+id_by t m (Some code) = refl
 
 module _ (list : List ℕ) (p : Package) (sound : IsSound list p.files) where
   abbrev w : List Class
@@ -130,7 +143,8 @@ module _ (list : List ℕ) (p : Package) (sound : IsSound list p.files) where
       let right = right_supers w c rules.supers in
       (d.0, d.1, sym (ap Rattle.cjc_world.specs.Rules.is_interface_of d.1) ∙ right.supers s listed)
 
-  filed : (x : List ℕ) (c : Class) → class_named w x ≡ Some c → c.is_imported ≡ false → (i : ℕ) (m : Member) → slice_get c.methods i ≡ Some m → (k : Method) × (method_at p.files (member_at c (length c.fields + i)) ≡ Some k)
+  filed : (x : List ℕ) (c : Class) → class_named w x ≡ Some c → c.is_imported ≡ false → (i : ℕ) (m : Member) → slice_get c.methods i ≡ Some m
+      → (k : Method) × (method_at p.files (member_at c (length c.fields + i)) ≡ Some k) × (k.id ≡ record { class = x; name = m.name; desc = m.desc })
   filed x c e own i m there =
       let f = own_filed p.files sound.classes sound.exports c (has_named w x c e) own in
       let n = f.0 in
@@ -143,7 +157,17 @@ module _ (list : List ℕ) (p : Package) (sound : IsSound list p.files) where
             ∙ ap (option_and_then (method_in (length tree.fields + i))) f.2
             ∙ ap (λ j. option_map (λ (q : MethodTree). method_by tree q q.code) (slice_get tree.methods j)) left
             ∙ ap (option_map (λ (q : MethodTree). method_by tree q q.code)) r.1,
+        id_by tree r.0 r.0.code
+            ∙ ap (λ (y : List ℕ). member_id y (method_of_class r.0)) (sym (ap (λ (q : Class). q.name) f.3) ∙ name_is w x c e)
+            ∙ ap (member_id x) r.2,
       )
+
+  first_one : (x : List ℕ) (c : Class) → class_named w x ≡ Some c → c.is_imported ≡ false → (i : ℕ) (m : Member) → slice_get c.methods i ≡ Some m → own_method false m.name m.desc c ≡ Some (member_at c (length c.fields + i))
+  unfolding own_method is_twice
+  first_one x c e own i m there =
+      let rules = rules_of list p sound x c e in
+      ap (option_map (λ j. member_at c (length c.fields + j)))
+      (first_here (λ (q : Member). is_called m.name m.desc q) c.methods i m there (ap (λ t. t && bytes_eq m.desc m.desc) (bytes_same m.name) ∙ bytes_same m.desc) (rules.methods i m there))
 
   pub classes_stand : ClassesStand p
   classes_stand k c e =
@@ -162,6 +186,7 @@ module _ (list : List ℕ) (p : Package) (sound : IsSound list p.files) where
     own = info_of_name list p sound;
     file = entry_of_name list p sound;
     filed = filed;
+    first_one = first_one;
     placed = placed;
     of_file = of_file;
     in_file = in_file;

@@ -20,3 +20,4 @@ mod Offsets
 mod HeadersRead
 mod Begins
 mod Orders
+mod Words

@@ -45,36 +45,9 @@ module _ (forms : FormsLaw) (offsets : OffsetsLaw) (p : Package) (ready : AreRea
   in_method : (j : ℕ) (t : LaidMethod) → slice_get p.methods j ≡ Some t → is_in_method (world p) t.member ≡ true
   in_method j t e = any_at (is_same t.member) (method_order (world p)) j t.member (in_order_at j t e) (same_itself t.member (is_own j t e))
 
-  module _ (f : Found) (m : Method) (is_there : is_in_method (world p) f ≡ true) (is_method : method_at p.files f ≡ Some m) where
-    -- what stands in Method is of the package
-    f_own : f.imported ≡ false
-    f_own = by f.imported refl is_method
-      where
-        by : (t : Bool) → f.imported ≡ t → (if t then None else option_and_then (method_in f.member) (slice_get p.files.classes f.class)) ≡ Some m → f.imported ≡ false
-        by true is h = absurd (cc)
-        by false is h = is
-
-    tells : Tells p.files m.id p.methods f
-    tells j t e = by (is_member f t) refl
-      where
-        other : (o : Option Method) → method_at p.files t.member ≡ o → is_member f t ≡ false → false ≡ is_method_of m.id o
-        other None is not_it = refl
-        other (Some k) is not_it = split (same_member k.id m.id) refl
-          where
-            split : (s : Bool) → same_member k.id m.id ≡ s → false ≡ s
-            split false same = refl
-            split true same =
-                let one : f ≡ t.member = own f t.member m k is_there (in_method j t e) is_method is same in
-                sym not_it ∙ ap (is_same f) (sym one) ∙ same_itself f f_own
-
-        by : (s : Bool) → is_member f t ≡ s → s ≡ is_method_of m.id (method_at p.files t.member)
-        by true is =
-            let one : t.member ≡ f = same_found f t.member f_own (is_own j t e) is in
-            sym (ap (λ g. is_method_of m.id (method_at p.files g)) one ∙ ap (is_method_of m.id) is_method ∙ member_itself m.id)
-        by false is = other (method_at p.files t.member) refl is
-
-    stood : Stands p.files m.id (first_method p.methods) 0 p.methods f
-    stood = stands p.files m.id (first_method p.methods) 0 p.methods f tells (sym (any_member f p.methods) ∙ ap (list_any (is_same f)) methods.members ∙ is_there)
+  module _ (f : Found) (f_own : f.imported ≡ false) (is_there : is_in_method (world p) f ≡ true) where
+    pub stood : Stands (first_method p.methods) 0 p.methods f
+    stood = stands (first_method p.methods) 0 p.methods f (sym (any_member f p.methods) ∙ ap (list_any (is_same f)) methods.members ∙ is_there)
 
     abbrev q : Placed
     q = placed_at stood.offset stood.method
@@ -108,20 +81,70 @@ module _ (forms : FormsLaw) (offsets : OffsetsLaw) (p : Package) (ready : AreRea
         let whole = ready stood.number stood.method stood.there in
         record { descriptor = r.0; there = r.1; count = r.2 ∙ sym (count_same forms offsets (naming p) stood.offset stood.method (whole.laid_out stood.offset)) }
 
-    is_abstract_same : stood.method.is_abstract ≡ m.is_abstract
-    is_abstract_same = methods.is_abstract stood.number stood.method stood.there ∙ ap (is_abstract_at p.files) member_is ∙ ap is_abstract_by is_method
-
-    pub begins_there : start_of (naming p).loaded 0 (method_offset p f) ≡ Some (start_on_card (naming p) m.is_abstract (place p m))
-    begins_there =
+    -- each method of Method begins at its offset
+    starts_there : start_of (naming p).loaded 0 (method_offset p f) ≡ Some (start_on_card (naming p) stood.method.is_abstract q)
+    starts_there =
         let held = methods_held forms offsets p ready in
         ap (start_of (naming p).loaded 0) at_offset
         ∙ begins (naming p) q (part p) stood.method.is_abstract (header_read stood.method) (bytes_stand (naming p) (part p) (placed_methods p) held stood.number q stood.placed) listed
-        ∙ ap (λ t. Some (start_on_card (naming p) t q)) is_abstract_same
-        ∙ ap (λ x. Some (start_on_card (naming p) m.is_abstract x)) (sym stood.found)
+
+    -- one that no class file has is abstract
+    pub added_starts : method_at p.files f ≡ None → start_of (naming p).loaded 0 (method_offset p f) ≡ Some (start_on_card (naming p) true q)
+    added_starts none =
+        starts_there
+        ∙ ap (λ t. Some (start_on_card (naming p) t q)) (methods.is_abstract stood.number stood.method stood.there ∙ ap (is_abstract_at p.files) member_is ∙ ap is_abstract_by none)
+
+    -- what holds of the method of Method that is the member
+    pub stood_has : (Q : LaidMethod → Type 0) → ((j : ℕ) (t : LaidMethod) → slice_get p.methods j ≡ Some t → t.member ≡ f → Q t) → Q stood.method
+    stood_has Q all = all stood.number stood.method stood.there member_is
+
+  module _ (f : Found) (m : Method) (is_there : is_in_method (world p) f ≡ true) (is_method : method_at p.files f ≡ Some m) where
+    -- what stands in Method is of the package
+    f_own : f.imported ≡ false
+    f_own = by f.imported refl is_method
+      where
+        by : (t : Bool) → f.imported ≡ t → (if t then None else option_and_then (method_in f.member) (slice_get p.files.classes f.class)) ≡ Some m → f.imported ≡ false
+        by true is h = absurd (cc)
+        by false is h = is
+
+    tells : Tells p.files m.id p.methods f
+    tells j t e = by (is_member f t) refl
+      where
+        other : (o : Option Method) → method_at p.files t.member ≡ o → is_member f t ≡ false → false ≡ is_method_of m.id o
+        other None is not_it = refl
+        other (Some k) is not_it = split (same_member k.id m.id) refl
+          where
+            split : (s : Bool) → same_member k.id m.id ≡ s → false ≡ s
+            split false same = refl
+            split true same =
+                let one : f ≡ t.member = own f t.member m k is_there (in_method j t e) is_method is same in
+                sym not_it ∙ ap (is_same f) (sym one) ∙ same_itself f f_own
+
+        by : (s : Bool) → is_member f t ≡ s → s ≡ is_method_of m.id (method_at p.files t.member)
+        by true is =
+            let one : t.member ≡ f = same_found f t.member f_own (is_own j t e) is in
+            sym (ap (λ g. is_method_of m.id (method_at p.files g)) one ∙ ap (is_method_of m.id) is_method ∙ member_itself m.id)
+        by false is = other (method_at p.files t.member) refl is
+
+    abbrev here : Stands (first_method p.methods) 0 p.methods f
+    here = stood f f_own is_there
+
+    is_abstract_same : here.method.is_abstract ≡ m.is_abstract
+    is_abstract_same = methods.is_abstract here.number here.method here.there ∙ ap (is_abstract_at p.files) (member_is f f_own is_there) ∙ ap is_abstract_by is_method
+
+    pub begins_there : start_of (naming p).loaded 0 (method_offset p f) ≡ Some (start_on_card (naming p) m.is_abstract (place p m))
+    begins_there =
+        starts_there f f_own is_there
+        ∙ ap (λ t. Some (start_on_card (naming p) t (placed_at here.offset here.method))) is_abstract_same
+        ∙ ap (λ x. Some (start_on_card (naming p) m.is_abstract x)) (sym (here.found p.files m.id tells))
+
+    -- what is asked of the code of each method of Method holds of the code at its place
+    pub place_has : (Q : LaidMethod → Type 0) → ((j : ℕ) (t : LaidMethod) → slice_get p.methods j ≡ Some t → t.member ≡ f → Q t) → (offset : ℕ) × (t : LaidMethod) × (place p m ≡ placed_at offset t) × Q t
+    place_has Q all = (here.offset, here.method, here.found p.files m.id tells, all here.number here.method here.there (member_is f f_own is_there))
 
     -- its place is one of those of Method
     pub place_among : IsAmong (placed_methods p) (place p m)
-    place_among = record { place = stood.number; there = stood.placed ∙ ap Some (sym stood.found) }
+    place_among = record { place = here.number; there = here.placed ∙ ap Some (sym (here.found p.files m.id tells)) }
 
 pub methods_begin : (forms : FormsLaw) (offsets : OffsetsLaw) (p : Package) → AreReady p → AreMethods p → HaveOwnIds p → ClassesStand p → BeginsAtOffsets p.files (world p) (naming p) (method_offset p) (place p)
 methods_begin forms offsets p ready methods own classes f m is_there is_method = begins_there forms offsets p ready methods own classes f m is_there is_method

@@ -66,7 +66,7 @@ module _ (p : Package) (facts : Facts p) (subtypes : KeepsSubtypes (world p)) (t
 
   -- ---- dispatch on an object of a class
 
-  agrees : (x : List ℕ) (c : Class) (e : class_named w x ≡ Some c) (class_here : is_interface c.flags ≡ false) → SelectionsAgree w n (method_offset p) x (let s = class_stands p facts x c e class_here in s.foot)
+  pub agrees : (x : List ℕ) (c : Class) (e : class_named w x ≡ Some c) (class_here : is_interface c.flags ≡ false) → SelectionsAgree w n (method_offset p) x (let s = class_stands p facts x c e class_here in s.foot)
   agrees x c e class_here =
       let s = class_stands p facts x c e class_here in
       selections.selections_agree w n (method_offset p) x s.foot facts.virtual_calls facts.interface_calls
@@ -78,7 +78,7 @@ module _ (p : Package) (facts : Facts p) (subtypes : KeepsSubtypes (world p)) (t
   line_imported x c e import = ap (line_in w) (kin-known w facts.is_kin facts.one_kin x c e) ∙ ap (λ t. if t then Imported (c ∷ upwards (kin w c.supers)) else Declared c (added w c) (line_in w (kin w c.supers))) import
 
   -- a package-visible method is found from a class of the package alone
-  hidden_own : (x : List ℕ) (c : Class) (s : Signature) → class_named w x ≡ Some c → finds_hidden (line_of w x) s ≡ true → (offset : ℕ) × (card_class p x ≡ card_classes.Own 0 offset)
+  pub hidden_own : (x : List ℕ) (c : Class) (s : Signature) → class_named w x ≡ Some c → finds_hidden (line_of w x) s ≡ true → (offset : ℕ) × (card_class p x ≡ card_classes.Own 0 offset)
   hidden_own x c s e h = by c.is_imported refl
     where
       by : (t : Bool) → c.is_imported ≡ t → (offset : ℕ) × (card_class p x ≡ card_classes.Own 0 offset)
@@ -235,7 +235,7 @@ module _ (p : Package) (facts : Facts p) (subtypes : KeepsSubtypes (world p)) (t
 
     pub interface_reached : (words : ℕ) (o : Option (Shape (List ℕ))) → Receives w o → (r : Reached Placed) → reached_at p.files w place (OnInterface words m) o ≡ r → IsFound r → Calls.reached n.loaded (callee n (OnInterface words m)) (option_as (shape_as n.class) o) ≡ reached_as (code_of n) (offset_of n) r
     interface_reached words o none r h is = absurd (subst IsFound (sym h) is)
-    interface_reached words o (one_of {x = x} c e not_interface made) r h is = interface_on words x c e not_interface (λ own. made) r h is
+    interface_reached words o (one_of {x = x} c e not_interface made) r h is = interface_on words x c e not_interface made r h is
     interface_reached words o (numbers {element = element}) r h is = interface_array words (OfNumbers element) (numbers_array element) refl r h is
     interface_reached words o (references {x = x}) r h is = interface_array words (OfReferences x) (references_array x) refl r h is
 
@@ -314,7 +314,7 @@ module _ (p : Package) (facts : Facts p) (subtypes : KeepsSubtypes (world p)) (t
             ∙ sym (dispatched_hidden p tokens (of_class super m) at_super.0 at_super.1 finds r.0 r.1)
         by (got t is no_hidden selects) = open_same t is no_hidden
 
-    super_says : SaysSuper w n m super (let s = class_stands p facts super d super_is super_class in s.foot)
+    pub super_says : SaysSuper w n m super (let s = class_stands p facts super d super_is super_class in s.foot)
     super_says =
         let s = class_stands p facts super d super_is super_class in
         let itself_there : receiver super ≡ super = not_array super (kinds.no_array super (ap is_some super_is)) in

@@ -1,5 +1,5 @@
 -- What the rules of names promise of calls in narrow code, and of the classes and tokens that calls rest on (Java Card Virtual Machine Specification 2.2.2, sections 4.3.7 and 7.5).
-use Rattle.std.specs.Prelude.{◌≡◌, ℕ, ◌<◌, List, [], ◌∷◌, Option, Some, None, Bool, true, false, position, slice_get}
+use Rattle.std.specs.Prelude.{◌≡◌, ℕ, ◌<◌, List, [], ◌∷◌, Option, Some, None, Bool, true, false, not, position, slice_get}
 use Rattle.cjc_bytes.specs.AccessFlags.{is_abstract, is_interface, is_static}
 use Rattle.cjc_bytes.specs.declared.fault.MemberId.{MemberId}
 use Rattle.cjc_by_name.specs.OnePackage.{is_initialiser, of_class}
@@ -10,6 +10,9 @@ use Rattle.cjc_export.specs.declared.tree.ExportMethod.{ExportMethod}
 use Rattle.cjc_export.specs.Supers.{classes_of, virtual_method}
 use Rattle.cjc_export.specs.Supers as exports
 use Rattle.cjc_ncode.specs.ByLabel.{Callee, Fixed, OnObject, OnSuper, OnInterface}
+use Rattle.cjc_narrow.specs.Package.{flags_of}
+use Rattle.cjc_narrow.specs.Resolved.{method_found}
+use Rattle.cjc_script.specs.Sorts as sorts
 use Rattle.cjc_script.specs.Sorts.{Element, Shape, OfClass, OfNumbers, OfReferences}
 use Rattle.cjc_tokens.specs.Lines.{line_of}
 use Rattle.cjc_tokens.specs.Members.{Signature, same, signature_of}
@@ -46,12 +49,12 @@ pub record ExportsKeep (p : Package) : Type 0 where
 abbrev pub NoStaticMethods : List Class → Type 0
 NoStaticMethods w = (x : List ℕ) (c : Class) → class_named w x ≡ Some c → c.is_imported ≡ false → is_interface c.flags ≡ true → (k : ℕ) (m : Member) → slice_get c.methods k ≡ Some m → is_static m.flags ≡ true → is_initialiser m.name ≡ true
 
--- A class of which objects are made; arrays have the methods of java/lang/Object.
+-- A class whose objects are there, of the package one that is not abstract; arrays have the methods of java/lang/Object.
 pub data Receives (w : List Class) : Option (Shape (List ℕ)) → Type 0 where
   none : Receives w None
   numbers : {element : Element} → Receives w (Some (OfNumbers element))
   references : {x : List ℕ} → Receives w (Some (OfReferences x))
-  one_of : {x : List ℕ} (c : Class) → class_named w x ≡ Some c → is_interface c.flags ≡ false → is_abstract c.flags ≡ false → Receives w (Some (OfClass x))
+  one_of : {x : List ℕ} (c : Class) → class_named w x ≡ Some c → is_interface c.flags ≡ false → (c.is_imported ≡ false → is_abstract c.flags ≡ false) → Receives w (Some (OfClass x))
 
 -- ---- calls
 
@@ -73,3 +76,12 @@ pub data IsNamed (w : List Class) : Callee → Type 0 where
       → IsSought w (of_class super m) → finds_hidden (line_of w m.class) (signature m) ≡ finds_hidden (line_of w super) (signature m) → IsNamed w (OnSuper m)
   -- a method of an interface
   on_interface : {words : ℕ} {m : MemberId} (i : Class) (k : ℕ) → class_named w m.class ≡ Some i → is_interface i.flags ≡ true → is_initialiser m.name ≡ false → position (λ s. same s (signature m)) (interface_methods w i) ≡ Some k → IsNamed w (OnInterface words m)
+
+-- ---- words of arguments
+
+-- What the rules of names promise of the words that a call takes: it names a method by a method's descriptor, a static one without receiver, and a virtual one that its class has itself.
+pub data TakesWords (w : List Class) : Callee → Type 0 where
+  fixed_words : {on : Bool} {m : MemberId} (s : sorts.Signature) → sorts.signature_of m.desc ≡ Some s → on ≡ not (is_static (flags_of (method_found w m))) → TakesWords w (Fixed on m)
+  virtual_words : {m : MemberId} (s : sorts.Signature) → sorts.signature_of m.desc ≡ Some s → (f : Found) → selection w m.class (signature m) ≡ Some f → TakesWords w (OnObject m)
+  super_words : {m : MemberId} (s : sorts.Signature) → sorts.signature_of m.desc ≡ Some s → TakesWords w (OnSuper m)
+  interface_words : {words : ℕ} {m : MemberId} → TakesWords w (OnInterface words m)

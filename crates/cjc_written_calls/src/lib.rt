@@ -4,35 +4,44 @@
 #![tactic(auto)]
 
 ghost use Rattle.std.specs.Prelude.{ℕ, List, Option};
-ghost use Rattle.std.specs.Prelude.{◌≡◌, Some, false};
+ghost use Rattle.std.specs.Prelude.{◌≡◌, ◌+◌, ◌||◌, None, Some, false, length, slice_get, true};
 ghost use Rattle.cjc_bytecode.specs.Alike.{IsFound, reached_as, start_as};
 ghost use Rattle.cjc_bytes.specs.declared.fault.MemberId.{MemberId as Member};
 ghost use Rattle.cjc_bytecode.specs.Machine.{Reached, Start, Within};
 ghost use Rattle.cjc_bytecode.specs.Renaming.{option_as, shape_as};
-ghost use Rattle.cjc_calls_by_token.specs.Reaching.{BeginsAtOffsets, reached_at};
+ghost use Rattle.cjc_calls_by_token.specs.Reaching.{BeginsAtOffsets, is_in_method, reached_at};
 ghost use Rattle.cjc_by_name.specs.Linked.{Method};
+ghost use Rattle.cjc_by_name.specs.OnePackage.{is_initialiser, method_at};
 ghost use Rattle.cjc_calls_by_token.specs.Reaching as Reaching;
 ghost use Rattle.cjc_card.specs.Calls as Calls;
+ghost use Rattle.cjc_card.specs.Methods.{Code, start_of};
 ghost use Rattle.cjc_code.specs.declared.method_code.MethodCode.{MethodCode};
 ghost use Rattle.cjc_components.specs.Methods.{method_offset, placed_methods};
 ghost use Rattle.cjc_components.specs.Package.{Package, world};
-ghost use Rattle.cjc_components.specs.Written.{IsPackage};
+ghost use Rattle.cjc_components.specs.Written.{IsPackage, added_words};
 ghost use Rattle.cjc_list.specs.Listed.{ListTree};
 ghost use Rattle.cjc_bytecode.specs.Meanings as Meanings;
 ghost use Rattle.cjc_lower.specs.Naming.{Fit, IsClass, callee};
 ghost use Rattle.cjc_ncode.specs.declared.narrow.PoolKey.TheVariants as keys;
-ghost use Rattle.cjc_world.specs.Classes.{Class, class_named};
+ghost use Rattle.cjc_world.specs.Classes.{Class, class_at, class_named};
+ghost use Rattle.cjc_world.specs.Classes.{Member as ClassMember};
+ghost use Rattle.cjc_world.specs.Lookup.{member_at, own_method};
+ghost use Rattle.cjc_tokens.specs.Members.{is_constructor};
+ghost use Rattle.cjc_bytes.specs.AccessFlags.{is_private, is_static};
+ghost use Rattle.cjc_components.specs.Descriptor.{method_descriptor};
 ghost use Rattle.cjc_lower.specs.Package.{HoldsMethods};
 ghost use Rattle.cjc_lower.specs.Placed.{Placed, code_of, offset_of};
 ghost use Rattle.cjc_lower.specs.Agreement.{IsAmong};
+ghost use Rattle.cjc_narrow.specs.Package.{words};
 ghost use Rattle.cjc_ncode.specs.ByLabel.{Callee};
 ghost use Rattle.cjc_ncode.specs.ByLabel as ByLabel;
 ghost use Rattle.cjc_script.specs.Sorts.{Shape};
 ghost use Rattle.cjc_tables_by_token.specs.Loading.{naming, part};
 ghost use Rattle.cjc_tables_by_token.specs.Sound.{IsSound};
+ghost use Rattle.cjc_world.specs.declared.found.Found.{Found};
 ghost use Rattle.cjc_world.specs.Files.{Files};
 ghost use Rattle.cjc_vtable.specs.Kept.{Keeps};
-ghost use Rattle.cjc_written_calls.specs.Calls.{ExportsKeep, IsNamed, KeepsSubtypes, KeepsTokens, NoStaticMethods, Receives};
+ghost use Rattle.cjc_written_calls.specs.Calls.{ExportsKeep, IsNamed, KeepsSubtypes, KeepsTokens, NoStaticMethods, Receives, TakesWords};
 ghost use Rattle.cjc_written_calls.specs.Standing.{AreMethods, AreReady, IsSmall, place};
 
 use cjc_layout::layouts_are_laid_out;
@@ -61,6 +70,16 @@ pub fn methods_begin_at_offsets()
     layouts_are_laid_out();
 }
 
+/// A method of an interface that a class has no code of, and that so is added to the class in Method, begins on the card
+/// at its offset as an abstract one, with the words of its descriptor.
+pub fn added_methods_begin<T>()
+    ensures { (list : List ℕ) (tree : ListTree) (codes : List MethodCode) (rows : Method → List (Option T)) (p : Package) → IsSound list p.files → IsPackage tree p.files codes rows p → AreReady p
+        → (f : Found) → f.imported ≡ false → is_in_method (world p) f ≡ true → method_at p.files f ≡ None
+        → (s : Start Code) × ((let n = naming p in start_of n.loaded n.part (method_offset p f)) ≡ Some s) × (s.is_abstract ≡ true) × (s.nargs ≡ added_words (world p) f (class_at (world p) f.imported f.class)) }
+{
+    layouts_are_laid_out();
+}
+
 /// Whether a call has a receiver is the same by name and by token.
 pub fn calls_take_objects_alike()
     ensures { (p : Package) (m : Callee) → Calls.on_object (callee (naming p) m) ≡ ByLabel.on_object m }
@@ -84,12 +103,52 @@ pub fn calls_reach()
     classes_are_told();
 }
 
+/// Each call takes by token as many words of arguments as it takes by name: by the header of the method where it is one
+/// of the package, by the descriptor of an imported one, and an interface's by its operand.
+pub fn calls_take_words<T>()
+    ensures { (list : List ℕ) (tree : ListTree) (codes : List MethodCode) (rows : Method → List (Option T)) (p : Package) → IsSound list p.files → IsPackage tree p.files codes rows p → AreReady p → IsSmall p → Keeps (world p) → KeepsSubtypes (world p) → KeepsTokens (world p) → ExportsKeep p
+        → (m : Callee) → IsNamed (world p) m → TakesWords (world p) m → (k : ℕ) → words p.files (world p) m ≡ Some k → (let n = naming p in Calls.words n.loaded (callee n m) ≡ Some k) }
+{
+    layouts_are_laid_out();
+    dispatch_laws();
+    token_laws();
+    lookup_laws();
+    classes_are_told();
+}
+
+/// A method that a class of the package declares is the one that Descriptor lists under its name and descriptor, and has
+/// no token there just where it is static, private or a constructor.
+pub fn methods_are_declared()
+    ensures declared { (list : List ℕ) (p : Package) → IsSound list p.files → IsSmall p → Keeps (world p) → ExportsKeep p
+        → (id : Member) (c : Class) → class_named (world p) id.class ≡ Some c → c.is_imported ≡ false → is_initialiser id.name ≡ false → (f : Found) → own_method false id.name id.desc c ≡ Some f
+        → (let n = naming p in Calls.declared n.loaded (n.class id.class) id ≡ Some (record { part = n.part; method = method_descriptor p c f })) }
+    ensures tokens { (list : List ℕ) (p : Package) → IsSound list p.files → IsSmall p → Keeps (world p) → ExportsKeep p
+        → (x : List ℕ) (c : Class) → class_named (world p) x ≡ Some c → c.is_imported ≡ false → (i : ℕ) (m : ClassMember) → slice_get c.methods i ≡ Some m
+        → Calls.has_no_token (method_descriptor p c (member_at c (length c.fields + i))) ≡ (is_static m.flags || (is_private m.flags || is_constructor m.name)) }
+{
+    dispatch_laws();
+    token_laws();
+    lookup_laws();
+}
+
 /// A static method that a script calls begins by token as it does by name, and is one of the methods of Method.
 pub fn entries_are_called()
     ensures alike { (list : List ℕ) (p : Package) → IsSound list p.files → AreReady p → AreMethods p → IsSmall p → Keeps (world p) → ExportsKeep p → NoStaticMethods (world p)
         → (id : Member) → (let n = naming p in let methods = Reaching.placed_methods p.files (place p) in Calls.called n.loaded id ≡ option_as (start_as (code_of n) (offset_of n)) (methods.called id)) }
     ensures there { (list : List ℕ) (p : Package) → IsSound list p.files → AreReady p → AreMethods p → IsSmall p → Keeps (world p) → ExportsKeep p → NoStaticMethods (world p)
         → (id : Member) (start : Start Placed) → (let methods = Reaching.placed_methods p.files (place p) in methods.called id ≡ Some start → IsAmong (placed_methods p) start.code) }
+{
+    layouts_are_laid_out();
+    dispatch_laws();
+    token_laws();
+    lookup_laws();
+    classes_are_told();
+}
+
+/// Each method that a script sends to an object is one of the methods of Method.
+pub fn sent_methods_stand()
+    ensures { (list : List ℕ) (p : Package) → IsSound list p.files → AreReady p → AreMethods p → IsSmall p → Keeps (world p) → ExportsKeep p
+        → (kind : Shape (List ℕ)) → Receives (world p) (Some kind) → (id : Member) (start : Start Placed) → (let methods = Reaching.placed_methods p.files (place p) in methods.sent kind id ≡ Some start → IsAmong (placed_methods p) start.code) }
 {
     layouts_are_laid_out();
     dispatch_laws();

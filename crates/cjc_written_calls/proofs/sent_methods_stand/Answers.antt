@@ -1,0 +1,18 @@
+use Rattle.cjc_components.specs.Package.{world}
+use Rattle.cjc_written_calls.specs.Standing.{place}
+use Rattle.cjc_written_calls.proofs.Ids.{own_ids}
+use Rattle.cjc_written_calls.proofs.Known.{classes_stand, facts}
+use Rattle.cjc_written_calls.proofs.Knowing.{sent_placed_there}
+use Rattle.cjc_written_calls.proofs.Offsets.{place_among}
+use Rattle.cjc_written_calls.proofs.Written.{methods_fit}
+use Rattle.cjc_written_calls.proofs.sent_methods_stand.Goals as goal
+
+pub returns : goal.returns
+returns c = λ list p sound ready methods small keeps keep.
+    let acyclic = keeps.rules.acyclic in
+    let laws = c.lookup_laws.ensures in
+    let dispatch = c.dispatch_laws.ensures in
+    let forms = c.layouts_are_laid_out.ensures.forms in
+    let offsets = c.layouts_are_laid_out.ensures.offsets in
+    let known = facts list p sound (methods_fit p small) keep keeps (laws.is_kin (world p) acyclic) (laws.one_kin (world p)) (dispatch.virtual_calls (world p) keeps.rules) (dispatch.interface_calls (world p) keeps.rules keeps.interfaces) (c.token_laws.ensures (world p) keeps.rules) in
+    sent_placed_there p known (c.classes_are_told.ensures.kinds list p sound) (place p) (λ f m there is. place_among forms offsets p ready methods (own_ids list p sound) (classes_stand list p sound) f m there is)
