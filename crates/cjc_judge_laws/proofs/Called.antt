@@ -54,6 +54,17 @@ found_by false array (Some f) m e = (f, refl)
 
 -- ---- what an invokeinterface names
 
+-- A method that an interface declares itself, by the name of that interface; it is found there, and is no initialiser.
+pub record IsDeclared (files : Files) (id : MemberId) : Type 0 where
+  pub at : Found
+  pub owner : Class
+  pub own : IsOwn owner id.name id.desc at
+  pub named : class_named (all_classes files) owner.name ≡ Some owner
+  pub by_owner : id.class ≡ owner.name
+  pub found : find_method (all_classes files) id.class id.name id.desc ≡ Some at
+  pub interface : is_interface owner.flags ≡ true
+  pub plain : is_initialiser id.name ≡ false
+
 module _ (files : Files) (acyclic : IsAcyclic (all_classes files)) (holder : ClassTree) (id : MemberId) where
   abbrev w : List Class
   w = all_classes files
@@ -97,6 +108,13 @@ module _ (files : Files) (acyclic : IsAcyclic (all_classes files)) (holder : Cla
           interface = not_false (is_interface d.flags) (or_right (is_class_of (class_named w id.class)) (not (is_interface d.flags)) class);
           plain = or_right _ (is_initialiser id.name) (or_left _ _ call);
         }
+
+    -- so what it resolves to is declared
+    pub resolved_declared : IsDeclared files (resolved_method w id)
+    resolved_declared =
+        let of = of_interface in
+        subst (IsDeclared files) (sym of.resolved)
+        (record { at = of.at; owner = of.owner; own = of.own; named = of.named; by_owner = refl; found = of.again; interface = of.interface; plain = of.plain })
 
     module _ (applets : Bool) (unbroken : token_breaks applets files ≡ []) (writable : (e : ℕ) (t : ExportTree) → slice_get files.exports e ≡ Some t → IsWritable t) where
       -- and has a token of one byte

@@ -49,7 +49,7 @@ use Rattle.cjc_written.specs.Operands.{CanBeSaid as IsSaid}
 use Rattle.cjc_written.specs.Rows.{has_rows, row_if, rows_by}
 use Rattle.cjc_judge_laws.specs.Pooled.{ArePooled, IsSelected}
 use Rattle.cjc_judge_laws.specs.Tested.{IsOne, IsTested, states}
-use Rattle.cjc_judge_laws.proofs.Called.{is_fit, is_found, is_there, resolved_token}
+use Rattle.cjc_judge_laws.proofs.Called.{IsDeclared, is_fit, is_found, is_there, resolved_declared, resolved_token}
 use Rattle.cjc_judge_laws.proofs.Selected.{judged_acyclic, judged_names, judged_selectable, judged_whole, judged_writable}
 
 -- ---- lists
@@ -156,6 +156,22 @@ module _ (list : ListTree) (files : List (List ℕ)) (judged : Judged) (is : IsT
         let sum : m.widest ≡ widest_sum kept = ap (λ (x : NMethod). x.widest) of.is in
         operands_fit judged.world of.code of.class of.method of.tree of.one.is_method from.0 i from.2 (said k i e) (omega (arith, one, sum, short))
 
+    -- a method of an interface that it calls is declared there
+    call_declared : (k nargs : ℕ) (id : MemberId) → slice_get m.insns k ≡ Some (insns.Interface nargs id) → IsDeclared judged.world id
+    unfolding resolution
+    call_declared k nargs id e =
+        let called = called_from r (place_in r kept) kept k nargs id (in_code k (insns.Interface nargs id) e) in
+        let from = reached_from of.code.insns (rows_by flags) called.0 called.1 called.3 in
+        let one = of.one in
+        let names = judged_names list files judged is in
+        let there = is_there judged.world judged.codes names one.place of.code one.is_code of.class of.method of.tree one.is_method from.0 called.1 from.2 in
+        let found = is_found judged.world judged.codes names one.place of.code one.is_code of.class of.method of.tree one.is_method from.0 called.1 from.2 in
+        let fit = is_fit judged.world judged.codes names one.place of.code one.is_code of.class of.method of.tree one.is_method from.0 called.1 from.2 in
+        let op = called.4 in
+        let d = resolved_declared judged.world (judged_acyclic list files judged is) of.class called.2
+        (ap (names_missing (all_classes judged.world)) (sym op) ∙ there) (ap (names_unfound (all_classes judged.world)) (sym op) ∙ found) (ap (names_unfit judged.world of.class) (sym op) ∙ fit) in
+        subst (IsDeclared judged.world) (sym called.5) d
+
     -- a method of an interface that it calls has a token
     call_token : (k nargs : ℕ) (id : MemberId) → slice_get m.insns k ≡ Some (insns.Interface nargs id) → (t : ℕ) × (token_of judged.world (assigned applets judged.world) id ≡ Some t) × (t < 256)
     unfolding resolution
@@ -180,6 +196,14 @@ module _ (list : ListTree) (files : List (List ℕ)) (judged : Judged) (is : IsT
       let of_insn = any_at (calls id) m.insns of_method.3 in
       let call = call_of id of_insn.1 of_insn.3 in
       call_token m (pooled.each of_method.0 m of_method.2 of_insn.0 of_insn.1 of_insn.2) of_insn.0 call.0 id (of_insn.2 ∙ ap Some call.1)
+
+  pub calls_are_declared : (id : MemberId) → is_called methods id ≡ true → IsDeclared judged.world id
+  calls_are_declared id e =
+      let of_method = any_at (λ m. list_any (calls id) m.insns) methods e in
+      let m = of_method.1 in
+      let of_insn = any_at (calls id) m.insns of_method.3 in
+      let call = call_of id of_insn.1 of_insn.3 in
+      call_declared m (pooled.each of_method.0 m of_method.2 of_insn.0 of_insn.1 of_insn.2) of_insn.0 call.0 id (of_insn.2 ∙ ap Some call.1)
 
   pub calls_have_tokens : CallsHaveTokens judged.world (assigned applets judged.world) methods
   calls_have_tokens id e = let t = call_tokens id e in some_is _ t.0 t.1

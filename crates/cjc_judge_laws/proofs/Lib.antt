@@ -1,5 +1,5 @@
 pub mod Selected
-mod Owners
+pub mod Owners
 mod Tokens
-mod Called
-mod Emittable
+pub mod Called
+pub mod Emittable
