@@ -125,8 +125,8 @@ module _ (p : Package) (h : IsLimited p) where
   maps_fit : (ms : List InterfaceMap) → AllByRecursion (λ (m : InterfaceMap). length m.index ≤ 255) ms → AllByRecursion ImplementedFits (map (implemented (class_ref p)) ms)
   maps_fit [] all = tt
   maps_fit (m ∷ ms) all = (
-      record { interface = class_fits p h m.interface; index = (let le = all.0 in let lt : length m.index < 2 ^ 8 = omega (arith, le) in lt) },
-      maps_fit ms all.1,
+    record { interface = class_fits p h m.interface; index = (let le = all.0 in let lt : length m.index < 2 ^ 8 = omega (arith, le) in lt) },
+    maps_fit ms all.1,
   )
 
   entry_fits : (k : ℕ) (c : Class) → slice_get (in_order (world p) false) k ≡ Some c → ClassEntryFits (class_entry (class_ref p) p c)

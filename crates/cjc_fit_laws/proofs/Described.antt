@@ -86,8 +86,8 @@ once_all P seen (x ∷ xs) all = by (is_one_of seen x) (once_all P seen xs all.1
 types_by : (ns : List (List ℕ)) → list_any is_wide (map type_descriptor ns) ≡ false → AllByRecursion (λ (x : List ℕ). AllByRecursion (λ n. n < 16) x) ns → AllByRecursion TypeDescriptorFits (map type_descriptor ns)
 types_by [] narrow all = tt
 types_by (x ∷ ns) narrow all = (
-    record { count = (let le = at_most 255 (length x) (first_off (nat_lt 255 (length x)) (list_any is_wide (map type_descriptor ns)) narrow) in let lt : length x < 2 ^ 8 = omega (arith, le) in lt); nibbles = all.0 },
-    types_by ns (second_off (nat_lt 255 (length x)) (list_any is_wide (map type_descriptor ns)) narrow) all.1,
+  record { count = (let le = at_most 255 (length x) (first_off (nat_lt 255 (length x)) (list_any is_wide (map type_descriptor ns)) narrow) in let lt : length x < 2 ^ 8 = omega (arith, le) in lt); nibbles = all.0 },
+  types_by ns (second_off (nat_lt 255 (length x)) (list_any is_wide (map type_descriptor ns)) narrow) all.1,
 )
 
 type_is : (x : TypeDescriptor) → length (type_bytes x) ≡ type_size x

@@ -95,13 +95,13 @@ module _ (p : Package) where
     handlers_by : (start low : ℕ) (before : ℕ → ℕ) → ((k : ℕ) → before k ≤ low) → low ≤ 32767 → start + low ≤ 65535 → (cs : List NCatch) → AllByRecursion HandlerFits (handlers_of (names p) (λ k. start + before k) cs)
     handlers_by start low before each short room [] = tt
     handlers_by start low before each short room (c ∷ cs) = (
-        record {
-          start = (let a = each c.start in let lt : start + before c.start < 2 ^ 16 = omega (arith, a, room) in lt);
-          length = (let a = each c.end in let lt : (start + before c.end) - (start + before c.start) < 0x8000 = omega (arith, a, short) in lt);
-          handler = (let a = each c.target in let lt : start + before c.target < 2 ^ 16 = omega (arith, a, room) in lt);
-          catch_index = catch_low p few c.class;
-        },
-        handlers_by start low before each short room cs,
+      record {
+        start = (let a = each c.start in let lt : start + before c.start < 2 ^ 16 = omega (arith, a, room) in lt);
+        length = (let a = each c.end in let lt : (start + before c.end) - (start + before c.start) < 0x8000 = omega (arith, a, short) in lt);
+        handler = (let a = each c.target in let lt : start + before c.target < 2 ^ 16 = omega (arith, a, room) in lt);
+        catch_index = catch_low p few c.class;
+      },
+      handlers_by start low before each short room cs,
     )
 
     before_low : (m : LaidMethod) → MethodIsShort m → (k : ℕ) → bytes_before (names p) (let code = m.code in code.insns) m.wide k ≤ bytecode_count m

@@ -1,15 +1,26 @@
-//! What the rules and limits of the converter promise of a package's components: each number and count of them fits the field that
-//! it is written to, so that the files that are written spell them. For whoever writes them. Nothing here runs.
+//! What the rules and limits of the converter promise of a package's components: each number and count of them fits the
+//! field that it is written to, so that the files that are written spell them. For whoever writes them. Nothing here
+//! runs.
 #![tactic(auto)]
 
 ghost use Rattle.std.specs.Prelude.{IfSome};
 ghost use Rattle.cjc_capwrite.specs.Fits.{
-    AppletFits, ClassInfoFits, DescriptorFits, DirectoryFits, ExportFits, HeaderFits, ImportFits, LocationsFit, MethodFits,
-    PoolFits, StaticFieldFits,
+  AppletFits,
+  ClassInfoFits,
+  DescriptorFits,
+  DirectoryFits,
+  ExportFits,
+  HeaderFits,
+  ImportFits,
+  LocationsFit,
+  MethodFits,
+  PoolFits,
+  StaticFieldFits,
 };
 ghost use Rattle.cjc_capwrite.specs.Writable.{IsWritable};
 ghost use Rattle.cjc_components.specs.Class.{class_info};
-ghost use Rattle.cjc_components.specs.Components.{applet, components_of, directory_with, header, import, method, reference_location, sizes};
+ghost use Rattle.cjc_components.specs.Components.{applet, header, import, method, reference_location};
+ghost use Rattle.cjc_components.specs.Components.{components_of, directory_with, sizes};
 ghost use Rattle.cjc_components.specs.Descriptor.{descriptor};
 ghost use Rattle.cjc_components.specs.Exports.{export};
 ghost use Rattle.cjc_components.specs.Names.{class_ref, pool_entries};
