@@ -1,2 +1,7 @@
+mod Items
+mod Setting
+mod Finding
+mod Counting
+mod Joining
 mod Inside
 mod Starts

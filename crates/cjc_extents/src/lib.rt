@@ -1,5 +1,6 @@
-//! The offsets of a package's methods, by the number of a class and of its member, from where its methods stand.
-//! Whoever writes Class, Applet, ConstantPool and Export takes them. It knows no token and no byte.
+//! Where each method of a package stands, by the number of its class and by its place there: made once, so that
+//! whoever writes Class, Descriptor, Applet, Export and ConstantPool finds it without a search. It knows no
+//! token and no byte.
 #![tactic(auto)]
 
 ghost use Rattle.std.specs.Prelude.{◌≡◌, ◌≤◌, ◌<◌, ◌+◌, ℕ, List, Some, false, length, map};
@@ -14,10 +15,13 @@ ghost use Rattle.cjc_export_file.specs.Offsets.{offset_at};
 ghost use Rattle.cjc_descriptor.specs.Made.{extents_of};
 
 mod offsets;
+mod rows;
+mod table;
 
 pub use offsets::method_offsets;
+pub use table::extents;
 
-/// The offsets in the extents of a package, which Descriptor is made of, are those of the package's methods, as whoever writes Class, Applet,
+/// The offsets in what `extents` gives are those of the package's methods, as whoever writes Class, Applet,
 /// ConstantPool and Export asks: where its methods are those of its files in the order of Method.
 pub fn offsets_are_of_the_package()
     ensures all { (p : Package) (order : List ℕ) → AreOrdered p.files order → map (λ m. m.member) p.methods ≡ method_order (world p) → AreOffsets p (map (map (λ e. e.offset)) (extents_of p)) }
