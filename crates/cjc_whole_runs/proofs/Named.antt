@@ -86,11 +86,16 @@ module _ (list : List ℕ) (files : Files) (codes : List MethodCode) (settings :
         holds (receiver_class w b op id) (operand stack n) (otherwise (nat_lt n n) _ (is_of w (receiver_class w b op id) (operand stack n)) no (fits n (omega (arith, one))))
 
     call_named : (op : ℕ) (id : MemberId) → has_opcode (jop.Call op id) ≡ true → IsInsnOf files codes class (jop.Call op id) → Fits (jop.Call op id) → Named (jop.Call op id)
-    call_named op id e = one_of (λ k. IsInsnOf files codes class (jop.Call k id) → Fits (jop.Call k id) → Named (jop.Call k id)) op (0xB6 ∷ 0xB7 ∷ 0xB8 ∷ 0xB9 ∷ [])
-        ((λ at fits. on_object 0xB6 (virtual_is list files codes settings tables whole image near b stack class id at (receiver_fits 0xB6 id refl fits))),
-        ((λ at fits. on_object 0xB7 (special_is list files codes settings tables whole image near b stack class id holder at (receiver_fits 0xB7 id refl fits))),
-        ((λ at fits. a_static_call (static_is list files codes settings tables whole image near class id at)),
-        ((λ at fits. on_object 0xB9 (interface_is list files codes settings tables whole image near b stack class id at (receiver_fits 0xB9 id refl fits))), tt)))) e
+    call_named op id e = one_of (λ k. IsInsnOf files codes class (jop.Call k id) → Fits (jop.Call k id) → Named (jop.Call k id)) op (0xB6 ∷ 0xB7 ∷ 0xB8 ∷ 0xB9 ∷ []) (
+      (λ at fits. on_object 0xB6 (virtual_is list files codes settings tables whole image near b stack class id at (receiver_fits 0xB6 id refl fits))),
+      (
+        (λ at fits. on_object 0xB7 (special_is list files codes settings tables whole image near b stack class id holder at (receiver_fits 0xB7 id refl fits))),
+        (
+          (λ at fits. a_static_call (static_is list files codes settings tables whole image near class id at)),
+          ((λ at fits. on_object 0xB9 (interface_is list files codes settings tables whole image near b stack class id at (receiver_fits 0xB9 id refl fits))), tt),
+        ),
+      ),
+    ) e
       where
         on_object : (k : ℕ) → IsReceiverOn files (look_ups files image near tables) tables class.name stack k id → Named (jop.Call k id)
         on_object k h = a_call_on_receiver (subst (λ c. IsReceiverOn files (look_ups files image near tables) tables c stack k id) (sym own) h)

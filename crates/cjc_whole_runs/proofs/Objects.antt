@@ -91,9 +91,9 @@ module _ (list : List ℕ) (files : Files) (codes : List MethodCode) (settings :
         by false own =
             let t = solid.own c.name c named own in
             of_objects c.name c.fields (λ i m e.
-                (let x = mapped_at field_of_class (let u = t.0 in u.fields) i m (ap (λ (v : Class). slice_get v.fields i) (sym t.2) ∙ e) in
-                let word = own_field_word c.number i t.0 x.0 t.1 x.1 in
-                word_values (field_sort m.desc) (ap (λ (v : Member). is_word_sort (field_sort v.desc)) x.2 ∙ word.one_word)))
+            (let x = mapped_at field_of_class (let u = t.0 in u.fields) i m (ap (λ (v : Class). slice_get v.fields i) (sym t.2) ∙ e) in
+            let word = own_field_word c.number i t.0 x.0 t.1 x.1 in
+            word_values (field_sort m.desc) (ap (λ (v : Member). is_word_sort (field_sort v.desc)) x.2 ∙ word.one_word)))
 
     -- the fields of an object of a class
     pub objects_have_words : (name : List ℕ) → list_all is_field (object_fields w name) ≡ true
