@@ -21,3 +21,4 @@ mod HeadersRead
 mod Begins
 mod Orders
 mod Words
+mod Placed

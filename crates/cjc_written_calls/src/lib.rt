@@ -4,7 +4,7 @@
 #![tactic(auto)]
 
 ghost use Rattle.std.specs.Prelude.{ℕ, List, Option};
-ghost use Rattle.std.specs.Prelude.{◌≡◌, ◌+◌, ◌||◌, None, Some, false, length, slice_get, true};
+ghost use Rattle.std.specs.Prelude.{◌≡◌, ◌+◌, ◌||◌, None, Some, false, length, position, slice_get, true};
 ghost use Rattle.cjc_bytecode.specs.Alike.{IsFound, reached_as, start_as};
 ghost use Rattle.cjc_bytes.specs.declared.fault.MemberId.{MemberId as Member};
 ghost use Rattle.cjc_bytecode.specs.Machine.{Reached, Start, Within};
@@ -26,8 +26,10 @@ ghost use Rattle.cjc_ncode.specs.declared.narrow.PoolKey.TheVariants as keys;
 ghost use Rattle.cjc_world.specs.Classes.{Class, class_at, class_named};
 ghost use Rattle.cjc_world.specs.Classes.{Member as ClassMember};
 ghost use Rattle.cjc_world.specs.Lookup.{member_at, own_method};
-ghost use Rattle.cjc_tokens.specs.Members.{is_constructor};
-ghost use Rattle.cjc_bytes.specs.AccessFlags.{is_private, is_static};
+ghost use Rattle.cjc_tokens.specs.Members.{is_constructor, same};
+ghost use Rattle.cjc_bytes.specs.AccessFlags.{is_interface, is_private, is_static};
+ghost use Rattle.cjc_calls_by_token.specs.Selecting.{signature};
+ghost use Rattle.cjc_tokens.specs.Methods.{interface_methods};
 ghost use Rattle.cjc_components.specs.Descriptor.{method_descriptor};
 ghost use Rattle.cjc_lower.specs.Package.{HoldsMethods};
 ghost use Rattle.cjc_lower.specs.Placed.{Placed, code_of, offset_of};
@@ -130,6 +132,12 @@ pub fn methods_are_declared()
     token_laws();
     lookup_laws();
 }
+
+/// A method of an interface of the package has under its name the token of its place among the interface's methods.
+pub fn interface_methods_are_named()
+    ensures { (list : List ℕ) (p : Package) → IsSound list p.files → (id : Member) (i : Class) → class_named (world p) id.class ≡ Some i → i.is_imported ≡ false → is_interface i.flags ≡ true
+        → (let n = naming p in Calls.interface_token n.loaded (n.class id.class) id) ≡ position (λ s. same s (signature id)) (interface_methods (world p) i) }
+{}
 
 /// A static method that a script calls begins by token as it does by name, and is one of the methods of Method.
 pub fn entries_are_called()
