@@ -16,7 +16,7 @@ use Rattle.cjc_capread.specs.declared.tree.ClassDescriptor.{ClassDescriptor}
 use Rattle.cjc_capread.specs.declared.tree.MethodDescriptor.{MethodDescriptor}
 use Rattle.cjc_capread.specs.ClassRefs.{is_inside}
 use Rattle.cjc_card.specs.Calls.{acc_constructor, called, class_among, declared, has_no_token, is_named, named_among, named_in_part, static_start}
-use Rattle.cjc_card.specs.Classes.{Own, number_of}
+use Rattle.cjc_card.specs.Classes.{number_of}
 use Rattle.cjc_card.specs.Classes as card
 use Rattle.cjc_card.specs.Loaded.{MethodName}
 use Rattle.cjc_card.specs.Methods.{Code, start_of}

@@ -1,5 +1,5 @@
 -- Methods of interfaces have the tokens of their places under their names.
-use Rattle.std.proofs.Common.{◌≡◌, ℕ, suc, refl, sym, ap, ◌∙◌, Bool, true, List, [], ◌∷◌}
+use Rattle.std.proofs.Common.{◌≡◌, suc, refl, sym, ap, ◌∙◌, true, List, [], ◌∷◌}
 use Rattle.std.specs.Prelude.{Some, map, option_and_then, option_map, position, if◌then◌else◌}
 use Rattle.cjc_bytes.specs.AccessFlags.{is_interface}
 use Rattle.cjc_bytes.specs.declared.fault.MemberId.{MemberId}
