@@ -153,7 +153,7 @@ field_row exported fs k [] i f e = absurd (cc)
 field_row exported fs k (g ∷ rest) zero f e = let is : g ≡ f = cc in let z : k ≡ k + 0 = omega arith in ap (λ v. Some (field_token exported fs k v)) is ∙ ap (λ m. Some (field_token exported fs m f)) z
 field_row exported fs k (g ∷ rest) (suc i) f e = let s : k + 1 + i ≡ k + suc i = omega arith in field_row exported fs (k + 1) rest i f e ∙ ap (λ m. Some (field_token exported fs m f)) s
 
-fields_long : (exported : Bool) (fs : List FieldTree) (k : ℕ) (rest : List FieldTree) → length (field_tokens exported fs k rest) ≡ length rest
+pub fields_long : (exported : Bool) (fs : List FieldTree) (k : ℕ) (rest : List FieldTree) → length (field_tokens exported fs k rest) ≡ length rest
 unfolding field_tokens
 fields_long exported fs k [] = refl
 fields_long exported fs k (f ∷ rest) = ap suc (fields_long exported fs (k + 1) rest)
@@ -203,7 +203,7 @@ module _ (p : Package) (c : Class) where
       (subst (λ j. Has (field_descriptor p c j f) (fields_from p c (i + 1) fs)) s (described_field (i + 1) fs k f e plain))
 
 -- classes of one offset are one
-one_offset : (p : Package) (c d : Class) (a : HasInfo p c) (b : HasInfo p d) → b.offset ≡ a.offset → d ≡ c
+pub one_offset : (p : Package) (c d : Class) (a : HasInfo p c) (b : HasInfo p d) → b.offset ≡ a.offset → d ≡ c
 one_offset p c d a b e =
     let numbers : Some b.number ≡ Some a.number = sym b.numbered ∙ ap (number_of (part p)) e ∙ a.numbered in
     let is : b.number ≡ a.number = cc in

@@ -12,3 +12,4 @@ mod Tabled
 mod Leaving
 mod Listing
 mod Exporting
+mod Counting

@@ -77,7 +77,7 @@ module _ (list : List ℕ) (p : Package) (sound : IsSound list p.files) where
   abbrev w : List Class
   w = world p
 
-  entry_there : (c : Class) (r : HasEntry p c) → imported (exports_of p) r.file r.entry.token ≡ Some r.entry
+  pub entry_there : (c : Class) (r : HasEntry p c) → imported (exports_of p) r.file r.entry.token ≡ Some r.entry
   entry_there c r =
       ap (option_and_then (class_with r.entry.token)) r.in_list ∙ found_with r.tree.classes r.entry.token
       ∙ sym (ap (option_and_then (λ (t : ExportTree). with_token t.classes r.entry.token)) r.in_list) ∙ r.there

@@ -3,11 +3,12 @@ use Rattle.std.specs.Prelude.{◌≡◌, ◌≤◌, ℕ, List, Bool, true, false
 use Rattle.std.specs.List.{list_all}
 use Rattle.cjc_bytes.specs.AccessFlags.{is_interface}
 use Rattle.cjc_bytes.specs.declared.settings.AppletLine.{AppletLine}
+use Rattle.cjc_export.specs.declared.tree.ExportClass.{ExportClass}
 use Rattle.cjc_subset.specs.Applets.{is_unfit_applet}
 use Rattle.cjc_script.specs.Sorts.{Shape, OfClass, OfNumbers, OfReferences, Sort, Boolean, Byte, Short, Int, Reference, NoValue, Signature, field_sort, signature_of}
 use Rattle.cjc_sentences.specs.Complete.{class_info_size}
-use Rattle.cjc_world.specs.Classes.{Class, Member, class_named}
-use Rattle.cjc_tokens.specs.Methods.{is_open_bound}
+use Rattle.cjc_world.specs.Classes.{Class, Member, class_named, imported}
+use Rattle.cjc_tokens.specs.Methods.{interface_methods, is_open_bound}
 use Rattle.cjc_ncode.specs.declared.narrow.PoolKey.{PoolKey}
 use Rattle.cjc_ncode.specs.declared.narrow.PoolKey.TheVariants as keys
 use Rattle.cjc_capwrite.specs.Files.{ends_too_far}
@@ -90,6 +91,12 @@ abbrev pub InterfacesAreUnbound : Package → Type 0
 InterfacesAreUnbound p =
     (x : List ℕ) (c : Class) → class_named (world p) x ≡ Some c → c.is_imported ≡ false → is_interface c.flags ≡ true
     → (k : ℕ) (m : Member) → slice_get c.methods k ≡ Some m → is_open_bound m ≡ false
+
+-- An imported interface has the methods that its export file lists, each once.
+abbrev pub ImportsAreWhole : Package → Type 0
+ImportsAreWhole p =
+    (y : List ℕ) (k : ℕ) (e : ExportClass) → class_named (world p) y ≡ Some (imported k e) → is_interface e.flags ≡ true
+    → length (interface_methods (world p) (imported k e)) ≡ length e.methods
 
 -- Method has at most 65,535 bytes
 abbrev pub HasShortMethods : Package → Type 0

@@ -1,13 +1,16 @@
 //! That what is written for the classes of a package is consistent, one law a sentence or a part of one: class_refs,
-//! superclasses, tables, install methods, Export and Descriptor. The converter's promise rests on them. Nothing here runs.
+//! superclasses, tables, maps, install methods, Export and Descriptor. The converter's promise rests on them. Nothing
+//! here runs.
 #![tactic(auto)]
 
-ghost use Rattle.std.specs.Prelude.{◌≡◌, ◌==◌, ◌≤◌, ◌+◌, false, ℕ, List, length, None, []};
+ghost use Rattle.std.specs.Prelude.{◌≡◌, ◌==◌, ◌≤◌, ◌+◌, false, true, ℕ, List, length, slice_get, None, Some, []};
+ghost use Rattle.cjc_capread.specs.declared.tree.ClassEntry.{ClassEntry};
 ghost use Rattle.cjc_capread.specs.declared.tree.Descriptor.{Descriptor};
+ghost use Rattle.cjc_capread.specs.declared.tree.ImplementedInterface.{ImplementedInterface};
 ghost use Rattle.cjc_sentences.specs.Spots.{along, in_info, unless};
 ghost use Rattle.cjc_sentences.specs.Complete.{class_info_size, described_size};
 ghost use Rattle.cjc_sentences.specs.ClassRefs.{class_ref_spots, pool_count_at, super_spots};
-ghost use Rattle.cjc_sentences.specs.Tables.{table_spots};
+ghost use Rattle.cjc_sentences.specs.Tables.{is_long_enough, table_spots};
 ghost use Rattle.cjc_sentences.specs.Statics.{install_spots};
 ghost use Rattle.cjc_sentences.specs.Exports.{export_spots};
 ghost use Rattle.cjc_sentences.specs.Described.{all_ascend, descriptor_spots, types_in_class, types_in_pool};
@@ -21,7 +24,7 @@ ghost use Rattle.cjc_components.specs.Limits.{has_far_types, has_large_component
 ghost use Rattle.cjc_components.specs.Names.{class_ref, pool_entries};
 ghost use Rattle.cjc_components.specs.Descriptor.{descriptor};
 ghost use Rattle.cjc_tables_by_token.specs.Sound.{AreTyped, IsSound};
-ghost use Rattle.cjc_class_laws.specs.Premises.{HaveInstalls, HasNearTypes, HasShortMethods, HasShortRefs, InterfacesAreUnbound, KeysAreKnown, TypesAreKnown};
+ghost use Rattle.cjc_class_laws.specs.Premises.{HaveInstalls, HasNearTypes, HasShortMethods, HasShortRefs, ImportsAreWhole, InterfacesAreUnbound, KeysAreKnown, TypesAreKnown};
 
 use cjc_component_laws::{descriptor_classes_are_in_order, named_classes_are_there};
 use cjc_world::lookup_laws;
@@ -44,6 +47,16 @@ pub fn superclasses_are_classes()
 pub fn table_entries_are_method_starts()
     ensures { (list : List ℕ) (p : Package) → IsSound list p.files → HasMethods p → HasShortMethods p
         → table_spots (whole p) ≡ [] }
+{}
+
+/// Each map of an interface has an index for each token that Descriptor gives a method of it, or, of an imported one,
+/// for each method that its export file lists.
+pub fn maps_are_long_enough()
+    ensures { (list : List ℕ) (p : Package) → IsSound list p.files → ImportsAreWhole p
+        → (j k : ℕ) (x : ClassEntry) (m : ImplementedInterface)
+        → (let info = class_info (class_ref p) p in slice_get info.classes j ≡ Some x)
+        → slice_get x.interfaces k ≡ Some m
+        → is_long_enough (whole p) (exports_of p) m.interface (length m.index) ≡ true }
 {}
 
 /// The offsets of install methods are starts of static methods.
