@@ -1,15 +1,14 @@
 -- The size of Method by the greatest sizes of its instructions, and the first of two limits.
-use Rattle.std.proofs.Common.{◌≡◌, ℕ, ◌+◌, ◌*◌, ◌<◌, Bool, true, false, List, [], ◌∷◌, ◌++◌, map, length, refl, sym, ap, subst, ◌∙◌, arith, inl, inr, Option, Some, None}
-use Rattle.std.specs.Prelude.{◌⊎◌, ◌||◌, nat_lt, sum_by, if◌then◌else◌}
+use Rattle.std.proofs.Common.{◌≡◌, ℕ, ◌+◌, ◌*◌, Bool, true, false, List, [], ◌∷◌, ◌++◌, map, length, refl, sym, ap, subst, ◌∙◌, arith, inl, inr, Option, Some, None}
+use Rattle.std.specs.Prelude.{◌||◌, nat_lt, sum_by, if◌then◌else◌}
 use Rattle.std.proofs.lemmas.List.{length-map}
 use Rattle.std.proofs.lemmas.List.Sums.{sum_by-cons}
-use Rattle.cjc_bytes.specs.Breaks.{Among, Break, IsFirst, IsFirstOf, at, broken_at, foremost, after, list_spot}
+use Rattle.cjc_bytes.specs.Breaks.{Among, Break, IsFirst, at, broken_at, foremost, after, list_spot}
 use Rattle.cjc_bytes.specs.Order.{NotAfter}
-use Rattle.cjc_capread.specs.declared.tree.CapTree.{CapTree}
-use Rattle.cjc_capwrite.specs.Files.{ends_too_far, infos_of, is_too_large, limit_of}
+use Rattle.cjc_capwrite.specs.Files.{infos_of, is_too_large, limit_of}
 use Rattle.cjc_ncode.specs.declared.narrow.NMethod.{NMethod}
 use Rattle.cjc_components.specs.Components.{components_of}
-use Rattle.cjc_components.specs.Limits.{has_far_types, has_large_component, size_breaks, widest_method}
+use Rattle.cjc_components.specs.Limits.{has_far_types, size_breaks, widest_method}
 use Rattle.cjc_components.specs.Methods.{handler_count}
 use Rattle.cjc_components.specs.Package.{LaidMethod, Package, codes}
 

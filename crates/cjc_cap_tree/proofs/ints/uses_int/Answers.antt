@@ -1,4 +1,4 @@
-use Rattle.std.proofs.Common.{◌≡◌, ◌∙◌, sym, false}
+use Rattle.std.proofs.Common.{◌∙◌, sym, false}
 use Rattle.cjc_world.specs.Classes.{all_classes, class_at}
 use Rattle.cjc_cap_tree.proofs.IntMembers.{ints_found, ints_more, ints_none, is_found, is_missing}
 use Rattle.cjc_cap_tree.proofs.ints.uses_int.Goals as goal
