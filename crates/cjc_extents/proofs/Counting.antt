@@ -1,5 +1,5 @@
 -- The members of a class are counted, and a table of nothing is made of the counts.
-use Rattle.std.proofs.Common.{◌≡◌, ℕ, zero, suc, ◌+◌, ◌≤◌, ◌<◌, refl, sym, ap, ◌∙◌, arith, List, [], ◌∷◌, ◌++◌, length, get_or, drop, replicate, append_assoc, ⊎_elim}
+use Rattle.std.proofs.Common.{◌≡◌, ℕ, zero, suc, ◌+◌, ◌<◌, refl, sym, ap, ◌∙◌, arith, List, [], ◌∷◌, ◌++◌, length, get_or, drop, replicate, append_assoc, ⊎_elim}
 use Rattle.std.specs.Prelude.{map, slice_get, Option, Some, None}
 use Rattle.std.specs.List.{range_with_len}
 use Rattle.std.proofs.lemmas.List.{length-map}
@@ -10,7 +10,7 @@ use Rattle.cjc_world.specs.Classes.{Class, all_classes, declared, field_of_class
 use Rattle.cjc_world.specs.Files.{Files}
 use Rattle.cjc_descriptor.specs.Made.{member_count, numbered}
 use Rattle.cjc_descriptor.specs.declared.parts.Extent.{Extent}
-use Rattle.cjc_extents.specs.Working.Tables.{nowhere, row_of, table_of}
+use Rattle.cjc_extents.specs.Working.Tables.{nowhere, row_of}
 use Rattle.cjc_extents.proofs.Finding.{at_item}
 
 added_long : (files : Files) (n : ℕ) (t : ClassTree) → slice_get files.classes n ≡ Some t → length (added_at files n) ≡ length (added (all_classes files) (declared n t))

@@ -1,5 +1,5 @@
 -- What stands in the table is where methods stand.
-use Rattle.std.proofs.Common.{◌≡◌, ℕ, zero, suc, ◌+◌, ◌≤◌, ◌<◌, ◌==◌, ◌&&◌, not, refl, sym, ap, subst, ◌∙◌, arith, Bool, true, false, List, [], ◌∷◌, ◌++◌, length, get_or, drop, append_assoc, append-nil}
+use Rattle.std.proofs.Common.{◌≡◌, ℕ, suc, ◌+◌, ◌≤◌, ◌<◌, ◌==◌, refl, sym, ap, ◌∙◌, arith, Bool, true, false, List, [], ◌∷◌, ◌++◌, length, get_or, drop, append_assoc, append-nil}
 use Rattle.std.specs.Prelude.{map, slice_get, slice_set, Some, if◌then◌else◌}
 use Rattle.std.proofs.lemmas.List.{drop_all, drop_more}
 use Rattle.cjc_ncode.specs.declared.narrow.NMethod.{NMethod}
@@ -14,7 +14,7 @@ use Rattle.cjc_layouts.specs.declared.laid.Laid.{Laid}
 use Rattle.cjc_layouts.specs.Laid.{laid_method, with_layouts}
 use Rattle.cjc_layouts.specs.Working.Offsets as kept
 use Rattle.cjc_layouts.proofs.Standing.{same_handlers}
-use Rattle.cjc_extents.specs.Working.Tables.{extent_by_layout, extents_by, found_in, is_own, nowhere, table_of}
+use Rattle.cjc_extents.specs.Working.Tables.{extent_by_layout, extents_by, found_in, table_of}
 use Rattle.cjc_extents.proofs.Setting.{set_table}
 
 same_extent : (at k : ℕ) (c : NMethod) (l : Laid) → IsLayout c l.layout → extent_by_layout at k l.layout ≡ extent_by (extent_at at k (laid_method c l))

@@ -1,5 +1,5 @@
 -- The table of what is found among the methods is the package's.
-use Rattle.std.proofs.Common.{◌≡◌, ℕ, sym, ap, ◌∙◌, List, length}
+use Rattle.std.proofs.Common.{◌≡◌, ℕ, sym, ap, ◌∙◌, List}
 use Rattle.std.specs.Prelude.{map}
 use Rattle.cjc_components.specs.Methods.{extent_from, first_method, placed_from, placed_methods}
 use Rattle.cjc_components.specs.Package.{LaidMethod, Package}

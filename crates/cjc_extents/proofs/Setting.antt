@@ -1,8 +1,7 @@
 -- Rows of a table with another item at a place.
-use Rattle.std.proofs.Common.{◌≡◌, ℕ, zero, suc, ◌+◌, ◌≤◌, ◌<◌, ◌==◌, ◌&&◌, not, refl, sym, ap, subst, ◌∙◌, arith, Bool, true, false, List, [], ◌∷◌, ◌++◌, length, get_or, replicate}
-use Rattle.std.specs.Prelude.{map, slice_get, slice_set, if◌then◌else◌, Option, Some, None}
+use Rattle.std.proofs.Common.{◌≡◌, ℕ, zero, suc, ◌+◌, ◌<◌, ◌==◌, ◌&&◌, not, refl, sym, ap, ◌∙◌, arith, Bool, true, false, List, [], ◌∷◌, get_or}
+use Rattle.std.specs.Prelude.{map, slice_set, if◌then◌else◌}
 use Rattle.std.specs.List.{range_with_len}
-use Rattle.std.proofs.lemmas.Bool.{eqb-true, eqb-false}
 use Rattle.cjc_classfile.specs.declared.tree.ClassTree.{ClassTree}
 use Rattle.cjc_world.specs.declared.found.Found.{Found}
 use Rattle.cjc_world.specs.Classes.{Class, all_classes, declared}
@@ -10,7 +9,7 @@ use Rattle.cjc_world.specs.Files.{Files}
 use Rattle.cjc_world.specs.Lookup.{member_at}
 use Rattle.cjc_descriptor.specs.Made.{member_count, numbered}
 use Rattle.cjc_descriptor.specs.declared.parts.Extent.{Extent}
-use Rattle.cjc_extents.specs.Working.Tables.{is_own, nowhere, row_of, table_of}
+use Rattle.cjc_extents.specs.Working.Tables.{is_own, row_of, table_of}
 
 same_number : (n : ℕ) → (n == n) ≡ true
 same_number n = grind arith

@@ -1,4 +1,4 @@
-use Rattle.std.proofs.Common.{◌≡◌, ◌∙◌, ap, arith, sym, ℕ, List, length}
+use Rattle.std.proofs.Common.{◌≡◌, ◌∙◌, ap, arith, sym, List, length}
 use Rattle.cjc_world.specs.Files.{Files}
 use Rattle.cjc_descriptor.specs.declared.parts.Extent.{Extent}
 use Rattle.cjc_layouts.specs.declared.laid.Laid.{Laid}

@@ -1,4 +1,4 @@
-use Rattle.std.proofs.Common.{◌≡◌, ◌∙◌, ◌+◌, ◌-◌, ◌<◌, ap, sym, arith, ℕ, List, drop, length, get_or}
+use Rattle.std.proofs.Common.{◌≡◌, ◌∙◌, ◌+◌, ◌-◌, ◌<◌, ap, sym, arith, List, drop, length, get_or}
 use Rattle.std.proofs.lemmas.List.{drop_all}
 use Rattle.cjc_layouts.specs.declared.laid.Laid.{Laid}
 use Rattle.cjc_extents.specs.Working.Tables.{found_in, nowhere, table_of}
