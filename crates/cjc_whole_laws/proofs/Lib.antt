@@ -1,0 +1,4 @@
+mod ByToken
+mod Once
+mod Declared
+mod Emittable
