@@ -143,14 +143,14 @@ module _ (list : ListTree) (files : List (List ℕ)) (judged : Judged) (is : IsS
       (ap (λ (n : NMethod). slice_get n.insns place) m.2 ∙ f) in
       subst (λ ids. IsSelected judged ids narrow) (sym same_near)
       (record {
-          code = from.code;
-          class = from.class;
-          method = from.method;
-          tree = from.tree;
-          table = from.table;
-          one = record { place = from.place; is_code = from.is_code; is_table = from.is_table; is_method = from.is_own };
-          is = sym m.2 ∙ from.is;
-        })
+        code = from.code;
+        class = from.class;
+        method = from.method;
+        tree = from.tree;
+        table = from.table;
+        one = record { place = from.place; is_code = from.is_code; is_table = from.is_table; is_method = from.is_own };
+        is = sym m.2 ∙ from.is;
+      })
 
   pub pooled : ArePooled judged applets (codes p) pool
   pooled = record { tokens = all_tokens; few = few; is_pool = is_pool; each = each_selected }
