@@ -2,3 +2,4 @@ mod ByToken
 mod Once
 mod Declared
 mod Emittable
+mod ClassOrder
