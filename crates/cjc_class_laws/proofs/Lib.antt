@@ -2,7 +2,6 @@ mod Lists
 mod Types
 mod Nibbles
 mod Refs
-mod Apart
 mod Offsets
 mod There
 mod Earlier

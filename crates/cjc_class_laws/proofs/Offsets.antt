@@ -16,7 +16,7 @@ use Rattle.cjc_components.specs.Package.{LaidMethod, Package, world}
 use Rattle.cjc_components.specs.Methods.{Extent, extent_at, extent_from, extent_of, first_method, handler_count, is_member, method_offset, method_size, with_abstract}
 use Rattle.cjc_components.specs.Descriptor.{method_descriptor}
 use Rattle.cjc_vtable.proofs.Filed.{Has, at_front, behind}
-use Rattle.cjc_class_laws.proofs.Apart.{AreApart, is_same, order_own, order_apart}
+use Rattle.cjc_component_laws.proofs.Apart.{AreApart, is_same, order_own, order_apart}
 use Rattle.cjc_component_laws.proofs.Tests.{same_number, passes, none_in_both}
 use Rattle.cjc_component_laws.specs.Methods.{HasMethods}
 

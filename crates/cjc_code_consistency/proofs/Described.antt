@@ -19,7 +19,7 @@ use Rattle.cjc_components.specs.Methods.{Extent, extent_at, extent_from, extent_
 use Rattle.cjc_components.specs.Descriptor.{class_descriptor, method_descriptor}
 use Rattle.cjc_component_laws.proofs.Tests.{same_number}
 use Rattle.cjc_component_laws.specs.Methods.{HasMethods}
-use Rattle.cjc_code_consistency.proofs.Apart.{AreApart, AreOwn, is_same, order_apart, order_own}
+use Rattle.cjc_component_laws.proofs.Apart.{AreApart, AreOwn, is_same, order_apart, order_own}
 use Rattle.cjc_code_consistency.proofs.Lists.{each_both}
 use Rattle.cjc_code_consistency.proofs.Methods.{Describes}
 

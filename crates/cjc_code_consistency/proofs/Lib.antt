@@ -3,7 +3,6 @@ pub mod Opcodes
 pub mod Instructions
 pub mod Headers
 pub mod Methods
-pub mod Apart
 pub mod Described
 pub mod OwnClasses
 pub mod Cut

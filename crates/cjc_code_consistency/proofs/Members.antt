@@ -46,7 +46,7 @@ use Rattle.cjc_component_laws.specs.Whole.{exports_of, whole}
 use Rattle.cjc_component_laws.proofs.Starts.{ref_is_start}
 use Rattle.cjc_component_laws.proofs.Tests.{none_in_both, passes, same_number}
 use Rattle.cjc_code_consistency.specs.Members.{AllAreNamed, by_token, CellsFit, imported_cell, imported_field, imported_method, imported_virtual, IsNamed, IsOwnCell, IsOwnField, IsOwnMethod, of_cell, of_class, of_field, of_method}
-use Rattle.cjc_code_consistency.proofs.Apart.{IsOwn, order_own}
+use Rattle.cjc_component_laws.proofs.Apart.{IsOwn, order_own}
 use Rattle.cjc_code_consistency.proofs.Described.{AreOf, classes_are, itself}
 use Rattle.cjc_code_consistency.proofs.Imported.{cell_listed, field_listed, method_listed, virtual_listed}
 use Rattle.cjc_code_consistency.proofs.OwnClasses.{own_classes}

@@ -1,3 +1,4 @@
 pub mod Tests
 pub mod Sizes
 pub mod Starts
+pub mod Apart

@@ -9,171 +9,66 @@ use Rattle.cjc_code.specs.Table.{ranges, row, wide}
 use Rattle.cjc_read_laws.specs.Instructions.{NumbersFit}
 use Rattle.cjc_read_laws.proofs.Numbers.{inc_fits}
 use Rattle.cjc_read_laws.proofs.Opcodes.{ends_below, unknown_above}
+use Rattle.cjc_read_laws.proofs.Chunks.{AllBelow, join}
 
 abbrev Fits : ℕ → Type 0
 Fits m = (os : _) → wide (row m) ≡ Some os → (pool : List PoolItem) (at : ℕ) (zs : List ℤ) → NumbersFit (op_of pool at m (row m).1 zs)
 
-abbrev AllBelow : (base n : ℕ) → Type 0
-AllBelow base zero = Unit {0}
-AllBelow base (suc n) = Fits (base + n) × AllBelow base n
-
-one_below : (base n k : ℕ) → AllBelow base n → k < n → Fits (base + k)
-one_below base zero k h lt = absurd (omega (arith, lt))
-one_below base (suc n) k h lt = by (k == n) refl (one_below base n k h.1)
-  where
-    by : (b : Bool) → (k == n) ≡ b → (k < n → Fits (base + k)) → Fits (base + k)
-    by true e rest = let same = eqb-true k n e in subst (λ j. Fits (base + j)) (sym same) h.0
-    by false e rest = let off = eqb-false k n e in rest (omega (arith, lt, off))
-
-fits_00 : AllBelow 0x00 16
+fits_00 : AllBelow Fits 0x00 16
 unfolding row
 fits_00 = (λ os e pool at zs. absurd cc, (λ os e pool at zs. absurd cc, (λ os e pool at zs. absurd cc, (λ os e pool at zs. absurd cc, (λ os e pool at zs. absurd cc, (λ os e pool at zs. absurd cc, (λ os e pool at zs. absurd cc, (λ os e pool at zs. absurd cc, (λ os e pool at zs. absurd cc, (λ os e pool at zs. absurd cc, (λ os e pool at zs. absurd cc, (λ os e pool at zs. absurd cc, (λ os e pool at zs. absurd cc, (λ os e pool at zs. absurd cc, (λ os e pool at zs. absurd cc, (λ os e pool at zs. absurd cc, tt))))))))))))))))
 
-fits_10 : AllBelow 0x10 16
+fits_10 : AllBelow Fits 0x10 16
 unfolding row
 fits_10 = (λ os e pool at zs. absurd cc, (λ os e pool at zs. absurd cc, (λ os e pool at zs. absurd cc, (λ os e pool at zs. absurd cc, (λ os e pool at zs. absurd cc, (λ os e pool at zs. absurd cc, (λ os e pool at zs. tt, (λ os e pool at zs. tt, (λ os e pool at zs. tt, (λ os e pool at zs. tt, (λ os e pool at zs. tt, (λ os e pool at zs. absurd cc, (λ os e pool at zs. absurd cc, (λ os e pool at zs. absurd cc, (λ os e pool at zs. absurd cc, (λ os e pool at zs. absurd cc, tt))))))))))))))))
 
-fits_20 : AllBelow 0x20 16
+fits_20 : AllBelow Fits 0x20 16
 unfolding row
 fits_20 = (λ os e pool at zs. absurd cc, (λ os e pool at zs. absurd cc, (λ os e pool at zs. absurd cc, (λ os e pool at zs. absurd cc, (λ os e pool at zs. absurd cc, (λ os e pool at zs. absurd cc, (λ os e pool at zs. absurd cc, (λ os e pool at zs. absurd cc, (λ os e pool at zs. absurd cc, (λ os e pool at zs. absurd cc, (λ os e pool at zs. absurd cc, (λ os e pool at zs. absurd cc, (λ os e pool at zs. absurd cc, (λ os e pool at zs. absurd cc, (λ os e pool at zs. absurd cc, (λ os e pool at zs. absurd cc, tt))))))))))))))))
 
-fits_30 : AllBelow 0x30 16
+fits_30 : AllBelow Fits 0x30 16
 unfolding row
 fits_30 = (λ os e pool at zs. absurd cc, (λ os e pool at zs. absurd cc, (λ os e pool at zs. absurd cc, (λ os e pool at zs. absurd cc, (λ os e pool at zs. absurd cc, (λ os e pool at zs. tt, (λ os e pool at zs. tt, (λ os e pool at zs. tt, (λ os e pool at zs. tt, (λ os e pool at zs. tt, (λ os e pool at zs. absurd cc, (λ os e pool at zs. absurd cc, (λ os e pool at zs. absurd cc, (λ os e pool at zs. absurd cc, (λ os e pool at zs. absurd cc, (λ os e pool at zs. absurd cc, tt))))))))))))))))
 
-fits_40 : AllBelow 0x40 16
+fits_40 : AllBelow Fits 0x40 16
 unfolding row
 fits_40 = (λ os e pool at zs. absurd cc, (λ os e pool at zs. absurd cc, (λ os e pool at zs. absurd cc, (λ os e pool at zs. absurd cc, (λ os e pool at zs. absurd cc, (λ os e pool at zs. absurd cc, (λ os e pool at zs. absurd cc, (λ os e pool at zs. absurd cc, (λ os e pool at zs. absurd cc, (λ os e pool at zs. absurd cc, (λ os e pool at zs. absurd cc, (λ os e pool at zs. absurd cc, (λ os e pool at zs. absurd cc, (λ os e pool at zs. absurd cc, (λ os e pool at zs. absurd cc, (λ os e pool at zs. absurd cc, tt))))))))))))))))
 
-fits_50 : AllBelow 0x50 16
+fits_50 : AllBelow Fits 0x50 16
 unfolding row
 fits_50 = (λ os e pool at zs. absurd cc, (λ os e pool at zs. absurd cc, (λ os e pool at zs. absurd cc, (λ os e pool at zs. absurd cc, (λ os e pool at zs. absurd cc, (λ os e pool at zs. absurd cc, (λ os e pool at zs. absurd cc, (λ os e pool at zs. absurd cc, (λ os e pool at zs. absurd cc, (λ os e pool at zs. absurd cc, (λ os e pool at zs. absurd cc, (λ os e pool at zs. absurd cc, (λ os e pool at zs. absurd cc, (λ os e pool at zs. absurd cc, (λ os e pool at zs. absurd cc, (λ os e pool at zs. absurd cc, tt))))))))))))))))
 
-fits_60 : AllBelow 0x60 16
+fits_60 : AllBelow Fits 0x60 16
 unfolding row
 fits_60 = (λ os e pool at zs. absurd cc, (λ os e pool at zs. absurd cc, (λ os e pool at zs. absurd cc, (λ os e pool at zs. absurd cc, (λ os e pool at zs. absurd cc, (λ os e pool at zs. absurd cc, (λ os e pool at zs. absurd cc, (λ os e pool at zs. absurd cc, (λ os e pool at zs. absurd cc, (λ os e pool at zs. absurd cc, (λ os e pool at zs. absurd cc, (λ os e pool at zs. absurd cc, (λ os e pool at zs. absurd cc, (λ os e pool at zs. absurd cc, (λ os e pool at zs. absurd cc, (λ os e pool at zs. absurd cc, tt))))))))))))))))
 
-fits_70 : AllBelow 0x70 16
+fits_70 : AllBelow Fits 0x70 16
 unfolding row
 fits_70 = (λ os e pool at zs. absurd cc, (λ os e pool at zs. absurd cc, (λ os e pool at zs. absurd cc, (λ os e pool at zs. absurd cc, (λ os e pool at zs. absurd cc, (λ os e pool at zs. absurd cc, (λ os e pool at zs. absurd cc, (λ os e pool at zs. absurd cc, (λ os e pool at zs. absurd cc, (λ os e pool at zs. absurd cc, (λ os e pool at zs. absurd cc, (λ os e pool at zs. absurd cc, (λ os e pool at zs. absurd cc, (λ os e pool at zs. absurd cc, (λ os e pool at zs. absurd cc, (λ os e pool at zs. absurd cc, tt))))))))))))))))
 
-fits_80 : AllBelow 0x80 16
+fits_80 : AllBelow Fits 0x80 16
 unfolding row
 fits_80 = (λ os e pool at zs. absurd cc, (λ os e pool at zs. absurd cc, (λ os e pool at zs. absurd cc, (λ os e pool at zs. absurd cc, (λ os e pool at zs. absurd cc, (λ os e pool at zs. absurd cc, (λ os e pool at zs. absurd cc, (λ os e pool at zs. absurd cc, (λ os e pool at zs. absurd cc, (λ os e pool at zs. absurd cc, (λ os e pool at zs. absurd cc, (λ os e pool at zs. inc_fits (numbers.second zs), (λ os e pool at zs. absurd cc, (λ os e pool at zs. absurd cc, (λ os e pool at zs. absurd cc, (λ os e pool at zs. absurd cc, tt))))))))))))))))
 
-fits_90 : AllBelow 0x90 16
+fits_90 : AllBelow Fits 0x90 16
 unfolding row
 fits_90 = (λ os e pool at zs. absurd cc, (λ os e pool at zs. absurd cc, (λ os e pool at zs. absurd cc, (λ os e pool at zs. absurd cc, (λ os e pool at zs. absurd cc, (λ os e pool at zs. absurd cc, (λ os e pool at zs. absurd cc, (λ os e pool at zs. absurd cc, (λ os e pool at zs. absurd cc, (λ os e pool at zs. absurd cc, (λ os e pool at zs. absurd cc, (λ os e pool at zs. absurd cc, (λ os e pool at zs. absurd cc, (λ os e pool at zs. absurd cc, (λ os e pool at zs. absurd cc, (λ os e pool at zs. absurd cc, tt))))))))))))))))
 
-fits_A0 : AllBelow 0xA0 16
+fits_A0 : AllBelow Fits 0xA0 16
 unfolding row
 fits_A0 = (λ os e pool at zs. absurd cc, (λ os e pool at zs. absurd cc, (λ os e pool at zs. absurd cc, (λ os e pool at zs. absurd cc, (λ os e pool at zs. absurd cc, (λ os e pool at zs. absurd cc, (λ os e pool at zs. tt, (λ os e pool at zs. absurd cc, (λ os e pool at zs. absurd cc, (λ os e pool at zs. absurd cc, (λ os e pool at zs. absurd cc, (λ os e pool at zs. absurd cc, (λ os e pool at zs. absurd cc, (λ os e pool at zs. absurd cc, (λ os e pool at zs. absurd cc, (λ os e pool at zs. absurd cc, tt))))))))))))))))
 
-fits_B0 : AllBelow 0xB0 16
+fits_B0 : AllBelow Fits 0xB0 16
 unfolding row
 fits_B0 = (λ os e pool at zs. absurd cc, (λ os e pool at zs. absurd cc, (λ os e pool at zs. absurd cc, (λ os e pool at zs. absurd cc, (λ os e pool at zs. absurd cc, (λ os e pool at zs. absurd cc, (λ os e pool at zs. absurd cc, (λ os e pool at zs. absurd cc, (λ os e pool at zs. absurd cc, (λ os e pool at zs. absurd cc, (λ os e pool at zs. absurd cc, (λ os e pool at zs. absurd cc, (λ os e pool at zs. absurd cc, (λ os e pool at zs. absurd cc, (λ os e pool at zs. absurd cc, (λ os e pool at zs. absurd cc, tt))))))))))))))))
 
-fits_C0 : AllBelow 0xC0 16
+fits_C0 : AllBelow Fits 0xC0 16
 unfolding row
 fits_C0 = (λ os e pool at zs. absurd cc, (λ os e pool at zs. absurd cc, (λ os e pool at zs. absurd cc, (λ os e pool at zs. absurd cc, (λ os e pool at zs. absurd cc, (λ os e pool at zs. absurd cc, (λ os e pool at zs. absurd cc, (λ os e pool at zs. absurd cc, (λ os e pool at zs. absurd cc, (λ os e pool at zs. absurd cc, (λ os e pool at zs. absurd cc, (λ os e pool at zs. absurd cc, (λ os e pool at zs. absurd cc, (λ os e pool at zs. absurd cc, (λ os e pool at zs. absurd cc, (λ os e pool at zs. absurd cc, tt))))))))))))))))
 
--- one of sixteen
-in_chunk : (base m : ℕ) → AllBelow base 16 → base ≤ m → m < base + 16 → Fits m
-in_chunk base m h le lt = let same : base + (m - base) ≡ m = omega (arith, le) in subst Fits same (one_below base 16 (m - base) h (omega (arith, le, lt)))
-
+-- all of them
 chunked : (m : ℕ) → m < 208 → Fits m
-chunked m lt = from0
-  where
-    from12 : 0xC0 ≤ m → Fits m
-    from12 le = by (nat_lt m 0xD0) refl
-      where
-        by : (b : Bool) → nat_lt m 0xD0 ≡ b → Fits m
-        by true e = in_chunk 0xC0 m fits_C0 (le) (ltb-true m 0xD0 e)
-        by false e = absurd (omega (arith, lt, ltb-false m 0xD0 e))
-
-    from11 : 0xB0 ≤ m → Fits m
-    from11 le = by (nat_lt m 0xC0) refl
-      where
-        by : (b : Bool) → nat_lt m 0xC0 ≡ b → Fits m
-        by true e = in_chunk 0xB0 m fits_B0 (le) (ltb-true m 0xC0 e)
-        by false e = from12 (ltb-false m 0xC0 e)
-
-    from10 : 0xA0 ≤ m → Fits m
-    from10 le = by (nat_lt m 0xB0) refl
-      where
-        by : (b : Bool) → nat_lt m 0xB0 ≡ b → Fits m
-        by true e = in_chunk 0xA0 m fits_A0 (le) (ltb-true m 0xB0 e)
-        by false e = from11 (ltb-false m 0xB0 e)
-
-    from9 : 0x90 ≤ m → Fits m
-    from9 le = by (nat_lt m 0xA0) refl
-      where
-        by : (b : Bool) → nat_lt m 0xA0 ≡ b → Fits m
-        by true e = in_chunk 0x90 m fits_90 (le) (ltb-true m 0xA0 e)
-        by false e = from10 (ltb-false m 0xA0 e)
-
-    from8 : 0x80 ≤ m → Fits m
-    from8 le = by (nat_lt m 0x90) refl
-      where
-        by : (b : Bool) → nat_lt m 0x90 ≡ b → Fits m
-        by true e = in_chunk 0x80 m fits_80 (le) (ltb-true m 0x90 e)
-        by false e = from9 (ltb-false m 0x90 e)
-
-    from7 : 0x70 ≤ m → Fits m
-    from7 le = by (nat_lt m 0x80) refl
-      where
-        by : (b : Bool) → nat_lt m 0x80 ≡ b → Fits m
-        by true e = in_chunk 0x70 m fits_70 (le) (ltb-true m 0x80 e)
-        by false e = from8 (ltb-false m 0x80 e)
-
-    from6 : 0x60 ≤ m → Fits m
-    from6 le = by (nat_lt m 0x70) refl
-      where
-        by : (b : Bool) → nat_lt m 0x70 ≡ b → Fits m
-        by true e = in_chunk 0x60 m fits_60 (le) (ltb-true m 0x70 e)
-        by false e = from7 (ltb-false m 0x70 e)
-
-    from5 : 0x50 ≤ m → Fits m
-    from5 le = by (nat_lt m 0x60) refl
-      where
-        by : (b : Bool) → nat_lt m 0x60 ≡ b → Fits m
-        by true e = in_chunk 0x50 m fits_50 (le) (ltb-true m 0x60 e)
-        by false e = from6 (ltb-false m 0x60 e)
-
-    from4 : 0x40 ≤ m → Fits m
-    from4 le = by (nat_lt m 0x50) refl
-      where
-        by : (b : Bool) → nat_lt m 0x50 ≡ b → Fits m
-        by true e = in_chunk 0x40 m fits_40 (le) (ltb-true m 0x50 e)
-        by false e = from5 (ltb-false m 0x50 e)
-
-    from3 : 0x30 ≤ m → Fits m
-    from3 le = by (nat_lt m 0x40) refl
-      where
-        by : (b : Bool) → nat_lt m 0x40 ≡ b → Fits m
-        by true e = in_chunk 0x30 m fits_30 (le) (ltb-true m 0x40 e)
-        by false e = from4 (ltb-false m 0x40 e)
-
-    from2 : 0x20 ≤ m → Fits m
-    from2 le = by (nat_lt m 0x30) refl
-      where
-        by : (b : Bool) → nat_lt m 0x30 ≡ b → Fits m
-        by true e = in_chunk 0x20 m fits_20 (le) (ltb-true m 0x30 e)
-        by false e = from3 (ltb-false m 0x30 e)
-
-    from1 : 0x10 ≤ m → Fits m
-    from1 le = by (nat_lt m 0x20) refl
-      where
-        by : (b : Bool) → nat_lt m 0x20 ≡ b → Fits m
-        by true e = in_chunk 0x10 m fits_10 (le) (ltb-true m 0x20 e)
-        by false e = from2 (ltb-false m 0x20 e)
-
-    from0 : Fits m
-    from0 = by (nat_lt m 0x10) refl
-      where
-        by : (b : Bool) → nat_lt m 0x10 ≡ b → Fits m
-        by true e = in_chunk 0x00 m fits_00 (omega arith) (ltb-true m 0x10 e)
-        by false e = from1 (ltb-false m 0x10 e)
+chunked m lt = join Fits 0xC0 m (λ l11. join Fits 0xB0 m (λ l10. join Fits 0xA0 m (λ l9. join Fits 0x90 m (λ l8. join Fits 0x80 m (λ l7. join Fits 0x70 m (λ l6. join Fits 0x60 m (λ l5. join Fits 0x50 m (λ l4. join Fits 0x40 m (λ l3. join Fits 0x30 m (λ l2. join Fits 0x20 m (λ l1. join Fits 0x10 m (λ l0. join Fits 0x00 m (λ l. absurd (omega (arith, l))) fits_00 l0) fits_10 l1) fits_20 l2) fits_30 l3) fits_40 l4) fits_50 l5) fits_60 l6) fits_70 l7) fits_80 l8) fits_90 l9) fits_A0 l10) fits_B0 l11) fits_C0 lt
 
 pub wide_fits : (m : ℕ) → Fits m
 unfolding row
