@@ -80,11 +80,11 @@ nothing_more b (c ∷ cs) = ap (λ t. same_class b c || t) (nothing_more b cs)
 
 module _ (w : List Class) (n : Naming) (says : SaysKinds w n) where
   -- a class that stands above another by name
-  record FromAbove (x : List ℕ) (b : CardClass) : Type 0 where
-    name : List ℕ
-    there : has_class w name ≡ true
-    is : n.class name ≡ b
-    above : Above w x name
+  pub record FromAbove (x : List ℕ) (b : CardClass) : Type 0 where
+    pub name : List ℕ
+    pub there : has_class w name ≡ true
+    pub is : n.class name ≡ b
+    pub above : Above w x name
 
   package_supers : (offset : ℕ) (info : Info) (listed : List (List ℕ)) → info_of n.loaded n.part offset ≡ Some info → info_supers info ≡ map n.class_ref listed → ((y : List ℕ) → Lists y listed → has_class w y ≡ true)
       → supers n.loaded (Own n.part offset) ≡ map n.class listed ++ object_above n.loaded (Some info)
@@ -113,7 +113,7 @@ module _ (w : List Class) (n : Naming) (says : SaysKinds w n) where
       ap (λ d. is_in (n.class y) (supers n.loaded d)) at ∙ (file_supers tree token e c (n.class y) there s f ∙ all_files n w (c.supers ++ c.interfaces) named y i is)
 
   -- what stands directly above a class on the card stands above it by name
-  supers_from : (x : List ℕ) (c : Class) (b : CardClass) → class_named w x ≡ Some c → SaysSupers w n x c → is_in b (supers n.loaded (n.class x)) ≡ true → FromAbove x b
+  pub supers_from : (x : List ℕ) (c : Class) (b : CardClass) → class_named w x ≡ Some c → SaysSupers w n x c → is_in b (supers n.loaded (n.class x)) ≡ true → FromAbove x b
   supers_from x c b known (of_package offset info listed at there refs all each) e =
       let e' = sym (ap (λ d. is_in b (supers n.loaded d)) at ∙ ap (is_in b) (package_supers offset info listed there refs (λ z j. (all z (listed_there j)).0))) ∙ e in
       ⊎_elim

@@ -1,6 +1,6 @@
 -- The components of one package as the machine by token is given them: with the export files, and with names from the class files. The order of
 -- classes and of methods is that of components (Java Card Virtual Machine Specification 2.2.2, sections 6.8 to 6.10 and 6.13).
-use Rattle.std.specs.Prelude.{ℕ, ◌+◌, List, [], ◌∷◌, ◌++◌, map, flat_map, filter, unwrap_or, Bool, if◌then◌else◌, Option, Some, None}
+use Rattle.std.specs.Prelude.{ℕ, ◌+◌, List, [], ◌∷◌, ◌++◌, length, map, flat_map, filter, unwrap_or, Bool, if◌then◌else◌, Option, Some, None}
 use Rattle.cjc_bytes.specs.AccessFlags.{is_interface}
 use Rattle.cjc_capread.specs.declared.tree.Export.{Export}
 use Rattle.cjc_capread.specs.declared.tree.ExportedClass.{ExportedClass}
@@ -22,7 +22,7 @@ use Rattle.cjc_world.specs.declared.image.StaticImage.{StaticImage}
 use Rattle.cjc_world.specs.Classes.{Member, Class, all_classes}
 use Rattle.cjc_world.specs.Files.{Files}
 use Rattle.cjc_world.specs.Lookup.{member_at}
-use Rattle.cjc_world.specs.Order.{class_order, methods_of_class}
+use Rattle.cjc_world.specs.Order.{class_order, written}
 
 -- ---- one class
 
@@ -33,9 +33,9 @@ method_name m = record { name = m.name; desc = m.desc }
 abbrev pub signature_name : Signature → MethodName
 signature_name s = record { name = s.name; desc = s.desc }
 
--- the methods of a class as Descriptor lists them, those that are added to it behind its own
+-- the methods that a class declares, as Descriptor lists them; those that it got stand behind them and have no name, since no look-up finds them
 abbrev pub method_names : List Class → Class → List MethodName
-method_names w c = map (λ f. method_name (method_in w c f.member)) (methods_of_class w c)
+method_names w c = map (λ f. method_name (method_in w c f.member)) (written c (length c.fields) c.methods)
 
 -- the field at a place of a class, by its token
 abbrev pub field_name : Assigned → Class → (place : ℕ) → FieldTree → FieldName

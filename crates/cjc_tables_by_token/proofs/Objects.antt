@@ -1,11 +1,11 @@
 -- Objects of a class: class infos and their names say of instance fields what the class files say.
 use Rattle.std.proofs.Common.{◌≡◌, ℕ, zero, suc, ◌+◌, ◌<◌, ◌≤◌, refl, sym, ap, subst, ◌∙◌, arith, Bool, true, false, List, [], ◌∷◌, ◌++◌, length, inl, inr, ⊎_elim, append-nil}
 use Rattle.std.specs.Prelude.{not, ◌&&◌, ◌||◌, ◌⊎◌, map, reverse, nat_le, nat_lt, position, Option, Some, None, is_some, slice_get, if◌then◌else◌}
-use Rattle.std.specs.List.{flat_map}
+use Rattle.std.specs.List.{flat_map, list_any}
 use Rattle.std.specs.Str.{bytes_eq}
 use Rattle.std.proofs.lemmas.Grind.{flat_map-append, reverse_onto}
 use Rattle.std.proofs.lemmas.List.Folds.{list_any-append}
-use Rattle.cjc_bytes.specs.AccessFlags.{is_static, is_interface}
+use Rattle.cjc_bytes.specs.AccessFlags.{is_abstract, is_static, is_interface}
 use Rattle.cjc_bytes.specs.declared.fault.MemberId.{MemberId}
 use Rattle.cjc_classfile.specs.declared.tree.ClassTree.{ClassTree}
 use Rattle.cjc_classfile.specs.declared.tree.FieldTree.{FieldTree}
@@ -32,7 +32,7 @@ use Rattle.cjc_components.specs.Class.{class_entry, fields_in, fields_of, interf
 use Rattle.cjc_components.specs.Names.{class_at, class_ref, field_token}
 use Rattle.cjc_paired.specs.Naming.{class_names, fields_from}
 use Rattle.cjc_tables_by_token.specs.Infos.{HasInfo}
-use Rattle.cjc_tables_by_token.specs.Known.{is_field_of, is_holder, may_hold, may_name, same_members}
+use Rattle.cjc_tables_by_token.specs.Known.{is_field_of, is_holder, may_hold, may_name, own_exceptions, same_members}
 use Rattle.cjc_tables_by_token.specs.Loading.{loaded, naming, part}
 use Rattle.cjc_tables_by_token.specs.Sound.{AreTyped, IsSound}
 use Rattle.cjc_tables_by_token.proofs.Above.{class_refs_mean, class_there, entry_of_name, info_of_name, once, rules_of}
@@ -374,8 +374,8 @@ module _ (list : List ℕ) (p : Package) (sound : IsSound list p.files) (typed :
   same_tells [] (y ∷ ys) e = cc
   same_tells (x ∷ xs) [] e = cc
 
-  pub import_holds : (x : List ℕ) (c : Class) → class_named w x ≡ Some c → c.is_imported ≡ true → may_hold w x [] ≡ true
-  import_holds x c e im = ap (λ o. is_holder o && same_members [] (object_fields w x)) e ∙ ap (λ b. (b || not (is_interface c.flags)) && same_members [] (object_fields w x)) im ∙ ap (same_members []) (imported_fields x c e im)
+  pub import_holds : (x : List ℕ) (c : Class) → class_named w x ≡ Some c → c.is_imported ≡ true → is_holder (Some c) ≡ true → may_hold w x [] ≡ true
+  import_holds x c e im holds_some = ap (λ o. is_holder o && same_members [] (object_fields w x)) e ∙ ap (λ b. b && same_members [] (object_fields w x)) holds_some ∙ ap (same_members []) (imported_fields x c e im)
 
   pub has_objects : (x : List ℕ) (fields : List MemberId) → may_hold w x fields ≡ true → HasObjects (naming p) (may_name w) x fields
   has_objects x fields e = by (class_named w x) refl (parts (is_holder (class_named w x)) (same_members fields (object_fields w x)) e)
@@ -395,7 +395,7 @@ module _ (list : List ℕ) (p : Package) (sound : IsSound list p.files) (typed :
             once = ap are_apart same ∙ h.apart;
           }
 
-      kind : (c : Class) → class_named w x ≡ Some c → (b i : Bool) → c.is_imported ≡ b → is_interface c.flags ≡ i → (b || not i) ≡ true → Holds x c
+      kind : (c : Class) → class_named w x ≡ Some c → (b i : Bool) → c.is_imported ≡ b → is_interface c.flags ≡ i → (if i then b && list_any (λ name. bytes_eq name c.name) own_exceptions else (b || not (is_abstract c.flags))) ≡ true → Holds x c
       kind c m true i im f u = of_import x c m im
       kind c m false true im f u = cc
       kind c m false false im f u = holds (suc (length w)) x (clear_settles w x (λ z way far. unbroken_is_acyclic list p.files sound.unbroken z far)) c m f

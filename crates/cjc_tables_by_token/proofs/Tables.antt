@@ -1,13 +1,15 @@
 -- The tables of a package agree with the look-ups by name: classes, objects, static fields and names.
 use Rattle.std.proofs.Common.{◌≡◌, ℕ, refl, sym, ap, ◌∙◌, Bool, true, false, List, [], ◌∷◌}
 use Rattle.std.specs.Prelude.{not, ◌&&◌, ◌||◌, map, Option, Some, None, is_some, option_and_then, option_map, if◌then◌else◌, codes}
+use Rattle.std.specs.List.{list_any}
+use Rattle.std.specs.Str.{bytes_eq}
 use Rattle.cjc_bytes.specs.AccessFlags.{is_abstract, is_interface}
 use Rattle.cjc_bytes.specs.declared.fault.MemberId.{MemberId}
 use Rattle.cjc_bytecode.specs.Calculations.{Fault, Arithmetic, NullPointer, IndexOutside, NegativeSize, ClassCast, ArrayStore}
 use Rattle.cjc_bytecode.specs.Effects.{Slot, Object}
 use Rattle.cjc_bytecode.specs.Renaming.{KnownHeapObject, KnownShape, keys, object_known, option_as}
 use Rattle.cjc_card.specs.ByToken as ByToken
-use Rattle.cjc_card.specs.Classes.{Class as CardClass, Info, IsInterface, IsClass, Own, Foreign, class_of, foreign, info_of, is_interface_file, is_interface_info, is_of}
+use Rattle.cjc_card.specs.Classes.{IsInterface, IsClass, Own, class_of, is_interface_file, is_interface_info}
 use Rattle.cjc_card.specs.Classes as card
 use Rattle.cjc_code.specs.declared.method_code.MethodCode.{MethodCode}
 use Rattle.cjc_script.specs.Sorts.{Shape, OfClass, OfNumbers, OfReferences}
@@ -19,7 +21,7 @@ use Rattle.cjc_by_name.specs.OnePackage.{is_made, is_plain_import, made_of, obje
 use Rattle.cjc_clinit.specs.Image.{IsImage}
 use Rattle.cjc_ncode.specs.ByLabel.{Callee, Named, shown_slot}
 use Rattle.cjc_ncode.specs.declared.narrow.NMethod.{NMethod}
-use Rattle.cjc_narrow.specs.Package.{name_there, named, named_by, plain_import, throwable_import}
+use Rattle.cjc_narrow.specs.Package.{name_there, named, named_by, plain_import}
 use Rattle.cjc_narrow.specs.Package as narrow
 use Rattle.cjc_lower.specs.Agreement.{known_by}
 use Rattle.cjc_lower.specs.Naming.{IsClass as MeansClass}
@@ -36,7 +38,7 @@ use Rattle.cjc_by_token.proofs.Subtypes as kinds
 use Rattle.cjc_components.specs.Package.{Package, world}
 use Rattle.cjc_components.specs.Class.{class_entry, interface_entry}
 use Rattle.cjc_components.specs.Names.{class_at, class_ref, ref_to}
-use Rattle.cjc_tables_by_token.specs.Known.{is_holder, known_names, may_hold, may_name, same_members}
+use Rattle.cjc_tables_by_token.specs.Known.{is_holder, is_own_exception, known_names, may_hold, may_name, own_exceptions, same_members}
 use Rattle.cjc_tables_by_token.specs.Loading.{loaded, naming, part}
 use Rattle.cjc_tables_by_token.specs.Sound.{AreTyped, IsSound}
 use Rattle.cjc_tables_by_token.specs.Tables.{ClassTablesAgree}
@@ -73,20 +75,21 @@ module _ (list : List ℕ) (p : Package) (sound : IsSound list p.files) where
           let clash : None ≡ Some (class_at p x) = sym nowhere ∙ h in
           absurd (cc)
 
-  plain_is : (x y : List ℕ) → plain_import w x ≡ Some y → (y ≡ x) × IsImport w x
+  plain_is : (x y : List ℕ) → plain_import w x ≡ Some y → (y ≡ x) × ((i : IsImport w x) × (is_interface i.class.flags ≡ false))
   plain_is x y e = by (class_named w x) refl e
     where
-      front : (a b : Bool) → (a && b) ≡ true → a ≡ true
-      front true b f = refl
-      front false b f = cc
+      parts : (a b : Bool) → (a && not b) ≡ true → (a ≡ true) × (b ≡ false)
+      parts true true f = cc
+      parts true false f = (refl, refl)
+      parts false b f = cc
 
       only : (b : Bool) → (if b then Some x else None) ≡ Some y → (y ≡ x) × (b ≡ true)
       only true f = let is : x ≡ y = cc in (sym is, refl)
       only false f = cc
 
-      by : (o : Option Class) → class_named w x ≡ o → (if is_plain_import o then Some x else None) ≡ Some y → (y ≡ x) × IsImport w x
+      by : (o : Option Class) → class_named w x ≡ o → (if is_plain_import o then Some x else None) ≡ Some y → (y ≡ x) × ((i : IsImport w x) × (is_interface i.class.flags ≡ false))
       by None m f = cc
-      by (Some c) m f = let r = only (is_plain_import (Some c)) f in (r.0, record { class = c; there = m; imported = front c.is_imported (not (is_interface c.flags)) r.1 })
+      by (Some c) m f = let r = only (is_plain_import (Some c)) f in let q = parts c.is_imported (is_interface c.flags) r.1 in (r.0, (record { class = c; there = m; imported = q.0 }, q.1))
 
   there_is : (x y : List ℕ) → name_there w x ≡ Some y → (y ≡ x) × (has_class w x ≡ true)
   there_is x y e = by (class_named w x) refl e
@@ -96,9 +99,21 @@ module _ (list : List ℕ) (p : Package) (sound : IsSound list p.files) where
       by (Some c) m f = let is : c.name ≡ y = cc in (sym is ∙ class_named-name w x c m, ap is_some m)
 
   module _ (typed : AreTyped p.files) (insns : List MethodCode) (image : IsImage p.files insns p.image) (once : StandOnce p.files insns) (call : Callee → Bool) where
-    -- an imported class is there, and its objects hold nothing
-    import_known : (x : List ℕ) → IsImport w x → (has_class w x ≡ true) × (may_hold w x [] ≡ true)
-    import_known x i = (ap is_some i.there, import_holds list p sound typed x i.class i.there i.imported)
+    -- an imported class of which there are objects is there, and they hold nothing
+    import_known : (x : List ℕ) (i : IsImport w x) → is_holder (Some i.class) ≡ true → (has_class w x ≡ true) × (may_hold w x [] ≡ true)
+    import_known x i holds = (ap is_some i.there, import_holds list p sound typed x i.class i.there i.imported holds)
+
+    -- no interface
+    plain_holds : (c : Class) → c.is_imported ≡ true → is_interface c.flags ≡ false → is_holder (Some c) ≡ true
+    plain_holds c im f = ap (λ b. if b then is_own_exception c else (c.is_imported || not (is_abstract c.flags))) f ∙ ap (λ b. b || not (is_abstract c.flags)) im
+
+    -- an exception of the machine's own
+    exception_holds : (c : Class) → c.is_imported ≡ true → list_any (λ name. bytes_eq name c.name) own_exceptions ≡ true → is_holder (Some c) ≡ true
+    exception_holds c im own = by (is_interface c.flags)
+      where
+        by : (b : Bool) → (if b then is_own_exception c else (c.is_imported || not (is_abstract c.flags))) ≡ true
+        by true = ap (λ q. q && list_any (λ name. bytes_eq name c.name) own_exceptions) im ∙ own
+        by false = ap (λ q. q || not (is_abstract c.flags)) im
 
     module _ (l : Named) (code : Method → NMethod) (is : l ≡ named_by p.files p.image w code) where
       says : SaysClasses (naming p) l (known_names call p)
@@ -115,8 +130,9 @@ module _ (list : List ℕ) (p : Package) (sound : IsSound list p.files) where
           shape (OfNumbers element) k = k
           shape (OfReferences c) k = k
 
-          both : (a b : Bool) → (not a && not b) ≡ true → a ≡ false
-          both false b e = refl
+          both : (a b : Bool) → (not a && not b) ≡ true → (a ≡ false) × (b ≡ false)
+          both false false e = (refl, refl)
+          both false true e = cc
           both true b e = cc
 
           class_is : (c : List ℕ) (d : Class) → class_named w c ≡ Some d → is_interface d.flags ≡ false → (b : Bool) → d.is_imported ≡ b → card.is_interface (loaded p) (class_at p c) ≡ false
@@ -127,8 +143,13 @@ module _ (list : List ℕ) (p : Package) (sound : IsSound list p.files) where
               let r = entry_of_name list p sound c d m im in
               ap (λ x. card.is_interface (loaded p) (class_at p x)) (sym (class_named-name w c d m)) ∙ ap (card.is_interface (loaded p)) r.on_card ∙ ap is_interface_file r.there ∙ ap (λ (v : Class). is_interface v.flags) (sym r.class) ∙ f
 
-          holder : (c : List ℕ) (d : Class) → class_named w c ≡ Some d → is_interface d.flags ≡ false → may_hold w c (object_fields w c) ≡ true
-          holder c d m f = ap (λ o. is_holder o && same_members (object_fields w c) (object_fields w c)) m ∙ ap (λ b. (d.is_imported || not b) && same_members (object_fields w c) (object_fields w c)) f ∙ ap (λ b. (d.is_imported || true) && b) (same_all (object_fields w c)) ∙ go d.is_imported
+          holder : (c : List ℕ) (d : Class) → class_named w c ≡ Some d → is_interface d.flags ≡ false → is_abstract d.flags ≡ false → may_hold w c (object_fields w c) ≡ true
+          holder c d m f g =
+              ap (λ o. is_holder o && same_members (object_fields w c) (object_fields w c)) m
+              ∙ ap (λ b. (if b then is_own_exception d else (d.is_imported || not (is_abstract d.flags))) && same_members (object_fields w c) (object_fields w c)) f
+              ∙ ap (λ b. (d.is_imported || not b) && same_members (object_fields w c) (object_fields w c)) g
+              ∙ ap (λ b. (d.is_imported || true) && b) (same_all (object_fields w c))
+              ∙ go d.is_imported
             where
               go : (b : Bool) → ((b || true) && true) ≡ true
               go true = refl
@@ -143,10 +164,10 @@ module _ (list : List ℕ) (p : Package) (sound : IsSound list p.files) where
               go true t f =
                   let same : object_fields w c ≡ own = cc in
                   let plain = both (is_interface d.flags) (is_abstract d.flags) t in
-                  (ap (may_hold w c) (sym same) ∙ holder c d m plain, class_is c d m plain d.is_imported refl)
+                  (ap (may_hold w c) (sym same) ∙ holder c d m plain.0 plain.1, class_is c d m plain.0 d.is_imported refl)
 
-      object_here : (x y : List ℕ) → y ≡ x → IsImport w x → KnownHeapObject (known_by (tests (known_names call p))) (Object y [])
-      object_here x y same i = let r = import_known x i in object_known (ap (has_class w) same ∙ r.0) (ap (λ z. may_hold w z []) same ∙ r.1)
+      object_here : (x y : List ℕ) → y ≡ x → (i : IsImport w x) → is_holder (Some i.class) ≡ true → KnownHeapObject (known_by (tests (known_names call p))) (Object y [])
+      object_here x y same i holds = let r = import_known x i holds in object_known (ap (has_class w) same ∙ r.0) (ap (λ z. may_hold w z []) same ∙ r.1)
 
       agree_by : ClassTablesAgree (naming p) (memories (naming p) (known_names call p)) l (known_by (tests (known_names call p)))
       agree_by = record {
@@ -157,21 +178,35 @@ module _ (list : List ℕ) (p : Package) (sound : IsSound list p.files) where
         class_named = λ x. (let n = names_agree in n.class_named x ∙ ap (λ (v : Named). option_as (class_at p) (v.class_named x)) (sym is));
         class_named_known = λ x c e. (let r = there_is x c (sym (ap (λ (v : Named). v.class_named x) is) ∙ e) in ap (has_class w) r.0 ∙ r.1);
         imported = λ x. (let n = names_agree in n.imported x ∙ ap (λ (v : Named). option_as (class_at p) (v.imported x)) (sym is));
-        imported_known = λ x c e. (let r = plain_is x c (sym (ap (λ (v : Named). v.imported x) is) ∙ e) in object_here x c r.0 r.1);
+        imported_known = λ x c e. (let r = plain_is x c (sym (ap (λ (v : Named). v.imported x) is) ∙ e) in plain_here x c r);
         throwable = λ x. (let n = names_agree in n.throwable x ∙ ap (λ (v : Named). option_as (class_at p) (v.throwable x)) (sym is));
-        throwable_known = λ x c e. (let r = thrown x c (is_subtype w x (codes "java/lang/Throwable")) (sym (ap (λ (v : Named). v.throwable x) is) ∙ e) in object_here x c r.0 r.1);
+        throwable_known = λ x c e. (let r = thrown x c (is_subtype w x (codes "java/lang/Throwable")) (sym (ap (λ (v : Named). v.throwable x) is) ∙ e) in plain_here x c r);
         name = λ c k. (let n = names_agree in n.name c k);
         fields = shown;
         cells = λ x k. cells_shown list p sound typed insns image once x k;
       }
         where
-          thrown : (x c : List ℕ) (b : Bool) → (if b then plain_import w x else None) ≡ Some c → (c ≡ x) × IsImport w x
+          plain_here : (x y : List ℕ) → (y ≡ x) × ((i : IsImport w x) × (is_interface i.class.flags ≡ false)) → KnownHeapObject (known_by (tests (known_names call p))) (Object y [])
+          plain_here x y r = let i = r.1.0 in object_here x y r.0 i (plain_holds i.class i.imported r.1.1)
+
+          thrown : (x c : List ℕ) (b : Bool) → (if b then plain_import w x else None) ≡ Some c → (c ≡ x) × ((i : IsImport w x) × (is_interface i.class.flags ≡ false))
           thrown x c true e = plain_is x c e
           thrown x c false e = cc
 
           fault_one : (f : Fault) (c : List ℕ) → name_there w (narrow.fault_name f) ≡ Some c → KnownHeapObject (known_by (tests (known_names call p))) (Object c [])
-          fault_one f c e = let r = there_is (narrow.fault_name f) c e in object_here (narrow.fault_name f) c r.0 (there f)
+          fault_one f c e =
+              let r = there_is (narrow.fault_name f) c e in
+              let i = there f in
+              object_here (narrow.fault_name f) c r.0 i (exception_holds i.class i.imported (ap (λ x. list_any (λ name. bytes_eq name x) own_exceptions) (class_named-name w (narrow.fault_name f) i.class i.there) ∙ listed f))
             where
+              listed : (f : Fault) → list_any (λ name. bytes_eq name (narrow.fault_name f)) own_exceptions ≡ true
+              listed Arithmetic = refl
+              listed NullPointer = refl
+              listed IndexOutside = refl
+              listed NegativeSize = refl
+              listed ClassCast = refl
+              listed ArrayStore = refl
+
               there : (f : Fault) → IsImport w (narrow.fault_name f)
               there Arithmetic = let lang = has_lang list p sound in lang.faults Arithmetic
               there NullPointer = let lang = has_lang list p sound in lang.faults NullPointer

@@ -1,6 +1,9 @@
 -- The names that code, objects and scripts of a package may have.
-use Rattle.std.specs.Prelude.{ℕ, List, [], ◌∷◌, ◌++◌, map, filter, flat_map, Bool, true, false, not, ◌&&◌, ◌||◌, Option, Some, None}
-use Rattle.cjc_bytes.specs.AccessFlags.{is_interface}
+use Rattle.std.specs.Prelude.{ℕ, List, [], ◌∷◌, ◌++◌, map, filter, flat_map, Bool, true, false, not, ◌&&◌, ◌||◌, if◌then◌else◌, Option, Some, None}
+use Rattle.std.specs.List.{list_any}
+use Rattle.std.specs.Str.{bytes_eq}
+use Rattle.cjc_bytecode.specs.Calculations.{Arithmetic, NullPointer, IndexOutside, NegativeSize, ClassCast, ArrayStore}
+use Rattle.cjc_bytes.specs.AccessFlags.{is_abstract, is_interface}
 use Rattle.cjc_bytes.specs.declared.fault.MemberId.{MemberId}
 use Rattle.cjc_classfile.specs.declared.tree.ClassTree.{ClassTree}
 use Rattle.cjc_world.specs.declared.image.StaticImage.{StaticImage}
@@ -8,6 +11,7 @@ use Rattle.cjc_world.specs.Classes.{Class, class_named}
 use Rattle.cjc_by_name.specs.OnePackage.{declared_fields, object_fields}
 use Rattle.cjc_clinit.specs.Fields.{is_cell}
 use Rattle.cjc_clinit.specs.Image.{field_id}
+use Rattle.cjc_narrow.specs.Package.{fault_name}
 use Rattle.cjc_ncode.specs.ByLabel.{Callee}
 use Rattle.cjc_ncode.specs.PoolOrder.{same_member}
 use Rattle.cjc_by_token.specs.Cells.{Order, is_one_of}
@@ -30,10 +34,18 @@ same_members [] [] = true
 same_members (f ∷ fields) (g ∷ others) = same_member f g && same_members fields others
 same_members fields others = false
 
--- an imported class, or one of the package that is no interface
+-- the exceptions of the machine's own
+abbrev pub own_exceptions : List (List ℕ)
+own_exceptions = map fault_name (Arithmetic ∷ NullPointer ∷ IndexOutside ∷ NegativeSize ∷ ClassCast ∷ ArrayStore ∷ [])
+
+-- an exception of the machine's own, which it makes whatever the export file says of it
+abbrev pub is_own_exception : Class → Bool
+is_own_exception c = c.is_imported && list_any (λ name. bytes_eq name c.name) own_exceptions
+
+-- a class of which there are objects: none of an interface, and of the package none of an abstract class
 abbrev pub is_holder : Option Class → Bool
 is_holder None = false
-is_holder (Some c) = c.is_imported || not (is_interface c.flags)
+is_holder (Some c) = if is_interface c.flags then is_own_exception c else (c.is_imported || not (is_abstract c.flags))
 
 -- an object of such a class has the fields of the class
 abbrev pub may_hold : List Class → (class : List ℕ) → List MemberId → Bool

@@ -35,8 +35,8 @@ use Rattle.cjc_world.specs.declared.found.Found.{Found}
 use Rattle.cjc_world.specs.Files.{Files}
 use Rattle.cjc_world.specs.Added.{added}
 use Rattle.cjc_world.specs.Classes.{Class, Member, class_at as world_class_at, class_named}
-use Rattle.cjc_world.specs.Lookup.{is_called, member_at, or_else, own_method}
-use Rattle.cjc_world.specs.Order.{class_order, in_order, methods_of_class, places, written}
+use Rattle.cjc_world.specs.Lookup.{is_called, member_at, own_method}
+use Rattle.cjc_world.specs.Order.{class_order, in_order, places, written}
 use Rattle.cjc_by_token.specs.Names.{NamesAgree}
 use Rattle.cjc_written_calls.specs.Calls.{NoStaticMethods}
 use Rattle.cjc_written_calls.proofs.Facts.{Facts}
@@ -188,32 +188,32 @@ module _ (p : Package) (facts : Facts p) where
   first_named c id [] = None
   first_named c id (f ∷ fs) = if is_named (name_at c f) id then Some f else first_named c id fs
 
-  named_first : (c : Class) (id : MemberId) (fs : List Found) → named_among (map (name_at c) fs) (map (md c) fs) id ≡ option_map (md c) (first_named c id fs)
+  named_first : (c : Class) (id : MemberId) (fs gs : List Found) → named_among (map (name_at c) fs) (map (md c) (fs ++ gs)) id ≡ option_map (md c) (first_named c id fs)
   unfolding first_named
-  named_first c id [] = refl
-  named_first c id (f ∷ fs) = by (is_named (name_at c f) id) (named_first c id fs)
+  named_first c id [] gs = refl
+  named_first c id (f ∷ fs) gs = by (is_named (name_at c f) id) (named_first c id fs gs)
     where
-      by : (t : Bool) → named_among (map (name_at c) fs) (map (md c) fs) id ≡ option_map (md c) (first_named c id fs)
-          → (if t then Some (md c f) else named_among (map (name_at c) fs) (map (md c) fs) id) ≡ option_map (md c) (if t then Some f else first_named c id fs)
+      by : (t : Bool) → named_among (map (name_at c) fs) (map (md c) (fs ++ gs)) id ≡ option_map (md c) (first_named c id fs)
+          → (if t then Some (md c f) else named_among (map (name_at c) fs) (map (md c) (fs ++ gs)) id) ≡ option_map (md c) (if t then Some f else first_named c id fs)
       by true e = refl
       by false e = e
 
   -- among a class's own methods it is the one that a look-up finds
-  written_first : (c : Class) (id : MemberId) → is_initialiser id.name ≡ false → (at : ℕ) (ms : List Member) → ((j : ℕ) (m : Member) → slice_get ms j ≡ Some m → method_in w c (at + j) ≡ m) → (rest : List Found)
-      → first_named c id (written c at ms ++ rest) ≡ or_else (option_map (λ j. member_at c (at + j)) (position (λ (m : Member). is_called id.name id.desc m) ms)) (first_named c id rest)
+  written_first : (c : Class) (id : MemberId) → is_initialiser id.name ≡ false → (at : ℕ) (ms : List Member) → ((j : ℕ) (m : Member) → slice_get ms j ≡ Some m → method_in w c (at + j) ≡ m)
+      → first_named c id (written c at ms) ≡ option_map (λ j. member_at c (at + j)) (position (λ (m : Member). is_called id.name id.desc m) ms)
   unfolding first_named
-  written_first c id plain at [] base rest = refl
-  written_first c id plain at (m ∷ ms) base rest =
-      by (bytes_eq m.name (codes "<clinit>")) refl (written_first c id plain (at + 1) ms (λ j o e. let z : at + 1 + j ≡ at + suc j = omega arith in ap (method_in w c) z ∙ base (suc j) o e) rest)
-      ∙ sym (ap (λ o. or_else (option_map (λ j. member_at c (at + j)) o) (first_named c id rest)) (position-cons (λ (q : Member). is_called id.name id.desc q) m ms))
+  written_first c id plain at [] base = refl
+  written_first c id plain at (m ∷ ms) base =
+      by (bytes_eq m.name (codes "<clinit>")) refl (written_first c id plain (at + 1) ms (λ j o e. let z : at + 1 + j ≡ at + suc j = omega arith in ap (method_in w c) z ∙ base (suc j) o e))
+      ∙ sym (ap (option_map (λ j. member_at c (at + j))) (position-cons (λ (q : Member). is_called id.name id.desc q) m ms))
     where
-      shifted : (o : Option ℕ) → or_else (option_map (λ j. member_at c (at + 1 + j)) o) (first_named c id rest) ≡ or_else (option_map (λ j. member_at c (at + j)) (option_map suc o)) (first_named c id rest)
+      shifted : (o : Option ℕ) → option_map (λ j. member_at c (at + 1 + j)) o ≡ option_map (λ j. member_at c (at + j)) (option_map suc o)
       shifted None = refl
       shifted (Some j) = let z : at + 1 + j ≡ at + suc j = omega arith in ap (λ i. Some (member_at c i)) z
 
       called_here : (t : Bool) → is_called id.name id.desc m ≡ t
-          → (if t then Some (member_at c at) else or_else (option_map (λ j. member_at c (at + 1 + j)) (position (λ (q : Member). is_called id.name id.desc q) ms)) (first_named c id rest))
-          ≡ or_else (option_map (λ j. member_at c (at + j)) (if t then Some 0 else option_map suc (position (λ (q : Member). is_called id.name id.desc q) ms))) (first_named c id rest)
+          → (if t then Some (member_at c at) else option_map (λ j. member_at c (at + 1 + j)) (position (λ (q : Member). is_called id.name id.desc q) ms))
+          ≡ option_map (λ j. member_at c (at + j)) (if t then Some 0 else option_map suc (position (λ (q : Member). is_called id.name id.desc q) ms))
       called_here true is = let z : at ≡ at + 0 = omega arith in ap (λ i. Some (member_at c i)) z
       called_here false is = shifted (position (λ (q : Member). is_called id.name id.desc q) ms)
 
@@ -226,49 +226,22 @@ module _ (p : Package) (facts : Facts p) where
               let clash : true ≡ false = sym init ∙ ap (λ x. bytes_eq x (codes "<clinit>")) (bytes_tell m.name id.name is) ∙ plain in absurd (cc)
 
       by : (t : Bool) → bytes_eq m.name (codes "<clinit>") ≡ t
-          → first_named c id (written c (at + 1) ms ++ rest) ≡ or_else (option_map (λ j. member_at c (at + 1 + j)) (position (λ (q : Member). is_called id.name id.desc q) ms)) (first_named c id rest)
-          → first_named c id ((if t then written c (at + 1) ms else member_at c at ∷ written c (at + 1) ms) ++ rest)
-          ≡ or_else (option_map (λ j. member_at c (at + j)) (if is_called id.name id.desc m then Some 0 else option_map suc (position (λ (q : Member). is_called id.name id.desc q) ms))) (first_named c id rest)
+          → first_named c id (written c (at + 1) ms) ≡ option_map (λ j. member_at c (at + 1 + j)) (position (λ (q : Member). is_called id.name id.desc q) ms)
+          → first_named c id (if t then written c (at + 1) ms else member_at c at ∷ written c (at + 1) ms)
+          ≡ option_map (λ j. member_at c (at + j)) (if is_called id.name id.desc m then Some 0 else option_map suc (position (λ (q : Member). is_called id.name id.desc q) ms))
       by true init e =
           e ∙ shifted (position (λ (q : Member). is_called id.name id.desc q) ms)
-          ∙ sym (ap (λ t. or_else (option_map (λ j. member_at c (at + j)) (if t then Some 0 else option_map suc (position (λ (q : Member). is_called id.name id.desc q) ms))) (first_named c id rest)) (not_called init))
+          ∙ sym (ap (λ t. option_map (λ j. member_at c (at + j)) (if t then Some 0 else option_map suc (position (λ (q : Member). is_called id.name id.desc q) ms))) (not_called init))
       by false init e =
           let z : at ≡ at + 0 = omega arith in
           let here : method_in w c at ≡ m = ap (method_in w c) z ∙ base 0 m refl in
-          ap (λ (q : Member). if is_called id.name id.desc q then Some (member_at c at) else first_named c id (written c (at + 1) ms ++ rest)) here
+          ap (λ (q : Member). if is_called id.name id.desc q then Some (member_at c at) else first_named c id (written c (at + 1) ms)) here
           ∙ ap (λ o. if is_called id.name id.desc m then Some (member_at c at) else o) e
           ∙ called_here (is_called id.name id.desc m) refl
-
-  -- ---- methods that are added are not static
-
-  get_past : {A : Type 0} (xs ys : List A) (k : ℕ) → slice_get (xs ++ ys) (length xs + k) ≡ slice_get ys k
-  get_past [] ys k = ap (slice_get ys) (omega arith)
-  get_past (x ∷ xs) ys k = let z : length (x ∷ xs) + k ≡ suc (length xs + k) = omega arith in ap (slice_get (x ∷ (xs ++ ys))) z ∙ get_past xs ys k
-
-  added_flag : (ms : List Member) (k : ℕ) → is_static (method_flags (unwrap_or (slice_get (map as_added ms) k) no_member)) ≡ false
-  added_flag [] k = static_same no_member
-  added_flag (m ∷ ms) zero = static_same (as_added m)
-  added_flag (m ∷ ms) (suc k) = added_flag ms k
-
-  added_plain : (c : Class) (k : ℕ) → is_static (method_flags (method_in w c (length c.fields + length c.methods + k))) ≡ false
-  added_plain c k =
-      let z : length c.fields + length c.methods + k - length c.fields ≡ length c.methods + k = omega arith in
-      ap (λ i. is_static (method_flags (unwrap_or (slice_get (methods_with_added w c) i) no_member))) z
-      ∙ ap (λ o. is_static (method_flags (unwrap_or o no_member))) (get_past c.methods (map as_added (added w c)) k)
-      ∙ added_flag (added w c) k
 
   -- what a method of a descriptor starts
   abbrev starts : Class → Option Found → Option (Start Code)
   starts c o = option_and_then (static_start (loaded p)) (option_map (λ m. record { part = 0; method = m }) (option_map (md c) o))
-
-  places_none : (c : Class) (id : MemberId) (at k : ℕ) → at ≡ length c.fields + length c.methods + k → (n : ℕ) → starts c (first_named c id (places c at n)) ≡ None
-  unfolding first_named
-  places_none c id at k e zero = refl
-  places_none c id at k e (suc n) = by (is_named (name_at c (member_at c at)) id) (places_none c id (at + 1) (k + 1) (omega (arith, e)) n)
-    where
-      by : (t : Bool) → starts c (first_named c id (places c (at + 1) n)) ≡ None → starts c (if t then Some (member_at c at) else first_named c id (places c (at + 1) n)) ≡ None
-      by false rest = rest
-      by true rest = ap (λ s. if s then start_of (loaded p) 0 (method_offset p (member_at c at)) else None) (ap (λ i. is_static (method_flags (method_in w c i))) e ∙ added_plain c k)
 
   own_in : (c : Class) (j : ℕ) (m : Member) → slice_get c.methods j ≡ Some m → method_in w c (length c.fields + j) ≡ m
   own_in c j m e =
@@ -276,10 +249,10 @@ module _ (p : Package) (facts : Facts p) where
       ap (λ i. unwrap_or (slice_get (methods_with_added w c) i) no_member) z ∙ ap (λ o. unwrap_or o no_member) (get_front c.methods (map as_added (added w c)) j m e)
 
   -- an initialiser is among none of them
-  initialiser_none : (c : Class) (id : MemberId) → is_initialiser id.name ≡ true → (at : ℕ) (ms : List Member) → ((j : ℕ) (m : Member) → slice_get ms j ≡ Some m → method_in w c (at + j) ≡ m) → (rest : List Found) → first_named c id (written c at ms ++ rest) ≡ first_named c id rest
+  initialiser_none : (c : Class) (id : MemberId) → is_initialiser id.name ≡ true → (at : ℕ) (ms : List Member) → ((j : ℕ) (m : Member) → slice_get ms j ≡ Some m → method_in w c (at + j) ≡ m) → first_named c id (written c at ms) ≡ None
   unfolding first_named
-  initialiser_none c id init at [] base rest = refl
-  initialiser_none c id init at (m ∷ ms) base rest = by (bytes_eq m.name (codes "<clinit>")) refl (initialiser_none c id init (at + 1) ms (λ j o e. let z : at + 1 + j ≡ at + suc j = omega arith in ap (method_in w c) z ∙ base (suc j) o e) rest)
+  initialiser_none c id init at [] base = refl
+  initialiser_none c id init at (m ∷ ms) base = by (bytes_eq m.name (codes "<clinit>")) refl (initialiser_none c id init (at + 1) ms (λ j o e. let z : at + 1 + j ≡ at + suc j = omega arith in ap (method_in w c) z ∙ base (suc j) o e))
     where
       other : bytes_eq m.name (codes "<clinit>") ≡ false → (bytes_eq m.name id.name && bytes_eq m.desc id.desc) ≡ false
       other plain = split (bytes_eq m.name id.name) refl
@@ -288,13 +261,13 @@ module _ (p : Package) (facts : Facts p) where
           split false is = refl
           split true is = let clash : false ≡ true = sym plain ∙ ap (λ x. bytes_eq x (codes "<clinit>")) (bytes_tell m.name id.name is) ∙ init in absurd (cc)
 
-      by : (t : Bool) → bytes_eq m.name (codes "<clinit>") ≡ t → first_named c id (written c (at + 1) ms ++ rest) ≡ first_named c id rest → first_named c id ((if t then written c (at + 1) ms else member_at c at ∷ written c (at + 1) ms) ++ rest) ≡ first_named c id rest
+      by : (t : Bool) → bytes_eq m.name (codes "<clinit>") ≡ t → first_named c id (written c (at + 1) ms) ≡ None → first_named c id (if t then written c (at + 1) ms else member_at c at ∷ written c (at + 1) ms) ≡ None
       by true is e = e
       by false is e =
           let z : at ≡ at + 0 = omega arith in
           let here : method_in w c at ≡ m = ap (method_in w c) z ∙ base 0 m refl in
-          ap (λ (q : Member). if bytes_eq q.name id.name && bytes_eq q.desc id.desc then Some (member_at c at) else first_named c id (written c (at + 1) ms ++ rest)) here
-          ∙ ap (λ s. if s then Some (member_at c at) else first_named c id (written c (at + 1) ms ++ rest)) (other is)
+          ap (λ (q : Member). if bytes_eq q.name id.name && bytes_eq q.desc id.desc then Some (member_at c at) else first_named c id (written c (at + 1) ms)) here
+          ∙ ap (λ s. if s then Some (member_at c at) else first_named c id (written c (at + 1) ms)) (other is)
           ∙ e
 
   -- ---- classes of the order
@@ -327,20 +300,25 @@ module _ (p : Package) (facts : Facts p) where
     descriptor_there : class_among (map (class_descriptor p) (class_order w)) info.offset ≡ Some (class_descriptor p c)
     descriptor_there = class_found info.offset c (class_order w) info.number info.ordered (ap (λ ref. is_inside ref info.offset) info.ref ∙ same_number info.offset) one_class
 
-    declared_as : (id : MemberId) → declared (loaded p) (class_at p c.name) id ≡ option_map (λ m. record { part = 0; method = m }) (option_map (md c) (first_named c id (methods_of_class w c)))
-    declared_as id =
+    -- what the class declares under a name, if it is not the initialiser's
+    pub declared_is : (id : MemberId) → declared (loaded p) (class_at p c.name) id ≡ option_map (λ m. record { part = 0; method = m }) (option_map (md c) (if is_initialiser id.name then None else own_method false id.name id.desc c))
+    declared_is id =
         ap (λ k. declared (loaded p) k id) info.on_card
         ∙ ap (λ o. option_and_then (λ ns. named_in_part 0 info.offset id ns (part p)) o) info.names
         ∙ ap (λ o. option_and_then (λ (d : ClassDescriptor). option_map (λ m. record { part = 0; method = m }) (named_among (method_names w c) d.methods id)) o) descriptor_there
-        ∙ ap (λ o. option_map (λ m. record { part = 0; method = m }) o) (named_first c id (methods_of_class w c))
+        ∙ ap (λ o. option_map (λ m. record { part = 0; method = m }) o) (named_first c id (written c (length c.fields) c.methods) (places c (length c.fields + length c.methods) (length (added w c))))
+        ∙ ap (λ o. option_map (λ m. record { part = 0; method = m }) (option_map (md c) o)) (by (is_initialiser id.name) refl)
+      where
+        by : (t : Bool) → is_initialiser id.name ≡ t → first_named c id (written c (length c.fields) c.methods) ≡ (if t then None else own_method false id.name id.desc c)
+        by true init = initialiser_none c id init (length c.fields) c.methods (λ j m e. own_in c j m e)
+        by false plain = written_first c id plain (length c.fields) c.methods (λ j m e. own_in c j m e) ∙ own_same c id
 
     -- a method that the class declares
     pub declared_own : (id : MemberId) → is_initialiser id.name ≡ false → (f : Found) → own_method false id.name id.desc c ≡ Some f → declared (loaded p) (class_at p c.name) id ≡ Some (record { part = 0; method = method_descriptor p c f })
     declared_own id plain f found =
-        declared_as id
-        ∙ ap (λ o. option_map (λ m. record { part = 0; method = m }) (option_map (md c) o))
-        (written_first c id plain (length c.fields) c.methods (λ j m e. own_in c j m e) (places c (length c.fields + length c.methods) (length (added w c)))
-        ∙ ap (λ o. or_else o (first_named c id (places c (length c.fields + length c.methods) (length (added w c))))) (own_same c id ∙ found))
+        declared_is id
+        ∙ ap (λ t. option_map (λ m. record { part = 0; method = m }) (option_map (md c) (if t then None else own_method false id.name id.desc c))) plain
+        ∙ ap (λ o. option_map (λ m. record { part = 0; method = m }) (option_map (md c) o)) found
 
     pub token_there : (i : ℕ) (m : Member) → slice_get c.methods i ≡ Some m → has_no_token (method_descriptor p c (member_at c (length c.fields + i))) ≡ (is_static m.flags || (is_private m.flags || is_constructor m.name))
     unfolding no_token
@@ -354,10 +332,10 @@ module _ (p : Package) (facts : Facts p) where
       on_card : card.class_named (loaded p) id.class ≡ Some (class_at p c.name)
       on_card = names.class_named id.class ∙ ap (λ o. option_as (class_at p) (option_map (λ (q : Class). q.name) o)) known
 
-      by_token : called (loaded p) id ≡ starts c (first_named c id (methods_of_class w c))
+      by_token : called (loaded p) id ≡ starts c (if is_initialiser id.name then None else own_method false id.name id.desc c)
       by_token =
           ap (option_and_then (λ k. option_and_then (static_start (loaded p)) (declared (loaded p) k id))) on_card
-          ∙ ap (option_and_then (static_start (loaded p))) (declared_as id.class c known own id)
+          ∙ ap (option_and_then (static_start (loaded p))) (declared_is id.class c known own id)
 
       -- a method that is declared
       declared_same : is_initialiser id.name ≡ false → (f : Found) → OwnMethod w false id.name id.desc c f → starts c (Some f) ≡ begun (option_and_then (λ (hit : Hit). if is_static hit.flags then method_at p.files f else None) (method_hit (c ∷ []) f))
@@ -395,23 +373,14 @@ module _ (p : Package) (facts : Facts p) where
       called_own : called (loaded p) id ≡ begun (if is_initialiser id.name then None else entry_in p.files id c)
       called_own = by_token ∙ by (is_initialiser id.name) refl
         where
-          base : (j : ℕ) (m : Member) → slice_get c.methods j ≡ Some m → method_in w c (length c.fields + j) ≡ m
-          base j m e = own_in c j m e
-
-          rest : List Found
-          rest = places c (length c.fields + length c.methods) (length (added w c))
-
-          none_added : starts c (first_named c id (places c (length c.fields + length c.methods) (length (added w c)))) ≡ None
-          none_added = places_none c id (length c.fields + length c.methods) 0 (omega arith) (length (added w c))
-
           found : is_initialiser id.name ≡ false → (o : Option Found) → own_method false id.name id.desc c ≡ o
-              → starts c (or_else o (first_named c id (places c (length c.fields + length c.methods) (length (added w c))))) ≡ begun (option_and_then (λ f. option_and_then (λ (hit : Hit). if is_static hit.flags then method_at p.files f else None) (method_hit (c ∷ []) f)) o)
-          found plain None is = none_added
+              → starts c o ≡ begun (option_and_then (λ f. option_and_then (λ (hit : Hit). if is_static hit.flags then method_at p.files f else None) (method_hit (c ∷ []) f)) o)
+          found plain None is = refl
           found plain (Some f) is = declared_same plain f (own_is w false id.name id.desc c f is)
 
-          by : (t : Bool) → is_initialiser id.name ≡ t → starts c (first_named c id (methods_of_class w c)) ≡ begun (if t then None else entry_in p.files id c)
-          by true init = ap (starts c) (initialiser_none c id init (length c.fields) c.methods base (places c (length c.fields + length c.methods) (length (added w c)))) ∙ none_added
-          by false plain = ap (starts c) (written_first c id plain (length c.fields) c.methods base (places c (length c.fields + length c.methods) (length (added w c))) ∙ ap (λ o. or_else o (first_named c id (places c (length c.fields + length c.methods) (length (added w c))))) (own_same c id)) ∙ found plain (own_method false id.name id.desc c) refl
+          by : (t : Bool) → is_initialiser id.name ≡ t → starts c (if t then None else own_method false id.name id.desc c) ≡ begun (if t then None else entry_in p.files id c)
+          by true init = refl
+          by false plain = found plain (own_method false id.name id.desc c) refl
 
     -- Each method that a script calls begins as by name.
     pub called_same : (id : MemberId) → called (loaded p) id ≡ begun (entry_named p.files w id)

@@ -102,7 +102,7 @@ find_there {A = A} test (z ∷ xs) (suc k) x e is = by (test z) (find_there test
 
 -- ---- virtual methods of export files
 
-export_virtual : (m : ExportMethod) → (is_initialiser m.name ≡ true → is_static m.flags ≡ true) → exports.is_virtual m ≡ is_virtual (method_of_export m)
+pub export_virtual : (m : ExportMethod) → (is_initialiser m.name ≡ true → is_static m.flags ≡ true) → exports.is_virtual m ≡ is_virtual (method_of_export m)
 export_virtual m plain = by (is_static m.flags) (is_private m.flags) (is_constructor m.name) (is_initialiser m.name) plain
   where
     by : (s q c i : Bool) → (i ≡ true → s ≡ true) → not (s || q || c) ≡ ((not q && not s) && not (c || i))
@@ -113,12 +113,12 @@ export_virtual m plain = by (is_static m.flags) (is_private m.flags) (is_constru
     by false false false false h = refl
     by false false false true h = let no_way = h refl in absurd (cc)
 
-export_at : (ms : List ExportMethod) (k : ℕ) (m : ExportMethod) → slice_get ms k ≡ Some m → slice_get (map method_of_export ms) k ≡ Some (method_of_export m)
+pub export_at : (ms : List ExportMethod) (k : ℕ) (m : ExportMethod) → slice_get ms k ≡ Some m → slice_get (map method_of_export ms) k ≡ Some (method_of_export m)
 export_at [] k m e = absurd (cc)
 export_at (n ∷ ms) zero m e = let same : n ≡ m = cc in ap (λ q. Some (method_of_export q)) same
 export_at (n ∷ ms) (suc k) m e = export_at ms k m e
 
-export_from : (ms : List ExportMethod) (k : ℕ) (m : Member) → slice_get (map method_of_export ms) k ≡ Some m → (x : ExportMethod) × (slice_get ms k ≡ Some x) × (method_of_export x ≡ m)
+pub export_from : (ms : List ExportMethod) (k : ℕ) (m : Member) → slice_get (map method_of_export ms) k ≡ Some m → (x : ExportMethod) × (slice_get ms k ≡ Some x) × (method_of_export x ≡ m)
 export_from [] k m e = absurd (cc)
 export_from (n ∷ ms) zero m e = (n, refl, cc)
 export_from (n ∷ ms) (suc k) m e = export_from ms k m e
@@ -263,7 +263,7 @@ module _ (p : Package) (facts : Facts p) where
       by (Some o) own k h rest = ap (λ (q : Signature). Outward (event name q)) (say.0 o own)
 
   -- its initialisers are static
-  abbrev IsPlain : ExportClass → Type 0
+  abbrev pub IsPlain : ExportClass → Type 0
   IsPlain e = (k : ℕ) (m : ExportMethod) → slice_get e.methods k ≡ Some m → is_initialiser m.name ≡ true → is_static m.flags ≡ true
 
   -- the class of a method and the class of an export file say the same
@@ -277,7 +277,7 @@ module _ (p : Package) (facts : Facts p) where
     abbrev line : List Class
     line = c ∷ kins.upwards (kin w c.supers)
 
-    has : HasEntry p c
+    pub has : HasEntry p c
     has = facts.file x c is import
 
     own_supers : (y : List ℕ) (d : Class) → Lists y c.supers → class_named w y ≡ Some d → d.is_imported ≡ true
@@ -326,7 +326,7 @@ module _ (p : Package) (facts : Facts p) where
     abbrev ups : List ExportClass
     ups = upwards es has.entry.supers
 
-    entry_plain : IsPlain has.entry
+    pub entry_plain : IsPlain has.entry
     entry_plain k m e init =
         let file = facts.in_file x c is import in
         let same : map method_of_export has.entry.methods ≡ map method_of_export file.1.methods = sym (ap (λ (q : Class). q.methods) has.class) ∙ ap (λ (q : Class). q.methods) file.3 in

@@ -1,24 +1,24 @@
 mod Extents
 mod Held
 mod Fitting
-mod Called
+pub mod Called
 mod Objects
-mod Knowing
-mod Ids
-mod Written
-mod Known
-mod Reached
-mod Tokens
-mod Receivers
-mod Found
-mod Towers
-mod Files
-mod Facts
-mod Kins
+pub mod Knowing
+pub mod Ids
+pub mod Written
+pub mod Known
+pub mod Reached
+pub mod Tokens
+pub mod Receivers
+pub mod Found
+pub mod Towers
+pub mod Files
+pub mod Facts
+pub mod Kins
 mod Tables
-mod Offsets
+pub mod Offsets
 mod HeadersRead
-mod Begins
+pub mod Begins
 mod Orders
 mod Words
-mod Placed
+pub mod Placed

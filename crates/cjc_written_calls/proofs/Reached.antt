@@ -146,7 +146,7 @@ module _ (p : Package) (facts : Facts p) (subtypes : KeepsSubtypes (world p)) (t
   -- ---- calls of methods of interfaces
 
   module _ (m : MemberId) (i : Class) (k : ℕ) (known : class_named w m.class ≡ Some i) (interface_here : is_interface i.flags ≡ true) (plain : is_initialiser m.name ≡ false) (placed : position (λ s. same s (signature m)) (interface_methods w i) ≡ Some k) where
-    token_is : n.interface_token m ≡ k
+    pub token_is : n.interface_token m ≡ k
     token_is = ap (token_in_interface w (signature m)) known ∙ ap or_zero placed
 
     method_there : slice_get (interface_methods w i) (n.interface_token m) ≡ Some (signature m)
@@ -157,7 +157,7 @@ module _ (p : Package) (facts : Facts p) (subtypes : KeepsSubtypes (world p)) (t
         ∙ ap (λ x. Some (record { name = x; desc = r.0.desc })) (bytes_tell r.0.name m.name two.0)
         ∙ ap (λ x. Some (record { name = m.name; desc = x })) (bytes_tell r.0.desc m.desc two.1)
 
-    says_interface : (x : List ℕ) (c : Class) → class_named w x ≡ Some c → is_interface c.flags ≡ false → is_subtype w x m.class ≡ true → SaysInterface w n m c
+    pub says_interface : (x : List ℕ) (c : Class) → class_named w x ≡ Some c → is_interface c.flags ≡ false → is_subtype w x m.class ≡ true → SaysInterface w n m c
     says_interface x c e not_interface sub = record {
       interface = i;
       among = subtypes.implements x m.class c i e not_interface known interface_here sub;

@@ -1,0 +1,6 @@
+mod Operations
+mod Objects
+mod Order
+mod Tokens
+mod Found
+mod Sent
