@@ -1,0 +1,48 @@
+//! What an instruction asks of the machine.
+
+ghost use Rattle.std.specs.Prelude.{◌≡◌, ℕ};
+ghost use Rattle.cjc_card_frame.specs.Frames.{Words};
+ghost use Rattle.cjc_card_deeds.specs.Deeds.{Keeps, MemoryByToken, effect_of, halted};
+
+use cjc_card_parts::Callee;
+use cjc_frame::Exception;
+use cjc_script::Value;
+
+/// The words of a result; of an int the high one first.
+#[derive(Clone, Copy)]
+pub enum Returned {
+    Nothing,
+    Word(Value),
+    Int(i32, i32),
+}
+
+/// What an instruction asks of the machine, beside what it has changed itself.
+#[derive(Clone, Copy)]
+pub enum Deed<'a> {
+    /// Words and memory are as the instruction leaves them.
+    Go,
+    Raise(Exception),
+    /// An array or object is thrown, by its number.
+    Toss(u32),
+    Invoke(Callee<'a>),
+    Leave(Returned),
+    /// Nothing that applies.
+    Stick,
+}
+
+/// Why an instruction goes no further.
+#[derive(Clone, Copy)]
+pub enum Halt {
+    Raise(Exception),
+    Stick,
+}
+
+/// It raises an exception, or nothing applies.
+pub(crate) fn deed_of<'a>(halt: Halt) -> Deed<'a>
+    ensures { (next : ℕ) (w : Words) (m : MemoryByToken) → (effect_of result next w m ≡ halted halt) × Keeps result w w m m }
+{
+    match halt {
+        Halt::Raise(exception) => Deed::Raise(exception),
+        Halt::Stick => Deed::Stick,
+    }
+}
