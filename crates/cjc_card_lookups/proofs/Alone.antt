@@ -1,12 +1,12 @@
 -- A group of one package: what its class_refs mean.
 use Rattle.std.proofs.Common.{◌≡◌, ℕ, zero, suc, ◌+◌, List, [], ◌∷◌, length, refl, sym, ap, ◌∙◌, arith, Option, Some, None}
 use Rattle.std.specs.Prelude.{option_map, option_and_then, slice_get, is_some, if◌then◌else◌}
-use Rattle.cjc_capread.specs.declared.tree.ClassRef.TheVariants.{Inside, Outside}
+use Rattle.cjc_capread.specs.declared.tree.ClassRef.TheVariants.{Outside}
 use Rattle.cjc_capread.specs.declared.tree.StaticRef.TheVariants as statics
 use Rattle.cjc_export.specs.declared.tree.ExportClass.{ExportClass}
 use Rattle.cjc_export.specs.declared.tree.ExportTree.{ExportTree}
-use Rattle.cjc_card.specs.Loaded.{Import, OfFile, Loaded}
-use Rattle.cjc_card.specs.Classes.{Class, Own, Foreign, class_of, imported_class, with_token}
+use Rattle.cjc_card.specs.Loaded.{OfFile}
+use Rattle.cjc_card.specs.Classes.{Foreign, class_of, imported_class, with_token}
 use Rattle.cjc_card.specs.Operations.{static_cell, cell_through}
 use Rattle.cjc_card_lookups.specs.declared.part.Part.{Part}
 use Rattle.cjc_card_lookups.specs.Exported.{exported_class}

@@ -1,11 +1,10 @@
 -- Classes of export files, kept one by one under their names, and found by token.
-use Rattle.std.proofs.Common.{◌≡◌, ℕ, ◌+◌, List, [], ◌∷◌, refl, sym, ap, ◌∙◌, Bool, true, false, Option, Some, None}
+use Rattle.std.proofs.Common.{◌≡◌, ℕ, List, [], ◌∷◌, refl, ap, ◌∙◌, Bool, true, false, Option, Some, None}
 use Rattle.std.specs.Prelude.{option_map, if◌then◌else◌, ◌==◌}
 use Rattle.std.specs.List.{find}
 use Rattle.std.specs.Str.{bytes_eq}
 use Rattle.cjc_export.specs.declared.tree.ExportClass.{ExportClass}
-use Rattle.cjc_export.specs.declared.tree.ExportTree.{ExportTree}
-use Rattle.cjc_card.specs.Classes.{Class, Foreign, or_else, token_named, foreign_from, with_token}
+use Rattle.cjc_card.specs.Classes.{Class, Foreign, or_else, token_named, with_token}
 use Rattle.cjc_card_heap.specs.declared.class.Class.{Class as ClassData}
 use Rattle.cjc_card_heap.specs.Objects.{class_of}
 use Rattle.cjc_card_lookups.proofs.OrElse.{or_map}

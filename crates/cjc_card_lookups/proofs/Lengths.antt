@@ -14,7 +14,7 @@ use Rattle.cjc_card.specs.Methods.{is_class_at, method_among, described, bytes_f
 use Rattle.cjc_card_lookups.specs.declared.indices.Numbers.{Numbers}
 use Rattle.cjc_card_lookups.specs.Indices.{number_under}
 use Rattle.cjc_card_lookups.proofs.OrElse.{note_more}
-use Rattle.cjc_card_lookups.specs.Described.{is_class_ref, bytes_of, bytes_in, bytes_among, started, AreSmall}
+use Rattle.cjc_card_lookups.specs.Described.{is_class_ref, bytes_of, bytes_among, started, AreSmall}
 
 -- one method, then the others
 by_test : (b : Bool) (m : MethodDescriptor) (rest : Option MethodDescriptor)

@@ -1,5 +1,5 @@
 -- The first place where a test holds, counted from a number on.
-use Rattle.std.proofs.Common.{◌≡◌, ℕ, suc, ◌+◌, List, [], ◌∷◌, refl, sym, ap, ◌∙◌, Bool, true, false, arith, Option, Some, None}
+use Rattle.std.proofs.Common.{◌≡◌, ℕ, suc, ◌+◌, List, ◌∷◌, refl, ap, Bool, true, false, arith, Option, Some, None}
 use Rattle.std.specs.Prelude.{option_map, if◌then◌else◌}
 use Rattle.cjc_card.specs.Classes.{or_else}
 use Rattle.cjc_card_lookups.specs.Indices.{first_place}

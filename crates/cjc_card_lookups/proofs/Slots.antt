@@ -1,5 +1,5 @@
 -- The slots of a class, put down token by token.
-use Rattle.std.proofs.Common.{◌≡◌, ℕ, suc, ◌+◌, ◌-◌, ◌<◌, List, [], ◌∷◌, ◌++◌, refl, sym, ap, ◌∙◌, arith, map, append_assoc}
+use Rattle.std.proofs.Common.{◌≡◌, ℕ, suc, ◌+◌, ◌-◌, ◌<◌, List, [], ◌∷◌, ◌++◌, sym, ap, ◌∙◌, arith, map, append_assoc}
 use Rattle.std.proofs.lemmas.List.{map-append}
 use Rattle.cjc_bytecode.specs.Effects.{Slot}
 use Rattle.cjc_capread.specs.declared.tree.ClassEntry.{ClassEntry}

@@ -1,24 +1,32 @@
 //! What is kept of a package for all look-ups, and what is found in it at once: classes, their supers and their names.
 
-ghost use Rattle.std.specs.Prelude.{◌≡◌, ◌<◌, ◌≤◌, ◌^◌, ◌==◌, ℕ, List, length, option_map, option_and_then, slice_get, map, IfOk};
+ghost use Rattle.std.specs.Prelude.{◌≡◌, ◌<◌, ◌+◌, ◌*◌, ◌^◌, ℕ, List, length, option_map, IfOk};
 ghost use Rattle.std.specs.Option.{option_copied};
 ghost use Rattle.std.specs.Str.{bytes_eq};
 ghost use Rattle.cjc_card.specs.Classes.{class_of as class_by_ref, foreign, foreign_named, info_of, superclass};
+ghost use Rattle.cjc_sentences.specs.Complete.{class_info_size};
 ghost use Rattle.cjc_card_heap.specs.Objects.{class_of};
+ghost use Rattle.cjc_card_lookups.specs.Group.{alone};
 ghost use Rattle.cjc_card_lookups.specs.Infos.{info_by};
 ghost use Rattle.cjc_card_lookups.specs.Indices.{first_place, place_under};
 ghost use Rattle.cjc_card_lookups.specs.Tables.{AreKept, loaded_of};
 
+use crate::described::lengths;
 use crate::exported::Exported;
 use crate::indices::{Numbers, Places};
 use crate::infos::{Info, Infos};
 use crate::names::ClassNames;
 use crate::part::Part;
 use cjc_bytes::NoMemory;
-use cjc_capread::ClassRef;
+use cjc_capread::{ClassRef, Method};
 use cjc_card_heap::Class;
-use cjc_export::ExportClass;
+use cjc_export::{ExportClass, ExportTree};
 use std::alloc::Global;
+
+// More handlers and more export files than there are.
+const TOO_MANY_HANDLERS: usize = 1 << 28;
+
+const TOO_MANY_FILES: usize = 1 << 32;
 
 /// A package, the export files that it imports, and tables made once.
 pub(crate) struct Tables<'a> {
@@ -59,7 +67,53 @@ fn places_of<'a>(alloc: Global, classes: &'a [ClassNames]) -> Result<Places<'a>,
     Ok(places)
 }
 
+// Where methods begin, behind the number of handlers and the handlers. No memory is there for 2^28 of them.
+fn begin_of(method: &Method) -> Result<u32, NoMemory>
+    ensures { IfOk result (λ begin. begin ≡ 1 + 8 * length method.now.handlers) }
+{
+    let count = method.handlers.items().len();
+    if count >= TOO_MANY_HANDLERS {
+        return Err(NoMemory);
+    }
+    Ok(1 + 8 * count as u32)
+}
+
+// The classes of export files. No memory is there for 2^32 of these.
+fn exported_of<'a>(alloc: Global, trees: &'a [ExportTree]) -> Result<Exported<'a>, NoMemory>
+    ensures { IfOk result (λ e. e ≡ trees.now) }
+{
+    if trees.len() >= TOO_MANY_FILES {
+        return Err(NoMemory);
+    }
+    Exported::new(alloc, trees)
+}
+
 impl<'a> Tables<'a> {
+    /// The tables of a package and of the export files that it imports, in the order of Import.
+    pub(crate) fn new(
+        alloc: Global,
+        part: Part<'a>,
+        trees: &'a [ExportTree],
+    ) -> Result<Tables<'a>, NoMemory>
+        requires { class_info_size part.class.now < 2 ^ 32 }
+        ensures kept { IfOk result (λ t. AreKept t) }
+        ensures of { IfOk result (λ t. loaded_of t ≡ alone part.entry trees.now) }
+    {
+        let begin = begin_of(part.method)?;
+        let infos = Infos::new(alloc, part.class)?;
+        let lengths = lengths(alloc, &infos, part.descriptor)?;
+        let exported = exported_of(alloc, trees)?;
+        let own = places_of(alloc, part.classes)?;
+        Ok(Tables {
+            part,
+            begin,
+            infos,
+            lengths,
+            exported,
+            own,
+        })
+    }
+
     /// The info at an offset of a package.
     pub(crate) fn info(&self, part: u32, offset: u64) -> Option<Info<'a>>
         requires { AreKept self.now }

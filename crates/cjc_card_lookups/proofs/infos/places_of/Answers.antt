@@ -1,7 +1,6 @@
 use Rattle.std.proofs.Common.{◌∙◌, ap, refl, get_or}
 use Rattle.std.specs.Prelude.{◌==◌, if◌then◌else◌, Some, None}
 use Rattle.cjc_card.specs.Classes.{or_else}
-use Rattle.cjc_card_lookups.specs.Indices.{first_place}
 use Rattle.cjc_card_lookups.proofs.OrElse.{note_more, note_all}
 use Rattle.cjc_card_lookups.proofs.Places.{place_from, place_step, place_first}
 use Rattle.cjc_card_lookups.proofs.infos.places_of.Goals as goal
