@@ -5,3 +5,4 @@ pub mod Infos
 pub mod Described
 pub mod Exported
 pub mod Tables
+pub mod Walks

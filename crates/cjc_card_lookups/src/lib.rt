@@ -4,6 +4,7 @@
 #![tactic(auto)]
 
 mod described;
+mod dispatch;
 mod entries;
 mod exported;
 mod fresh;
