@@ -1,6 +1,7 @@
 -- What data of methods, calls and static cells stands for, and what the entries of a package's constant pool name.
-use Rattle.std.specs.Prelude.{ℕ, List, [], Option, Some, None, option_map, slice_get}
+use Rattle.std.specs.Prelude.{◌≡◌, ℕ, List, [], Option, Some, None, option_map, slice_get}
 use Rattle.cjc_bytes.specs.declared.fault.MemberId.{MemberId}
+use Rattle.cjc_capread.specs.Decode.{Instruction, decode}
 use Rattle.cjc_capread.specs.declared.tree.PoolEntry.{PoolEntry}
 use Rattle.cjc_capread.specs.declared.tree.PoolEntry.TheVariants.{InstanceFieldref, StaticFieldref}
 use Rattle.cjc_bytecode.specs.Machine.{Start, Reached}
@@ -66,6 +67,12 @@ cell_of s = record { part = s.part; offset = s.offset }
 -- a static cell with its name
 abbrev pub cell_name_of : CellNameData → CellName
 cell_name_of c = record { offset = c.offset; id = c.id }
+
+-- ---- instructions
+
+-- It stands at the front of some bytes.
+abbrev pub IsDecoded : Instruction → Type 0
+IsDecoded i = (bytes : List ℕ) × (decode bytes ≡ Some i)
 
 -- ---- what entries name
 

@@ -12,7 +12,7 @@ ghost use Rattle.cjc_card.specs.Calls.{words, reached, called, sent, imported, t
 ghost use Rattle.cjc_card.specs.ByToken.{shown_fields};
 ghost use Rattle.cjc_card_frame.specs.Frames.{fault_of};
 ghost use Rattle.cjc_card_heap.specs.Objects.{class_of, field_of, shape_of, slot_by};
-ghost use Rattle.cjc_card_parts.specs.Kinds.{code_of, start_of, callee_of, reached_of, cell_of, cell_name_of, pool_of, field_by, cell_by, cells_of};
+ghost use Rattle.cjc_card_parts.specs.Kinds.{code_of, start_of, callee_of, reached_of, cell_of, cell_name_of, pool_of, field_by, cell_by, cells_of, IsDecoded};
 
 use crate::kinds::{Callee, CellName, Code, Reached, Start, StaticCell};
 use cjc_bytes::{MemberId, NoMemory, Row};
@@ -40,7 +40,8 @@ pub trait LookUps {
     /// The instruction at an offset, where all of it lies in its method's code.
     fn insn_at(&self, code: Code, at: u32) -> Option<Insn<'_>>
         ensures is { option_map (fetched_as (loaded self.now) code.part (pool_of (loaded self.now) code.part) at) (option_map instruction_of result) ≡ fetch (loaded self.now) (code_of code) at }
-        ensures within { IfSome result (λ i. at + i.size ≤ code.end) };
+        ensures within { IfSome result (λ i. at + i.size ≤ code.end) }
+        ensures decoded { IfSome result (λ i. IsDecoded (instruction_of i)) };
 
     /// The class that an entry of the pool names.
     fn class_entry(&self, part: u32, index: i32) -> Option<Class>

@@ -1,0 +1,104 @@
+-- Where infos begin, one behind the other.
+use Rattle.std.proofs.Common.{◌≡◌, ℕ, zero, suc, ◌+◌, ◌*◌, ◌<◌, ◌≤◌, ◌^◌, List, [], ◌∷◌, ◌++◌, length, refl, sym, ap, ◌∙◌, Bool, true, false, arith, Option, Some, None}
+use Rattle.std.specs.Prelude.{◌==◌, map, sum_by, option_map, slice_get, if◌then◌else◌, IfSome}
+use Rattle.std.proofs.lemmas.Bool.Decides.{nat_tests}
+use Rattle.std.proofs.lemmas.List.Sums.{sum_by-cons, sum_by-append}
+use Rattle.cjc_capread.specs.declared.tree.ClassInfo.{ClassInfo}
+use Rattle.cjc_capread.specs.declared.tree.ClassEntry.{ClassEntry}
+use Rattle.cjc_capread.specs.declared.tree.InterfaceEntry.{InterfaceEntry}
+use Rattle.cjc_capread.specs.declared.tree.ImplementedInterface.{ImplementedInterface}
+use Rattle.cjc_sentences.specs.Spots.{placed, starts}
+use Rattle.cjc_sentences.specs.Complete.{interface_size, class_size, map_size, class_info_size}
+use Rattle.cjc_sentences.specs.Classes.{first_class}
+use Rattle.cjc_card.specs.Classes.{Info, IsInterface, IsClass, info_size, map_sizes, number_from, offset_from}
+use Rattle.cjc_card_lookups.specs.Indices.{first_place}
+use Rattle.cjc_card_lookups.specs.Infos.{infos_in}
+
+map_bytes : (maps : List ImplementedInterface) → sum_by map_size maps ≡ map_sizes maps
+map_bytes [] = refl
+map_bytes (m ∷ maps) = sum_by-cons map_size m maps ∙ ap (λ n. 3 + length m.index + n) (map_bytes maps)
+
+class_bytes : (c : ClassEntry) → class_size c ≡ info_size (IsClass c)
+class_bytes c = ap (λ n. 10 + 2 * length c.public_methods + 2 * length c.package_methods + n) (map_bytes c.interfaces)
+
+behind : (at : ℕ) (i : InterfaceEntry) (entries : List InterfaceEntry) → at + interface_size i + sum_by interface_size entries ≡ at + sum_by interface_size (i ∷ entries)
+behind at i entries = let s = sum_by-cons interface_size i entries in omega (arith, s)
+
+of_interfaces : (at : ℕ) (entries : List InterfaceEntry) (more : List Info) (next : List ℕ)
+    → starts info_size (at + sum_by interface_size entries) more ≡ next
+    → starts info_size at (map IsInterface entries ++ more) ≡ starts interface_size at entries ++ next
+unfolding placed
+of_interfaces at [] more next e = ap (λ n. starts info_size n more) (omega arith) ∙ e
+of_interfaces at (i ∷ entries) more next e =
+    ap (λ (ns : List ℕ). at ∷ ns) (of_interfaces (at + interface_size i) entries more next (ap (λ n. starts info_size n more) (behind at i entries) ∙ e))
+
+of_classes : (at : ℕ) (entries : List ClassEntry) → starts info_size at (map IsClass entries) ≡ starts class_size at entries
+unfolding placed
+of_classes at [] = refl
+of_classes at (c ∷ entries) =
+    ap (λ (ns : List ℕ). at ∷ ns) (ap (λ n. starts info_size (at + n) (map IsClass entries)) (sym (class_bytes c)) ∙ of_classes (at + class_size c) entries)
+
+pub all_starts : (class : ClassInfo) → starts interface_size 2 class.interfaces ++ starts class_size (first_class class) class.classes ≡ starts info_size 2 (infos_in class)
+all_starts class = sym (of_interfaces 2 class.interfaces (map IsClass class.classes) _ (of_classes (first_class class) class.classes))
+
+pub number_place : (at : ℕ) (infos : List Info) (offset : ℕ) → first_place (λ n. n == offset) (starts info_size at infos) ≡ number_from at infos offset
+unfolding placed
+number_place at [] offset = refl
+number_place at (i ∷ infos) offset = ap (λ (o : Option ℕ). if at == offset then Some 0 else option_map suc o) (number_place (at + info_size i) infos offset)
+
+pub offset_place : (at : ℕ) (infos : List Info) (n : ℕ) → slice_get (starts info_size at infos) n ≡ offset_from at infos n
+unfolding placed
+offset_place at [] n = refl
+offset_place at (i ∷ infos) zero = refl
+offset_place at (i ∷ infos) (suc n) = offset_place (at + info_size i) infos n
+
+pub starts_count : (at : ℕ) (infos : List Info) → length (starts info_size at infos) ≡ length infos
+unfolding placed
+starts_count at [] = refl
+starts_count at (i ∷ infos) = ap suc (starts_count (at + info_size i) infos)
+
+-- ---- offsets are below the component's size
+
+none_is_some : {A : Type 0} (k : A) → None ≡ Some k → ⊥
+none_is_some k e = cc
+
+below_by : (b : Bool) (at x k size rest : ℕ) (later : Option ℕ) → ((at == x) ≡ b) → ((m : ℕ) → later ≡ Some m → x ≤ at + size + rest)
+    → (if b then Some 0 else option_map suc later) ≡ Some k → x ≤ at + (size + rest)
+below_by true at x k size rest later is go e = let same : at ≡ x = grind (arith, nat_tests) in omega (arith, same)
+below_by false at x k size rest None is go e = absurd (none_is_some k e)
+below_by false at x k size rest (Some m) is go e = let h = go m refl in omega (arith, h)
+
+below : (at : ℕ) (infos : List Info) (x k : ℕ) → number_from at infos x ≡ Some k → x ≤ at + sum_by info_size infos
+below at [] x k e = absurd (none_is_some k e)
+below at (i ∷ infos) x k e =
+    let s = sum_by-cons info_size i infos in
+    let h = below_by (at == x) at x k (info_size i) (sum_by info_size infos) (number_from (at + info_size i) infos x) refl (λ m f. below (at + info_size i) infos x m f) e in
+    omega (arith, s, h)
+
+interface_sums : (entries : List InterfaceEntry) → sum_by info_size (map IsInterface entries) ≡ sum_by interface_size entries
+interface_sums [] = refl
+interface_sums (i ∷ entries) = sum_by-cons info_size (IsInterface i) (map IsInterface entries) ∙ ap (λ n. interface_size i + n) (interface_sums entries) ∙ sym (sum_by-cons interface_size i entries)
+
+class_sums : (entries : List ClassEntry) → sum_by info_size (map IsClass entries) ≡ sum_by class_size entries
+class_sums [] = refl
+class_sums (c ∷ entries) =
+    sum_by-cons info_size (IsClass c) (map IsClass entries)
+    ∙ ap (λ n. info_size (IsClass c) + n) (class_sums entries)
+    ∙ ap (λ n. n + sum_by class_size entries) (sym (class_bytes c))
+    ∙ sym (sum_by-cons class_size c entries)
+
+pub offset_below : (c : ClassInfo) (x k : ℕ) → class_info_size c < 2 ^ 32 → number_from 2 (infos_in c) x ≡ Some k → x < 2 ^ 32
+offset_below c x k small e =
+    let a = sum_by-append info_size (map IsInterface c.interfaces) (map IsClass c.classes) in
+    let i = interface_sums c.interfaces in
+    let s = class_sums c.classes in
+    let h = below 2 (infos_in c) x k e in
+    omega (arith, a, i, s, h, small)
+
+pub offset_is_small : (c : ClassInfo) (x : ℕ) (r : Option ℕ) → class_info_size c < 2 ^ 32 → r ≡ number_from 2 (infos_in c) x → IfSome r (λ n. x < 2 ^ 32)
+offset_is_small c x None small e = tt
+offset_is_small c x (Some k) small e = offset_below c x k small (sym e)
+
+pub where_some : {A P : Type 0} (r : Option A) → P → IfSome r (λ a. P)
+where_some None h = tt
+where_some (Some a) h = h

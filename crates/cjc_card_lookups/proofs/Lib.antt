@@ -1,0 +1,8 @@
+pub mod OrElse
+pub mod Places
+pub mod InfoPlaces
+pub mod Lengths
+pub mod ByName
+pub mod Alone
+pub mod Fetched
+pub mod Slots

@@ -1,0 +1,19 @@
+//! Look-ups by token over the components of a package and the export files that it imports: what instructions, scripts and
+//! reports ask of them, found by tables that are made once. Called by who runs components; it knows no frame that runs, and
+//! not how names came to components.
+#![tactic(auto)]
+
+mod described;
+mod dispatch;
+mod entries;
+mod exported;
+mod fresh;
+mod indices;
+mod infos;
+mod names;
+mod part;
+mod starts;
+mod tables;
+
+pub use names::{ClassNames, FieldName, MethodName};
+pub use part::Part;
