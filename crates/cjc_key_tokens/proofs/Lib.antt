@@ -1,2 +1,6 @@
-pub mod Places
-pub mod Found
+mod Kept
+mod Lines
+mod Walked
+mod Here
+mod Listed
+mod Next

@@ -1,1 +1,2 @@
-pub mod Found
+-- What the code and its proofs keep for themselves; a reader of the contracts may pass over it.
+pub mod Walks

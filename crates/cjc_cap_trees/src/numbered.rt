@@ -1,0 +1,25 @@
+//! The class_refs of a package's classes by their numbers.
+
+ghost use Rattle.std.specs.Prelude.{◌≡◌, map, IfOk};
+ghost use Rattle.cjc_class_info.specs.Refs.{ref_of};
+
+use cjc_bytes::{NoMemory, Row};
+use cjc_capread::ClassRef;
+use cjc_class_info::ClassRefs;
+use cjc_classfile::ClassTree;
+use std::alloc::Global;
+
+/// The class_ref of each class of the package by its number.
+pub(crate) fn refs_by_number(
+    alloc: Global,
+    classes: &[ClassTree<'_>],
+    refs: &ClassRefs,
+) -> Result<Row<ClassRef>, NoMemory>
+    ensures { IfOk result (λ row. row ≡ map (λ c. ref_of refs.now c.name) classes.now) }
+{
+    let mut row = Row::new(alloc);
+    for class in classes {
+        row.push(refs.named(class.name.items()))?;
+    }
+    Ok(row)
+}
