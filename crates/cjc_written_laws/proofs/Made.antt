@@ -17,6 +17,7 @@ use Rattle.cjc_classfile.specs.Code.{CodeTree}
 use Rattle.cjc_classfile.specs.Fits as fits
 use Rattle.cjc_classfile.specs.declared.tree.ClassTree.{ClassTree}
 use Rattle.cjc_classfile.specs.declared.tree.MethodTree.{MethodTree}
+use Rattle.cjc_code.specs.Decoded.{of_code, of_method}
 use Rattle.cjc_code.specs.PackageCodes.{all_codes}
 use Rattle.cjc_code.specs.declared.method_code.MethodCode.{MethodCode}
 use Rattle.cjc_code_promises.specs.Made.{AllAreMade, IsMade}
@@ -32,20 +33,18 @@ use Rattle.cjc_layout.proofs.Places.{all_wide}
 use Rattle.cjc_layout.specs.Layouts.{IsWhole}
 use Rattle.cjc_list.specs.Listed.{ListTree}
 use Rattle.cjc_lower.specs.Naming.{Naming}
-use Rattle.cjc_methods.proofs.Laid.{all_whole}
-use Rattle.cjc_methods.proofs.Own.{tree_at}
-use Rattle.cjc_methods.proofs.Placing.{placed}
 use Rattle.cjc_methods.specs.Ready.{AreReady, AreRows, IsOwn}
-use Rattle.cjc_methods.specs.Working.Places.{HasNone, HasPlace, IsPlaced, class_places, place_in}
 use Rattle.cjc_narrow.specs.Selected.{near_fields}
 use Rattle.cjc_prepared.proofs.Sound.{are_ready}
 use Rattle.cjc_select_laws.specs.Keeps.{FindsItself}
 use Rattle.cjc_types.specs.declared.state.State.{State}
 use Rattle.cjc_types.specs.Flow.{body_of}
 use Rattle.cjc_types.specs.Tables.{IsLeastTable, IsMethodOf}
+use Rattle.cjc_types.specs.declared.table.TypeTable.{TypeTable}
+use Rattle.cjc_vtable.proofs.Numbers.{at-tree}
 use Rattle.cjc_whole.proofs.Drafts.{rows_agree}
 use Rattle.cjc_whole.proofs.Ordered.{all_own}
-use Rattle.cjc_world.specs.Classes.{Class, all_classes, class_at, declared}
+use Rattle.cjc_world.specs.Classes.{all_classes, class_at, declared}
 use Rattle.cjc_world.specs.Files.{Files}
 use Rattle.cjc_world.specs.Order.{method_order}
 use Rattle.cjc_world.specs.declared.found.Found.{Found}
@@ -53,6 +52,7 @@ use Rattle.cjc_written_calls.specs.Standing.{IsSmall}
 use Rattle.cjc_written_laws.specs.Converted.{IsConverted}
 use Rattle.cjc_written_laws.proofs.Files.{own_unbroken, read_files, same_files}
 use Rattle.cjc_written_laws.proofs.Ordering.{IsOrdered, ordered_by}
+use Rattle.cjc_written_laws.proofs.Places.{coded_there}
 
 -- ---- lists
 
@@ -110,14 +110,20 @@ module _ (list : ListTree) (files : List (List ℕ)) (judged : Judged) (p : Pack
   own_at : (k : ℕ) (m : LaidMethod) → slice_get p.methods k ≡ Some m → IsOwn p.files m.member
   own_at k m e = all_in (IsOwn p.files) (method_order (world p)) k m.member owned (member_at k m e)
 
+  -- what is selected can be laid out
+  abbrev pub WholeLaw : Type 0
+  WholeLaw =
+      (w : Files) (insns : List MethodCode) (types : List TypeTable) → AreReady w insns types → (states : Method → List (Option State)) → AreRows w insns types states
+      → (fields : List MemberId) (members : List Found) → All (IsOwn w) members → All IsWhole (map (code_at w fields states) members)
+
   -- jumps and handlers lead to what is written, which is no longer than the widest count
-  pub whole_at : (k : ℕ) (m : LaidMethod) → slice_get p.methods k ≡ Some m → IsWhole m.code
-  whole_at k m e =
+  pub whole_at : WholeLaw → (k : ℕ) (m : LaidMethod) → slice_get p.methods k ≡ Some m → IsWhole m.code
+  whole_at law k m e =
       let w = written_at k m e in
       let there : slice_get (map (code_at p.files near rows) (method_order (world p))) k ≡ Some m.code =
       slice_get-map (code_at p.files near rows) (method_order (world p)) k ∙ ap (option_map (code_at p.files near rows)) (member_at k m e) ∙ ap Some (sym w.code) in
       all_in IsWhole (map (code_at p.files near rows) (method_order (world p))) k m.code
-      (all_whole p.files judged.codes judged.types own_ready rows own_rows near (method_order (world p)) owned) there
+      (law p.files judged.codes judged.types own_ready rows own_rows near (method_order (world p)) owned) there
 
   -- 415
   pub short_at : (k : ℕ) (m : LaidMethod) → slice_get p.methods k ≡ Some m → (let code = m.code in code.widest ≤ 32767)
@@ -161,8 +167,8 @@ module _ (list : ListTree) (files : List (List ℕ)) (judged : Judged) (p : Pack
       f = m.member
 
       -- the class file of its class
-      abbrev t : (u : ClassTree) × (let w = p.files in slice_get w.classes f.class ≡ Some u) × ((c : Class) → class_at (all_classes p.files) f.imported f.class ≡ Some c → c ≡ declared f.class u)
-      t = tree_at p.files m.member (own_at k m e)
+      abbrev t : (u : ClassTree) × (let w = p.files in slice_get w.classes f.class ≡ Some u) × ((own_at k m e).class ≡ declared f.class u)
+      t = at-tree p.files m.member.class (own_at k m e).class (ap (λ b. class_at (all_classes p.files) b f.class) (sym (own_at k m e).own) ∙ (own_at k m e).is_class)
 
       abbrev i : ℕ
       i = f.member - length (let u = t.0 in u.fields)
@@ -173,31 +179,31 @@ module _ (list : ListTree) (files : List (List ℕ)) (judged : Judged) (p : Pack
           ∙ ap (option_and_then (method_in f.member)) g
           ∙ ap (option_map (λ (y : MethodTree). method_by u y y.code)) h
 
-      with_code : (q : ℕ) → HasPlace p.files judged.codes f.class i q → IsMade n p.files m
-      with_code q h =
-          let same : h.class ≡ t.0 = (let both = sym h.is_class ∙ t.1 in cc) in
-          let here : slice_get (let c = h.class in c.methods) (f.member - length (let c = h.class in c.fields)) ≡ Some h.method = ap (λ (c : ClassTree). slice_get (let d = h.class in d.methods) (f.member - length c.fields)) same ∙ h.is_method in
-          let named : method_at p.files f ≡ Some (method_by h.class h.method (Some h.tree)) = at_tree h.class (Some h.method) h.is_class here ∙ ap (λ o. Some (method_by h.class h.method o)) h.is_tree in
-          let listed : Contains (all_codes (let w = p.files in w.classes)) h.code = contained (all_codes (let w = p.files in w.classes)) q h.code (sym (ap (λ cs. slice_get cs q) own_ready.codes_are) ∙ h.is_code) in
-          is_coded m (written_at k m e) h.code h.class h.method h.tree h.is_own named
-          (own_ready.found f.class i h.class h.method h.is_class h.is_method)
-          (is.is_package.spelt.least h.code h.class h.method h.tree listed h.is_own)
-          (some_bytes f.class i h.class h.method h.tree h.is_class h.is_method h.is_tree)
+      with_code : (x : MethodTree) (tree : CodeTree) → slice_get (let u = t.0 in u.methods) i ≡ Some x → x.code ≡ Some tree → IsMade n p.files m
+      with_code x tree g h =
+          let d = own_ready.decoded f.class i t.0 x tree t.1 g h in
+          let code : MethodCode = record { class = f.class; method = i; insns = d.insns } in
+          let of : IsMethodOf p.files code t.0 x tree = record { is_class = t.1; is_method = g; is_code = h; bytes = d.bytes; insns = ap (of_method t.0) g ∙ ap (of_code t.0 x) h ∙ d.decodes } in
+          let named : method_at p.files f ≡ Some (method_by t.0 x (Some tree)) = at_tree t.0 (Some x) t.1 g ∙ ap (λ o. Some (method_by t.0 x o)) h in
+          let place = coded_there 0 (let w = p.files in w.classes) f.class i t.0 x tree d.insns t.1 g h d.decodes in
+          let number : 0 + f.class ≡ f.class = omega arith in
+          let listed : Contains (all_codes (let w = p.files in w.classes)) code = contained (all_codes (let w = p.files in w.classes)) place.0 code (place.1 ∙ ap (λ k. Some (record { class = k; method = i; insns = d.insns })) number) in
+          is_coded m (written_at k m e) code t.0 x tree of named
+          (own_ready.found f.class i t.0 x t.1 g)
+          (is.is_package.spelt.least code t.0 x tree listed of)
+          (some_bytes f.class i t.0 x tree t.1 g h)
           (can k m e)
 
-      without_code : HasNone p.files f.class i → IsMade n p.files m
-      without_code none = go (slice_get (let u = t.0 in u.methods) i) refl
-        where
-          go : (o : Option MethodTree) → slice_get (let u = t.0 in u.methods) i ≡ o → IsMade n p.files m
-          go None h = is_added m (written_at k m e) (at_tree t.0 None t.1 h)
-          go (Some x) h = is_bare m (written_at k m e) t.0 x (at_tree t.0 (Some x) t.1 h ∙ ap (λ o. Some (method_by t.0 x o)) (none t.0 x t.1 h))
-
-      by_place : (o : Option ℕ) → IsPlaced p.files judged.codes f.class i o → IsMade n p.files m
-      by_place None none = without_code none
-      by_place (Some q) h = with_code q h
-
       one_made : IsMade n p.files m
-      one_made = by_place (place_in (class_places 0 (let w = p.files in w.classes)) f.class i) (placed p.files judged.codes judged.types f.class i t.0 own_ready t.1)
+      one_made = go (slice_get (let u = t.0 in u.methods) i) refl
+        where
+          by : (x : MethodTree) → slice_get (let u = t.0 in u.methods) i ≡ Some x → (o : Option CodeTree) → x.code ≡ o → IsMade n p.files m
+          by x g None h = is_bare m (written_at k m e) t.0 x (at_tree t.0 (Some x) t.1 g ∙ ap (λ o. Some (method_by t.0 x o)) h)
+          by x g (Some tree) h = with_code x tree g h
+
+          go : (o : Option MethodTree) → slice_get (let u = t.0 in u.methods) i ≡ o → IsMade n p.files m
+          go None g = is_added m (written_at k m e) (at_tree t.0 None t.1 g)
+          go (Some x) g = by x g x.code refl
 
     pub all_made : AllAreMade n p.files p.methods
     all_made = one_made
@@ -216,8 +222,8 @@ module _ (list : ListTree) (files : List (List ℕ)) (judged : Judged) (p : Pack
       let b = sum_by-cons (λ (x : LaidMethod). let code = x.code in code.widest) m ms in
       omega (arith, rest, head, wide, size, a, b)
 
-  pub is_small : IsSmall p
-  is_small =
-      let few = sizes_few p.methods whole_at in
+  pub is_small : WholeLaw → IsSmall p
+  is_small law =
+      let few = sizes_few p.methods (whole_at law) in
       let all : widest_method p ≤ 65535 = method_counted p is.sizes in
       omega (arith, few, all)

@@ -40,6 +40,7 @@ use cjc_code_promises::{
 use cjc_judge_laws::pooled_methods_are_emittable;
 use cjc_layout::order_changes_no_search;
 use cjc_lower::runs_agree;
+use cjc_methods::methods_can_be_laid_out;
 use cjc_tables_by_token::{
     class_tables_agree, classes_keep_rules, fields_are_typed, memories_begin_alike,
     tables_agree_by_parts,
@@ -92,6 +93,7 @@ pub fn converted_methods_are_consistent()
 {
     classes_keep_rules();
     converted_methods_are_emittable();
+    methods_can_be_laid_out();
     made_methods_are_consistent();
     packages_have_their_methods();
     written_methods_are_made();
@@ -102,6 +104,7 @@ pub fn converted_methods_are_ready()
     ensures { (list : ListTree) (files : List (List ℕ)) (judged : Judged) (p : Package) → IsConverted list files judged p → NamesAreThere p → AreReady p }
 {
     converted_methods_are_emittable();
+    methods_can_be_laid_out();
     pooled_methods_are_emittable();
 }
 
@@ -112,6 +115,7 @@ pub fn converted_packages_run_by_token()
         → (script : Script) (n : ℕ) → (let report = run_by_label p.files p.image (laid_code p) script n in (at : ℕ) → report.outcome ≢ Stuck at) → run_by_token (loaded p) script n ≡ run_by_label p.files p.image (laid_code p) script n }
 {
     converted_methods_are_ready();
+    methods_can_be_laid_out();
     order_changes_no_search();
     runs_agree();
     methods_are_placed();

@@ -26,7 +26,7 @@ made c list files judged p is =
     (λ m w code class method tree of e finds least some can. law.selected (names p) p.files near rows m w code class method tree of e finds least some can)
 
 pub returns-clause-small : goal.returns-clause-small
-returns-clause-small c = is_small
+returns-clause-small c = λ list files judged p is. is_small list files judged p is c.methods_can_be_laid_out.ensures
 
 pub returns-clause-classes : goal.returns-clause-classes
 returns-clause-classes c = λ list files judged p is. c.classes_keep_rules.ensures.order list.name p (files_sound list files judged p is)

@@ -18,7 +18,7 @@ returns c = λ list files judged p is there k m e.
     let made = has_pool judged.world (tokens p) (codes p) in
     let named = (c.converted_methods_are_emittable.ensures.each list files judged is.sound (shaped_for p) p shaped pool made k m e).named in
     let w = written_at list files judged p is k m e in
-    let whole = whole_at list files judged p is k m e in
+    let whole = whole_at list files judged p is c.methods_can_be_laid_out.ensures k m e in
     let can = (c.pooled_methods_are_emittable.ensures.emittable list files judged (is_tested list files judged is.sound) (has_applets p) (codes p) pool (pooled list files judged is.sound (shaped_for p) p shaped pool made)
     (naming p) (record { index = λ key i f. named.index key i f; token = λ id t f. named.token id t f }) k m.code (slice_get-map (λ (x : LaidMethod). x.code) p.methods k ∙ ap (option_map (λ (x : LaidMethod). x.code)) e)
     (layout_for m.code m.wide) (layout_is m.code m.wide w.wide) (short_at list files judged p is k m e)).written in
