@@ -6,13 +6,13 @@ mod Objects
 mod Knowing
 mod Ids
 mod Written
-mod Known
+pub mod Known
 mod Reached
 mod Tokens
 mod Receivers
 mod Found
 mod Towers
-mod Files
+pub mod Files
 mod Facts
 mod Kins
 mod Tables
@@ -21,4 +21,5 @@ mod HeadersRead
 mod Begins
 mod Orders
 mod Words
+mod Got
 mod Placed

@@ -78,9 +78,9 @@ pub data IsNamed (w : List Class) : Callee → Type 0 where
 
 -- ---- words of arguments
 
--- What the rules of names promise of the words that a call takes: it names a method by a method's descriptor, a static one without receiver, and a virtual one that its class has itself.
+-- What the rules of names promise of the words that a call takes: it names a method by a method's descriptor, and a static one without receiver.
 pub data TakesWords (w : List Class) : Callee → Type 0 where
   fixed_words : {on : Bool} {m : MemberId} (s : sorts.Signature) → sorts.signature_of m.desc ≡ Some s → on ≡ not (is_static (flags_of (method_found w m))) → TakesWords w (Fixed on m)
-  virtual_words : {m : MemberId} (s : sorts.Signature) → sorts.signature_of m.desc ≡ Some s → (f : Found) → selection w m.class (signature m) ≡ Some f → TakesWords w (OnObject m)
+  virtual_words : {m : MemberId} (s : sorts.Signature) → sorts.signature_of m.desc ≡ Some s → TakesWords w (OnObject m)
   super_words : {m : MemberId} (s : sorts.Signature) → sorts.signature_of m.desc ≡ Some s → TakesWords w (OnSuper m)
   interface_words : {words : ℕ} {m : MemberId} → TakesWords w (OnInterface words m)
