@@ -81,7 +81,7 @@ one_later q before all k (Inside o) e = ⊎_elim (λ h. inl (last (q.at == o) h)
         inl (ap (λ n. n == o || begins before o) here ∙ ap (λ b. b || begins before o) (same_number o))
     at (suc j) x lt f g = inr (j, x, omega (arith, lt), f, g)
 
-turned : (before all : List (Placed ClassEntry)) (q : Placed ClassEntry) → reverse (q ∷ all) ++ before ≡ reverse all ++ (q ∷ before)
+pub turned : (before all : List (Placed ClassEntry)) (q : Placed ClassEntry) → reverse (q ∷ all) ++ before ≡ reverse all ++ (q ∷ before)
 turned before all q = ap (λ xs. xs ++ before) (reverse-append (q ∷ []) all) ∙ append_assoc (reverse all) (q ∷ []) before
 
 good_turned : (all before : List (Placed ClassEntry)) → IsGood before → ((k : ℕ) (q : Placed ClassEntry) → slice_get all k ≡ Some q → IsEarlier before all k (let x = q.item in x.superclass)) → IsGood (reverse all ++ before)
@@ -102,7 +102,7 @@ above_turned (q ∷ all) before (suc k) (Inside o) e = subst (IsAbove (Inside o)
 
 -- ---- items by their places
 
-placed_at : {A X : Type 0} (size : A → ℕ) (from : ℕ) (f : X → A) (xs : List X) (k : ℕ) (q : Placed A) → slice_get (placed size from (map f xs)) k ≡ Some q → (x : X) × (slice_get xs k ≡ Some x) × (q.item ≡ f x)
+pub placed_at : {A X : Type 0} (size : A → ℕ) (from : ℕ) (f : X → A) (xs : List X) (k : ℕ) (q : Placed A) → slice_get (placed size from (map f xs)) k ≡ Some q → (x : X) × (slice_get xs k ≡ Some x) × (q.item ≡ f x)
 unfolding placed
 placed_at size from f [] k q e = absurd (cc)
 placed_at {A = A} size from f (x ∷ xs) zero q e =

@@ -1,14 +1,15 @@
-mod Lists
+pub mod Lists
 mod Types
 mod Nibbles
-mod Refs
+pub mod Refs
 mod Offsets
-mod There
-mod Earlier
-mod Supers
+pub mod There
+pub mod Earlier
+pub mod Supers
 mod Installs
 mod Tabled
-mod Leaving
+pub mod Leaving
 mod Listing
 mod Exporting
 mod Counting
+mod Wholes

@@ -49,6 +49,11 @@ pub fn table_entries_are_method_starts()
         → table_spots (whole p) ≡ [] }
 {}
 
+/// An imported interface has the methods that its export file lists, each once.
+pub fn imported_interfaces_are_whole()
+    ensures { (list : List ℕ) (p : Package) → IsSound list p.files → ImportsAreWhole p }
+{}
+
 /// Each map of an interface has an index for each token that Descriptor gives a method of it, or, of an imported one,
 /// for each method that its export file lists.
 pub fn maps_are_long_enough()

@@ -142,7 +142,7 @@ module _ (p : Package) where
       ap (λ x. has_field (whole p) (exports_of p) (ref_to x) (field_token p f)) of.named ∙ or_second (describes_field (whole p) (Outside of.file c.token) (field_token p f)) (class_has_field (exports_of p) (imported (exports_of p) of.file c.token) (field_token p f)) listed
 
   -- a class_ref outside is no class of the package
-  outside_has : (items : List (Placed ClassEntry)) (import class token : ℕ) → has_token items (exports_of p) (Outside import class) token ≡ in_imported (exports_of p) (Outside import class) token
+  pub outside_has : (items : List (Placed ClassEntry)) (import class token : ℕ) → has_token items (exports_of p) (Outside import class) token ≡ in_imported (exports_of p) (Outside import class) token
   unfolding has_token
   outside_has [] import class token = refl
   outside_has (x ∷ items) import class token = outside_has items import class token

@@ -34,7 +34,7 @@ use Rattle.cjc_written_calls.proofs.Kins.{name_is}
 
 -- ---- names and members in lists
 
-lists_one : (y : List ℕ) (xs : List (List ℕ)) → Lists y xs → is_one_of xs y ≡ true
+pub lists_one : (y : List ℕ) (xs : List (List ℕ)) → Lists y xs → is_one_of xs y ≡ true
 lists_one y [] h = elim h [ ]
 lists_one y (x ∷ xs) foremost = ap (λ t. t || is_one_of xs y) (bytes_same y)
 lists_one y (x ∷ xs) (after h) = by (bytes_eq x y) (lists_one y xs h)
@@ -73,10 +73,15 @@ methods_back : (m : Member) (cs ds : List Class) → In m (all_methods ds) → I
 methods_back m [] ds h = h
 methods_back m (c ∷ cs) ds h = in_back m c.methods (all_methods (cs ++ ds)) (methods_back m cs ds h)
 
-in_at : (ms : List Member) (k : ℕ) (m : Member) → slice_get ms k ≡ Some m → In m ms
+pub in_at : (ms : List Member) (k : ℕ) (m : Member) → slice_get ms k ≡ Some m → In m ms
 in_at [] k m e = absurd (cc)
 in_at (n ∷ ms) zero m e = let same : n ≡ m = cc in subst (λ q. In m (q ∷ ms)) (sym same) first_of
 in_at (n ∷ ms) (suc k) m e = later (in_at ms k m e)
+
+pub place_in : (ms : List Member) (m : Member) → In m ms → (k : ℕ) × (slice_get ms k ≡ Some m)
+place_in [] m i = elim i [ ]
+place_in (n ∷ ms) m first_of = (0, refl)
+place_in (n ∷ ms) m (later i) = let r = place_in ms m i in (suc r.0, r.1)
 
 pub position_has : {A : Type 0} (test : A → Bool) (xs : List A) (i : ℕ) (d : A) → position test xs ≡ Some i → (x : A) × (slice_get xs i ≡ Some x) × (test x ≡ true)
 position_has test xs i d e =

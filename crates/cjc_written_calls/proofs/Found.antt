@@ -102,7 +102,7 @@ module _ (w : List Class) where
       by true r = let z : at + 1 + i ≡ at + suc i = omega arith in (r.0, r.1 ∙ ap (λ n. Some (member_at c n)) z)
       by false r = let z : at + 1 + i ≡ at + suc i = omega arith in (suc r.0, r.1 ∙ ap (λ n. Some (member_at c n)) z)
 
-  turn_has : (f : Found) (cs : List Class) (k : ℕ) (c : Class) → slice_get cs k ≡ Some c → list_any (is_same f) (methods_of_class w c) ≡ true → list_any (is_same f) (methods_in_turn w cs) ≡ true
+  pub turn_has : (f : Found) (cs : List Class) (k : ℕ) (c : Class) → slice_get cs k ≡ Some c → list_any (is_same f) (methods_of_class w c) ≡ true → list_any (is_same f) (methods_in_turn w cs) ≡ true
   turn_has f [] k c e any = absurd (cc)
   turn_has f (d ∷ cs) zero c e any =
       let same : d ≡ c = cc in
@@ -115,7 +115,7 @@ module _ (w : List Class) where
       by false h = h
 
   -- a class of the order that is no interface stands among the classes
-  among_classes : (is cs : List Class) (k : ℕ) (c : Class) → ((j : ℕ) (d : Class) → slice_get is j ≡ Some d → is_interface d.flags ≡ true) → slice_get (is ++ cs) k ≡ Some c → is_interface c.flags ≡ false → (j : ℕ) × (slice_get cs j ≡ Some c)
+  pub among_classes : (is cs : List Class) (k : ℕ) (c : Class) → ((j : ℕ) (d : Class) → slice_get is j ≡ Some d → is_interface d.flags ≡ true) → slice_get (is ++ cs) k ≡ Some c → is_interface c.flags ≡ false → (j : ℕ) × (slice_get cs j ≡ Some c)
   among_classes [] cs k c all e class_here = (k, e)
   among_classes (i ∷ is) cs zero c all e class_here =
       let same : i ≡ c = cc in

@@ -122,7 +122,7 @@ module _ (list : List ℕ) (p : Package) (sound : IsSound list p.files) where
       let r = export_found es y e h in
       (r.0, ap (class_named w) (sym r.2) ∙ own_name list p.files sound (imported r.0 e) (import_in p.files sound.classes sound.exports r.0 e r.1))
 
-  in_file : (y : List ℕ) (d : Class) → class_named w y ≡ Some d → d.is_imported ≡ true → (k : ℕ) × (e : ExportClass) × (exports.class_named es y ≡ Some e) × (d ≡ imported k e)
+  pub in_file : (y : List ℕ) (d : Class) → class_named w y ≡ Some d → d.is_imported ≡ true → (k : ℕ) × (e : ExportClass) × (exports.class_named es y ≡ Some e) × (d ≡ imported k e)
   in_file y d e import =
       let f = import_filed p.files sound.classes sound.exports d (has_named w y d e) import in
       let name : f.1.name ≡ y = sym (ap (λ (q : Class). q.name) f.3) ∙ name_is w y d e in

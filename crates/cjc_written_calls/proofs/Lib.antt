@@ -21,4 +21,5 @@ mod HeadersRead
 pub mod Begins
 mod Orders
 mod Words
+mod Got
 pub mod Placed

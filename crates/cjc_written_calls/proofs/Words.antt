@@ -1,5 +1,5 @@
 -- Calls take as many words by token as by name.
-use Rattle.std.proofs.Common.{◌≡◌, ℕ, ◌+◌, ◌-◌, refl, sym, ap, ◌∙◌, arith, Bool, true, false, List, [], ◌∷◌, length}
+use Rattle.std.proofs.Common.{◌≡◌, ℕ, ◌+◌, ◌-◌, refl, sym, ap, ◌∙◌, arith, Bool, true, false, List, [], ◌∷◌, length, ⊎_elim}
 use Rattle.std.specs.Prelude.{Option, Some, None, slice_get, option_map, option_and_then, not, if◌then◌else◌}
 use Rattle.cjc_bytes.specs.AccessFlags.{is_interface, is_private, is_static}
 use Rattle.cjc_bytes.specs.declared.fault.MemberId.{MemberId}
@@ -11,6 +11,7 @@ use Rattle.cjc_by_token.specs.Supers.{SaysKinds}
 use Rattle.cjc_calls_by_token.specs.Dispatching.{event, selection_of}
 use Rattle.cjc_calls_by_token.specs.Reaching.{BeginsAtOffsets, SaysSuper, StandsInMethod, is_in_method}
 use Rattle.cjc_calls_by_token.specs.Selecting.{signature}
+use Rattle.cjc_calls_by_token.proofs.Dispatch.{dispatch_agrees}
 use Rattle.cjc_card.specs.Calls as card
 use Rattle.cjc_card.specs.Dispatch.{At, Outward, dispatched, tower}
 use Rattle.cjc_card.specs.Methods.{Code, start_of}
@@ -29,7 +30,10 @@ use Rattle.cjc_ncode.specs.declared.narrow.NMethod.{NMethod}
 use Rattle.cjc_ncode.specs.ByLabel.{Callee, Fixed, OnObject, OnSuper}
 use Rattle.cjc_script.specs.Sorts.{Signature, signature_of}
 use Rattle.cjc_tables_by_token.specs.Loading.{loaded, naming}
+use Rattle.cjc_slot_laws.specs.Meant.{PackageTokensMean, TokensMean}
 use Rattle.cjc_tokens.specs.Lines.{line_of}
+use Rattle.cjc_tokens.specs.Members.{Signature as Sign}
+use Rattle.cjc_tokens.specs.Slots.{slots, token}
 use Rattle.cjc_vtable.specs.Calls.{finds_hidden}
 use Rattle.cjc_vtable.specs.Laws.{itself, selection}
 use Rattle.cjc_world.specs.declared.found.Found.{Found}
@@ -37,18 +41,19 @@ use Rattle.cjc_world.specs.Classes.{Class, Member, class_at, class_named}
 use Rattle.cjc_world.specs.Files.{Files}
 use Rattle.cjc_world.specs.Kin.{kin, line, upwards}
 use Rattle.cjc_world.specs.Lookup.{first, member_at, or_else, own_method, receiver, selected}
-use Rattle.cjc_written_calls.specs.Calls.{ExportsKeep, IsNamed, IsSought, KeepsSubtypes, KeepsTokens, TakesWords, fixed, fixed_words, on_interface, on_object, on_super, super_words, virtual_words}
+use Rattle.cjc_written_calls.specs.Calls.{ExportsKeep, IsNamed, IsSought, KeepsSubtypes, KeepsTokens, TakesWords, fixed, fixed_words, got, hidden, on_interface, on_object, on_super, shown, super_words, virtual_words}
 use Rattle.cjc_written_calls.specs.Standing.{AreMethods, AreReady, ClassesStand, HaveOwnIds, place}
 use Rattle.cjc_written_calls.proofs.Facts.{Facts}
 use Rattle.cjc_written_calls.proofs.Files.{and_true}
-use Rattle.cjc_written_calls.proofs.Found.{Own, first_own, line_named, own_is}
+use Rattle.cjc_written_calls.proofs.Found.{Own, first_own, line_named, own_is, stands_in_method}
+use Rattle.cjc_written_calls.proofs.Got.{Got, Holder, got_in_method, got_is, got_words, holder, shown_is}
 use Rattle.cjc_written_calls.proofs.Held.{FormsLaw, OffsetsLaw}
 use Rattle.cjc_written_calls.proofs.Kins.{name_is}
 use Rattle.cjc_written_calls.proofs.Offsets.{added_starts, place_has, stood, stood_has}
 use Rattle.cjc_written_calls.proofs.Reached.{agrees, find_first, fixed_is, hidden_own, super_class, super_says}
 use Rattle.cjc_written_calls.proofs.Receivers.{first_step, found_stands, line_found}
-use Rattle.cjc_written_calls.proofs.Tokens.{token_says}
-use Rattle.cjc_written_calls.proofs.Towers.{class_stands, line_is}
+use Rattle.cjc_written_calls.proofs.Tokens.{dispatched_shown, token_says}
+use Rattle.cjc_written_calls.proofs.Towers.{class_stands, height_fits, line_is}
 
 -- ---- what is written
 
@@ -103,7 +108,16 @@ module _ (p : Package) (facts : Facts p) where
 abbrev pub Counts : Package → (at : Method → Placed) → Type 0
 Counts p at = (f : Found) (k : Method) → is_in_method (world p) f ≡ true → method_at p.files f ≡ Some k → (let q = at k in nargs_of q.method) ≡ argument_words (flags_of (method_found (world p) k.id)) (let id = k.id in id.desc)
 
-module _ (p : Package) (facts : Facts p) (subtypes : KeepsSubtypes (world p)) (tokens : KeepsTokens (world p)) (keep : ExportsKeep p) (kinds : SaysKinds (world p) (naming p)) (at : Method → Placed) (begins : BeginsAtOffsets p.files (world p) (naming p) (method_offset p) at) (counts : Counts p at) where
+-- a method that its class got begins with the words of its descriptor
+abbrev pub AddedCount : Package → Type 0
+AddedCount p = (f : Found) → f.imported ≡ false → is_in_method (world p) f ≡ true → method_at p.files f ≡ None → (s : Start Code) × (start_of (loaded p) 0 (method_offset p f) ≡ Some s) × (s.nargs ≡ added_words (world p) f (class_at (world p) f.imported f.class))
+
+-- what a class got has no code of a class file
+abbrev pub GotNoCode : Package → Type 0
+GotNoCode p = (d : Class) → class_named (world p) d.name ≡ Some d → d.is_imported ≡ false → (s : Sign) (f : Found) → Got (world p) d s f → method_at p.files f ≡ None
+
+module _ (p : Package) (facts : Facts p) (subtypes : KeepsSubtypes (world p)) (tokens : KeepsTokens (world p)) (keep : ExportsKeep p) (kinds : SaysKinds (world p) (naming p)) (at : Method → Placed) (begins : BeginsAtOffsets p.files (world p) (naming p) (method_offset p) at) (counts : Counts p at)
+    (added_count : AddedCount p) (no_code : GotNoCode p) (mean : TokensMean (world p)) (mean_here : PackageTokensMean (world p)) where
   abbrev w : List Class
   w = world p
 
@@ -167,13 +181,59 @@ module _ (p : Package) (facts : Facts p) (subtypes : KeepsSubtypes (world p)) (t
       let two = and_true (not (is_private o.method.flags)) (not (is_static o.method.flags)) o.wanted in
       found_words true m s sig z true d.0 d.1 f o (found_stands p facts true m.name m.desc plain x c known class_here f sel) (λ is. sym two.1)
 
-  virtual_taken : (m : MemberId) (d : Class) → class_named w m.class ≡ Some d → is_interface d.flags ≡ false → is_initialiser m.name ≡ false → IsSought w m → (s : Signature) → signature_of m.desc ≡ Some s → (f : Found) → selection w m.class (signature m) ≡ Some f
+  selected_virtual : (m : MemberId) (d : Class) → class_named w m.class ≡ Some d → is_interface d.flags ≡ false → is_initialiser m.name ≡ false → IsSought w m → (s : Signature) → signature_of m.desc ≡ Some s → (f : Found) → selection w m.class (signature m) ≡ Some f
       → card.words (loaded p) (callee n (OnObject m)) ≡ Some (words_with true m)
-  virtual_taken m d known class_here plain sought s sig f sel =
+  selected_virtual m d known class_here plain sought s sig f sel =
       let stands = class_stands p facts m.class d known class_here in
       let calls = agrees p facts subtypes tokens keep kinds at begins m.class d known class_here in
-      ap (card.words_of (loaded p) true) (calls.virtual_call m d f known itself (token_says p tokens m d known (hidden_own p facts subtypes tokens keep kinds at begins m.class d (signature m) known) sought) sel (line_found p facts true m.name m.desc m.class f sel))
+      ap (card.words_of (loaded p) true) (calls.virtual_call m d f known itself (token_says p tokens m d known class_here (hidden_own p facts subtypes tokens keep kinds at begins m.class d (signature m) known) sought) sel (line_found p facts true m.name m.desc m.class f sel))
       ∙ selected_taken m.class m d known class_here plain s sig stands.foot f sel
+
+  -- the method of a token: one that a class declares, or got
+  held_words : (m : MemberId) → is_initialiser m.name ≡ false → (s : Signature) → signature_of m.desc ≡ Some s → (z : List ℕ) (f : Found) → (f.imported ≡ false → Holder p facts (signature m) f) → card.words_of (loaded p) true (selection_of n (method_offset p) z (signature m) f) ≡ Some (words_with true m)
+  held_words m plain s sig z f holds = by f.imported refl
+    where
+      told : f.imported ≡ false → card.words_of (loaded p) true (At 0 (method_offset p f)) ≡ Some (words_with true m)
+      told here =
+          let h = holds here in
+          let d = h.class in
+          ⊎_elim
+          (λ e. (let o = shown_is w d (signature m) f e in
+          let two = and_true (not (is_private o.method.flags)) (not (is_static o.method.flags)) o.wanted in
+          let i = facts.own d.name d h.known h.own_class in
+          sym (ap (λ t. card.words_of (loaded p) true (if t then Outward (event z (signature m)) else At 0 (method_offset p f))) here)
+          ∙ found_words true m s sig z true d h.known f o (λ here_too. ap (is_in_method w) o.is ∙ stands_in_method w i.number d i.ordered h.class_here h.own_class o.place o.method o.there (ap is_initialiser o.name_is ∙ plain)) (λ is. sym two.1)))
+          (λ e. (let g = got_is w d (signature m) f e in
+          let r = added_count f here (got_in_method p facts d h.known h.own_class h.class_here (signature m) f g) (no_code d h.known h.own_class (signature m) f g) in
+          ap (option_map (λ (q : Start Code). q.nargs)) r.1 ∙ ap Some r.2 ∙ ap Some (got_words p facts d h.known h.own_class h.class_here (signature m) f g)))
+          h.has
+
+      by : (t : Bool) → f.imported ≡ t → card.words_of (loaded p) true (if t then Outward (event z (signature m)) else At 0 (method_offset p f)) ≡ Some (words_with true m)
+      by true is = event_words true m s sig
+      by false is = told is
+
+  got_taken : (m : MemberId) (d : Class) → class_named w m.class ≡ Some d → is_interface d.flags ≡ false → is_initialiser m.name ≡ false → (t : ℕ) → token (slots (line_of w m.class)) (signature m) ≡ Some t → finds_hidden (line_of w m.class) (signature m) ≡ false → (s : Signature) → signature_of m.desc ≡ Some s
+      → card.words (loaded p) (callee n (OnObject m)) ≡ Some (words_with true m)
+  got_taken m d known class_here plain t e none s sig =
+      let r = mean m.class d known (signature m) t e in
+      let stands = class_stands p facts m.class d known class_here in
+      let agree = dispatch_agrees w facts.is_kin facts.one_kin n (method_offset p) facts.low kinds stands.height m.class stands.foot stands.tower (height_fits p facts m.class d known stands) in
+      ap (λ q. card.words_of (loaded p) true (dispatched (tower (loaded p) (n.class m.class)) q)) (dispatched_shown p tokens m d known class_here none t e)
+      ∙ ap (card.words_of (loaded p) true) (agree.open_method t r.method (signature m) r.by_token r.name)
+      ∙ held_words m plain s sig stands.foot r.method (λ here. holder p facts (signature m) r.method here m.class d known class_here r.nearest)
+
+  virtual_taken : (m : MemberId) (d : Class) → class_named w m.class ≡ Some d → is_interface d.flags ≡ false → is_initialiser m.name ≡ false → IsSought w m → (s : Signature) → signature_of m.desc ≡ Some s → card.words (loaded p) (callee n (OnObject m)) ≡ Some (words_with true m)
+  virtual_taken m d known class_here plain (shown finds none) s sig =
+      let calls = facts.virtual_calls m.class m.class d known itself in
+      let t = calls.open_method (signature m) finds in
+      let r = mean m.class d known (signature m) t.0 t.1 in
+      selected_virtual m d known class_here plain (shown finds none) s sig r.method (sym t.2 ∙ r.by_token)
+  virtual_taken m d known class_here plain (hidden finds) s sig =
+      let calls = facts.virtual_calls m.class m.class d known itself in
+      let t = calls.package_method (signature m) finds in
+      let r = mean_here m.class d known (signature m) t.0 t.1 in
+      selected_virtual m d known class_here plain (hidden finds) s sig r.method (sym t.2 ∙ r.by_token)
+  virtual_taken m d known class_here plain (got t e none selects) s sig = got_taken m d known class_here plain t e none s sig
 
   super_taken : (m : MemberId) (c d : Class) (super : List ℕ) (known : class_named w m.class ≡ Some c) (own : c.is_imported ≡ false) (class_here : is_interface c.flags ≡ false) (supers : c.supers ≡ super ∷ []) (super_is : class_named w super ≡ Some d) (plain : is_initialiser m.name ≡ false)
       (sought : IsSought w (of_class super m)) (alike : finds_hidden (line_of w m.class) (signature m) ≡ finds_hidden (line_of w super) (signature m))
@@ -212,7 +272,7 @@ module _ (p : Package) (facts : Facts p) (subtypes : KeepsSubtypes (world p)) (t
   words_taken m (on_object {m = id} d known class_here plain sought) takes k h = by takes
     where
       by : TakesWords w (OnObject id) → card.words (loaded p) (callee n (OnObject id)) ≡ Some k
-      by (virtual_words s sig f sel) = virtual_taken id d known class_here plain sought s sig f sel ∙ ap Some (taken true id k (method_found w id) h)
+      by (virtual_words s sig) = virtual_taken id d known class_here plain sought s sig ∙ ap Some (taken true id k (method_found w id) h)
   words_taken m (on_super {m = id} c d super known own class_here supers super_is plain sought alike) takes k h = by takes
     where
       by : TakesWords w (OnSuper id) → card.words (loaded p) (callee n (OnSuper id)) ≡ Some k

@@ -47,6 +47,7 @@ ghost use Rattle.cjc_written_calls.specs.Calls.{ExportsKeep, IsNamed, KeepsSubty
 ghost use Rattle.cjc_written_calls.specs.Standing.{AreMethods, AreReady, IsSmall, place};
 
 use cjc_layout::layouts_are_laid_out;
+use cjc_slot_laws::tokens_mean_methods;
 use cjc_tables_by_token::classes_are_told;
 use cjc_vtable::{dispatch_laws, token_laws};
 use cjc_world::lookup_laws;
@@ -106,7 +107,8 @@ pub fn calls_reach()
 }
 
 /// Each call takes by token as many words of arguments as it takes by name: by the header of the method where it is one
-/// of the package, by the descriptor of an imported one, and an interface's by its operand.
+/// of the package, of one that its class got from an interface too, by the descriptor of an imported one, and an
+/// interface's by its operand.
 pub fn calls_take_words<T>()
     ensures { (list : List ℕ) (tree : ListTree) (codes : List MethodCode) (rows : Method → List (Option T)) (p : Package) → IsSound list p.files → IsPackage tree p.files codes rows p → AreReady p → IsSmall p → Keeps (world p) → KeepsSubtypes (world p) → KeepsTokens (world p) → ExportsKeep p
         → (m : Callee) → IsNamed (world p) m → TakesWords (world p) m → (k : ℕ) → words p.files (world p) m ≡ Some k → (let n = naming p in Calls.words n.loaded (callee n m) ≡ Some k) }
@@ -116,6 +118,7 @@ pub fn calls_take_words<T>()
     token_laws();
     lookup_laws();
     classes_are_told();
+    tokens_mean_methods();
 }
 
 /// A method that a class of the package declares is the one that Descriptor lists under its name and descriptor, and has

@@ -1,9 +1,11 @@
 use Rattle.cjc_components.specs.Package.{world}
+use Rattle.cjc_vtable.proofs.Numbers.{named-number}
 use Rattle.cjc_written_calls.specs.Standing.{place}
+use Rattle.cjc_written_calls.proofs.Got.{got_no_code}
 use Rattle.cjc_written_calls.proofs.Ids.{own_ids}
 use Rattle.cjc_written_calls.proofs.Known.{classes_stand, facts}
 use Rattle.cjc_written_calls.proofs.Offsets.{methods_begin}
-use Rattle.cjc_written_calls.proofs.Words.{counts_from, words_taken}
+use Rattle.cjc_written_calls.proofs.Words.{added_begins, counts_from, words_taken}
 use Rattle.cjc_written_calls.proofs.Written.{methods_are, methods_fit}
 use Rattle.cjc_written_calls.proofs.calls_take_words.Goals as goal
 
@@ -12,6 +14,7 @@ returns g c = λ list tree codes rows p sound is ready small keeps subtypes toke
     let acyclic = keeps.rules.acyclic in
     let laws = c.lookup_laws.ensures in
     let dispatch = c.dispatch_laws.ensures in
+    let meant = c.tokens_mean_methods.ensures in
     let forms = c.layouts_are_laid_out.ensures.forms in
     let offsets = c.layouts_are_laid_out.ensures.offsets in
     let methods = methods_are tree p.files codes rows p is in
@@ -19,3 +22,5 @@ returns g c = λ list tree codes rows p sound is ready small keeps subtypes toke
     let stand = classes_stand list p sound in
     let known = facts list p sound (methods_fit p small) keep keeps (laws.is_kin (world p) acyclic) (laws.one_kin (world p)) (dispatch.virtual_calls (world p) keeps.rules) (dispatch.interface_calls (world p) keeps.rules keeps.interfaces) (c.token_laws.ensures (world p) keeps.rules) in
     words_taken p known subtypes tokens keep (c.classes_are_told.ensures.kinds list p sound) (place p) (methods_begin forms offsets p ready methods ids stand) (counts_from tree p.files codes rows p is forms offsets ready methods ids stand)
+    (λ f own inside none. (let r = added_begins tree p.files codes rows p is forms offsets ready methods ids stand f own inside none in (r.0, r.1, r.3)))
+    (got_no_code list p sound) (meant.public (world p) keeps.rules (named-number p.files)) (meant.package_visible (world p) keeps.rules)

@@ -1,0 +1,4 @@
+mod Listed
+mod Reached
+mod Maps
+mod Called
