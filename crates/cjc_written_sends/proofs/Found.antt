@@ -63,7 +63,7 @@ first_nothing : (own : Class → Option Found) → first own [] ≡ None
 unfolding first
 first_nothing own = refl
 
-first_front : (own : Class → Option Found) (cs ds : List Class) (f : Found) → first own cs ≡ Some f → first own (cs ++ ds) ≡ Some f
+pub first_front : (own : Class → Option Found) (cs ds : List Class) (f : Found) → first own cs ≡ Some f → first own (cs ++ ds) ≡ Some f
 unfolding first
 first_front own [] ds f e = absurd (cc)
 first_front own (c ∷ cs) ds f e = by (own c) e (first_front own cs ds f)
@@ -80,7 +80,7 @@ first_behind own c ds f e = by (own c) refl
     by None is = (f, first_step own c ds ∙ ap (λ o. lookup.or_else o (first own ds)) is ∙ e)
     by (Some g) is = (g, first_step own c ds ∙ ap (λ o. lookup.or_else o (first own ds)) is)
 
-first_after : (own : Class → Option Found) (cs ds : List Class) (f : Found) → first own ds ≡ Some f → (g : Found) × (first own (cs ++ ds) ≡ Some g)
+pub first_after : (own : Class → Option Found) (cs ds : List Class) (f : Found) → first own ds ≡ Some f → (g : Found) × (first own (cs ++ ds) ≡ Some g)
 first_after own [] ds f e = (f, e)
 first_after own (c ∷ cs) ds f e = let r = first_after own cs ds f e in first_behind own c (cs ++ ds) r.0 r.1
 
@@ -270,14 +270,14 @@ module _ (list : List ℕ) (p : Package) (sound : IsSound list p.files) (facts :
   -- ---- imported classes
 
   -- what the classes say of the first method of the name
-  record FirstOf (ds : List Class) (f : Found) : Type 0 where
-    method : Member
-    says : classes_token id ds ≡ Some (if is_virtual method then Some method.token else None)
-    sends : Sends f (is_virtual method)
-    among : In method (all_methods ds)
-    chosen_is : chosen any_method s (all_methods ds) ≡ Some method
-    names : signature_of method ≡ s
-    selected : is_virtual method ≡ true → (g : Found) × (first selects ds ≡ Some g)
+  pub record FirstOf (ds : List Class) (f : Found) : Type 0 where
+    pub method : Member
+    pub says : classes_token id ds ≡ Some (if is_virtual method then Some method.token else None)
+    pub sends : Sends f (is_virtual method)
+    pub among : In method (all_methods ds)
+    pub chosen_is : chosen any_method s (all_methods ds) ≡ Some method
+    pub names : signature_of method ≡ s
+    pub selected : is_virtual method ≡ true → (g : Found) × (first selects ds ≡ Some g)
 
   class_none : (d : Class) → finds d ≡ None → chosen any_method s d.methods ≡ None
   unfolding own_method
@@ -320,7 +320,7 @@ module _ (list : List ℕ) (p : Package) (sound : IsSound list p.files) (facts :
       by None is h rest = ap (λ c. or_else (option_map (λ (m : Member). if is_virtual m then Some m.token else None) c) (classes_token id ds)) (class_none d is) ∙ rest h
       by (Some g) is h rest = absurd (cc)
 
-  classes_some : (ds : List Class) (f : Found) → founds.AllNamed w ds → first finds ds ≡ Some f → FirstOf ds f
+  pub classes_some : (ds : List Class) (f : Found) → founds.AllNamed w ds → first finds ds ≡ Some f → FirstOf ds f
   unfolding first
   classes_some [] f all e = absurd (cc)
   classes_some (d ∷ ds) f all e = by (finds d) refl e (classes_some ds f all.1)
@@ -421,6 +421,15 @@ module _ (list : List ℕ) (p : Package) (sound : IsSound list p.files) (facts :
 
   -- ---- classes of the package
 
+  -- one step upwards on the card, where an initialiser is not described
+  pub step_up : (x super : List ℕ) (c : Class) (k : ℕ) → class_named w x ≡ Some c → c.is_imported ≡ false → (t : SaysTables w n (method_offset p) x c super)
+      → found_token n.loaded (suc (suc k)) (Some (n.class x)) id ≡ token_or (option_map (λ m. record { part = 0; method = m }) (option_map (method_descriptor p c) (if is_initialiser id.name then None else finds c))) (found_token n.loaded (suc k) (Some (n.class super)) id)
+  step_up x super c k known own t =
+      ap (λ q. found_token n.loaded (suc (suc k)) (Some q) id) t.on_card
+      ∙ ap (λ o. token_or (declared n.loaded (Own 0 t.at) id) (found_token n.loaded (suc k) o id)) (ap (superclass_by n.loaded 0) t.there ∙ t.superclass)
+      ∙ ap (λ q. token_or (declared n.loaded q id) (found_token n.loaded (suc k) (Some (n.class super)) id)) (sym t.on_card ∙ sym (ap (card_class p) (name_is w x c known)))
+      ∙ ap (λ o. token_or o (found_token n.loaded (suc k) (Some (n.class super)) id)) (declared_is p facts x c known own id)
+
   module _ (plain : is_initialiser id.name ≡ false) where
     -- a method that a class declares itself
     own_told : (x : List ℕ) (c : Class) → class_named w x ≡ Some c → c.is_imported ≡ false → is_interface c.flags ≡ false → (f : Found) → finds c ≡ Some f → Told x (Some f) (Some (described_token (record { part = 0; method = method_descriptor p c f })))
@@ -468,14 +477,10 @@ module _ (list : List ℕ) (p : Package) (sound : IsSound list p.files) (facts :
                 subst (λ t. Told x (Some f) (Some t)) (sym (hidden_described list p sound facts x c known own class_here i m there is_one not_shown r.0 (ap (token (hidden_slots (line_of w x))) names ∙ r.1)))
                 (bears sends (hidden_dispatches x c known finds_it chosen_one.0 selected r.0 r.1))
 
-    -- one step upwards on the card
     step : (x super : List ℕ) (c : Class) (k : ℕ) → class_named w x ≡ Some c → c.is_imported ≡ false → (t : SaysTables w n (method_offset p) x c super)
         → found_token n.loaded (suc (suc k)) (Some (n.class x)) id ≡ token_or (option_map (λ m. record { part = 0; method = m }) (option_map (method_descriptor p c) (finds c))) (found_token n.loaded (suc k) (Some (n.class super)) id)
     step x super c k known own t =
-        ap (λ q. found_token n.loaded (suc (suc k)) (Some q) id) t.on_card
-        ∙ ap (λ o. token_or (declared n.loaded (Own 0 t.at) id) (found_token n.loaded (suc k) o id)) (ap (superclass_by n.loaded 0) t.there ∙ t.superclass)
-        ∙ ap (λ q. token_or (declared n.loaded q id) (found_token n.loaded (suc k) (Some (n.class super)) id)) (sym t.on_card ∙ sym (ap (card_class p) (name_is w x c known)))
-        ∙ ap (λ o. token_or o (found_token n.loaded (suc k) (Some (n.class super)) id)) (declared_is p facts x c known own id)
+        step_up x super c k known own t
         ∙ ap (λ b. token_or (option_map (λ m. record { part = 0; method = m }) (option_map (method_descriptor p c) (if b then None else finds c))) (found_token n.loaded (suc k) (Some (n.class super)) id)) plain
 
     -- What is found from a class over superclasses has its token, or none where no script may send it.

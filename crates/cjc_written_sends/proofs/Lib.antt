@@ -4,3 +4,5 @@ mod Order
 mod Tokens
 mod Found
 mod Sent
+mod Interfaces
+mod Sending

@@ -1,4 +1,5 @@
--- A method that a script sends begins by token as it does by name.
+-- What a script sends, by token and by name: to arrays and objects of imported classes nothing; and what is selected
+-- begins where it stands.
 use Rattle.std.proofs.Common.{◌≡◌, ℕ, suc, refl, sym, ap, ◌∙◌, Bool, true, false, List, [], ◌∷◌}
 use Rattle.std.specs.Prelude.{Option, Some, None, is_some, option_map, option_and_then, slice_get, ◌&&◌, if◌then◌else◌}
 use Rattle.cjc_bytecode.specs.Alike.{start_as}
@@ -27,10 +28,10 @@ use Rattle.cjc_export.specs.declared.tree.ExportMethod.{ExportMethod}
 use Rattle.cjc_export.specs.Supers.{virtual_method}
 use Rattle.cjc_lower.specs.Naming.{Naming}
 use Rattle.cjc_lower.specs.Placed.{Placed, code_of, offset_of}
-use Rattle.cjc_script.specs.Sorts.{Booleans, Bytes, Shorts, Ints, Shape, OfClass, OfNumbers, OfReferences, shape_name}
+use Rattle.cjc_script.specs.Sorts.{Element, Booleans, Bytes, Shorts, Ints, Shape, OfClass, OfNumbers, OfReferences, shape_name}
 use Rattle.cjc_tables_by_token.specs.Loading.{naming}
 use Rattle.cjc_tables_by_token.specs.Sound.{IsSound}
-use Rattle.cjc_vtable.specs.Laws.{ImportedCallsAgree, Under, selection}
+use Rattle.cjc_vtable.specs.Laws.{ImportedCallsAgree, selection}
 use Rattle.cjc_world.specs.Classes.{Class, class_named}
 use Rattle.cjc_world.specs.Kin.{Unknown, End, ends, kin, line, unknown_here, upwards}
 use Rattle.cjc_world.specs.Interfaces.{gathered, known}
@@ -42,13 +43,9 @@ use Rattle.cjc_written_calls.proofs.Facts.{Facts}
 use Rattle.cjc_written_calls.proofs.Files.{first_imported_found}
 use Rattle.cjc_written_calls.proofs.Found.{first_own, line_named, own_is}
 use Rattle.cjc_written_calls.proofs.Kins.{name_is}
-use Rattle.cjc_written_calls.proofs.Reached.{find_first}
 use Rattle.cjc_written_calls.proofs.Receivers.{found_stands, not_array}
-use Rattle.cjc_written_calls.proofs.Towers.{class_stands, height_fits, line_is}
+use Rattle.cjc_written_calls.proofs.Towers.{line_is}
 use Rattle.cjc_written_calls.specs.Calls.{KeepsSubtypes, KeepsTokens, Receives, numbers, one_of, references}
-use Rattle.cjc_written_sends.proofs.Found as sought
-use Rattle.cjc_written_sends.specs.Sends.{IsSoughtInLine, IsOutside, in_line, no_class, no_kind, on_import}
-use Rattle.cjc_written_sends.specs.Sends as sends
 
 -- ---- objects of imported classes: no method of the package
 
@@ -113,6 +110,12 @@ module _ (l : Loaded) where
         by true = through_nothing named (interface_token l named id) (sent_by l receiving named id (found_token l (suc (depth l)) (object_class l) id)) (sent_nothing_by named id (found_token l (suc (depth l)) (object_class l) id))
         by false = sent_nothing_by named id (found_token l (suc (depth l)) (Some named) id)
 
+-- an array, or an object of an imported class
+pub data IsOutside (w : List Class) : Shape (List ℕ) → Type 0 where
+  of_numbers : {element : Element} → IsOutside w (OfNumbers element)
+  of_references : {x : List ℕ} → IsOutside w (OfReferences x)
+  of_import : {x : List ℕ} (c : Class) → class_named w x ≡ Some c → c.is_imported ≡ true → IsOutside w (OfClass x)
+
 -- arrays are of the same classes
 arrays_alike : (w : List Class) (y x : List ℕ) → starts 91 y ≡ false → is_subtype w (shape_name (OfNumbers Booleans)) y ≡ is_subtype w (shape_name (OfReferences x)) y
 unfolding is_subtype
@@ -128,7 +131,7 @@ module _ (list : List ℕ) (p : Package) (sound : IsSound list p.files) (facts :
   abbrev n : Naming
   n = naming p
 
-  abbrev begun : Option Method → Option (Start Code)
+  abbrev pub begun : Option Method → Option (Start Code)
   begun o = option_as (start_as (code_of n) (offset_of n)) (option_map (start_placed place) o)
 
   -- a type is of a class as by name
@@ -156,7 +159,7 @@ module _ (list : List ℕ) (p : Package) (sound : IsSound list p.files) (facts :
   -- ---- by name
 
   -- what is sent, of what a look-up found
-  abbrev sent_of : Shape (List ℕ) → MemberId → (sub : Bool) → Option Found → Option Method
+  abbrev pub sent_of : Shape (List ℕ) → MemberId → (sub : Bool) → Option Found → Option Method
   sent_of kind id sub o = option_and_then (λ f. option_and_then (λ (hit : Hit). if is_sendable id hit && sub then option_and_then (method_at p.files) (select_in w (shape_name kind) id) else None) (method_hit w f)) o
 
   no_sub : (kind : Shape (List ℕ)) (id : MemberId) (o : Option Found) → sent_of kind id false o ≡ None
@@ -202,12 +205,12 @@ module _ (list : List ℕ) (p : Package) (sound : IsSound list p.files) (facts :
     named : receiver (shape_name kind) ≡ name
 
   outside_received : (kind : Shape (List ℕ)) → IsOutside w kind → Received kind
-  outside_received kind (sends.of_import {x = x} c e import) = record { class = c; name = x; there = e; import = import; on_card = refl; named = not_array x (kinds.no_array x (ap is_some e)) }
-  outside_received kind (sends.of_references {x = x}) = let o = facts.object_class in record { class = o.0; name = object; there = o.1; import = o.2; on_card = kinds.object_class; named = refl }
-  outside_received kind (sends.of_numbers {element = Booleans}) = let o = facts.object_class in record { class = o.0; name = object; there = o.1; import = o.2; on_card = kinds.object_class; named = refl }
-  outside_received kind (sends.of_numbers {element = Bytes}) = let o = facts.object_class in record { class = o.0; name = object; there = o.1; import = o.2; on_card = kinds.object_class; named = refl }
-  outside_received kind (sends.of_numbers {element = Shorts}) = let o = facts.object_class in record { class = o.0; name = object; there = o.1; import = o.2; on_card = kinds.object_class; named = refl }
-  outside_received kind (sends.of_numbers {element = Ints}) = let o = facts.object_class in record { class = o.0; name = object; there = o.1; import = o.2; on_card = kinds.object_class; named = refl }
+  outside_received kind (of_import {x = x} c e import) = record { class = c; name = x; there = e; import = import; on_card = refl; named = not_array x (kinds.no_array x (ap is_some e)) }
+  outside_received kind (of_references {x = x}) = let o = facts.object_class in record { class = o.0; name = object; there = o.1; import = o.2; on_card = kinds.object_class; named = refl }
+  outside_received kind (of_numbers {element = Booleans}) = let o = facts.object_class in record { class = o.0; name = object; there = o.1; import = o.2; on_card = kinds.object_class; named = refl }
+  outside_received kind (of_numbers {element = Bytes}) = let o = facts.object_class in record { class = o.0; name = object; there = o.1; import = o.2; on_card = kinds.object_class; named = refl }
+  outside_received kind (of_numbers {element = Shorts}) = let o = facts.object_class in record { class = o.0; name = object; there = o.1; import = o.2; on_card = kinds.object_class; named = refl }
+  outside_received kind (of_numbers {element = Ints}) = let o = facts.object_class in record { class = o.0; name = object; there = o.1; import = o.2; on_card = kinds.object_class; named = refl }
 
   module _ (kind : Shape (List ℕ)) (r : Received kind) (id : MemberId) where
     token_nothing : (named : card.Class) → start_selected n.loaded (sent_to n.loaded (shape_class n.loaded (shape_as n.class kind)) named id) ≡ None
@@ -255,41 +258,9 @@ module _ (list : List ℕ) (p : Package) (sound : IsSound list p.files) (facts :
             let here : option_and_then (method_in g.member) (slice_get p.files.classes g.class) ≡ Some k.0 = sym (ap (λ t. if t then None else option_and_then (method_in g.member) (slice_get p.files.classes g.class)) own) ∙ k.1 in
             begins g k.0 inside k.1 ∙ ap begun (sym here)
 
-    itself_selected : select_in w x id ≡ selection w x (signature id)
+    pub itself_selected : select_in w x id ≡ selection w x (signature id)
     unfolding selected
     itself_selected = ap (λ y. first (own_method true id.name id.desc) (line w y)) (not_array x (kinds.no_array x (ap is_some e)))
-
-    -- a method that is found over superclasses
-    line_sent : (d : Class) → class_named w id.class ≡ Some d → is_interface d.flags ≡ false → Under w x id.class → (f : Found) → first (own_method false id.name id.desc) (line w id.class) ≡ Some f
-        → start_selected n.loaded (sent_to n.loaded (Some (n.class x)) (n.class id.class) id) ≡ begun (sent_of (OfClass x) id true (find_method w id.class id.name id.desc))
-    line_sent d known named_here under f is =
-        ap (λ t. start_selected n.loaded (if t then through n.loaded (Some (n.class x)) (n.class id.class) (interface_token n.loaded (n.class id.class) id) (sent_by n.loaded (Some (n.class x)) (n.class id.class) id (found_token n.loaded (suc (depth n.loaded)) (object_class n.loaded) id)) else sent_by n.loaded (Some (n.class x)) (n.class id.class) id (found_token n.loaded (suc (depth n.loaded)) (Some (n.class id.class)) id)))
-        (interface_is id.class d known ∙ named_here)
-        ∙ by (first (own_method false id.name id.desc) (line w id.class)) (found_token n.loaded (suc (depth n.loaded)) (Some (n.class id.class)) id) told is
-        ∙ ap (λ o. begun (sent_of (OfClass x) id true o)) (sym (find_first w id.class id.name id.desc f is))
-      where
-        told : sought.Told list p sound facts tokens kinds imported_calls id id.class (first (own_method false id.name id.desc) (line w id.class)) (found_token n.loaded (suc (depth n.loaded)) (Some (n.class id.class)) id)
-        told =
-            let q = class_stands p facts id.class d known named_here in
-            sought.line_told list p sound facts tokens kinds imported_calls id plain q.tower d known named_here (depth n.loaded) (height_fits p facts id.class d known q)
-
-        by : (o : Option Found) (t : Option (Option Token)) → sought.Told list p sound facts tokens kinds imported_calls id id.class o t → o ≡ Some f
-            → start_selected n.loaded (sent_by n.loaded (Some (n.class x)) (n.class id.class) id t) ≡ begun (sent_of (OfClass x) id true (Some f))
-        by o t sought.nowhere same = absurd (cc)
-        by o t (sought.bound {f = g} b) same =
-            let one : g ≡ f = cc in
-            sym (ap (λ q. begun (sent_of (OfClass x) id true (Some q))) (sym one)
-            ∙ ap (λ q. begun (option_and_then (λ (hit : Hit). if is_sendable id hit && true then option_and_then (method_at p.files) (select_in w x id) else None) q)) b.there
-            ∙ ap (λ q. begun (if q && true then option_and_then (method_at p.files) (select_in w x id) else None)) b.is)
-        by o t (sought.bears {f = g} {t = token} b dispatches) same =
-            let one : g ≡ f = cc in
-            let r = dispatches x c e class_here under in
-            ap (start_selected n.loaded) r.2
-            ∙ chosen_begins (let q = class_stands p facts x c e class_here in q.foot) r.0 r.1
-            ∙ ap (λ q. begun (option_and_then (method_at p.files) q)) (sym (itself_selected ∙ r.1))
-            ∙ sym (ap (λ q. begun (sent_of (OfClass x) id true (Some q))) (sym one)
-            ∙ ap (λ q. begun (option_and_then (λ (hit : Hit). if is_sendable id hit && true then option_and_then (method_at p.files) (select_in w x id) else None) q)) b.there
-            ∙ ap (λ q. begun (if q && true then option_and_then (method_at p.files) (select_in w x id) else None)) b.is)
 
   -- ---- what a script sends
 
@@ -307,7 +278,7 @@ module _ (list : List ℕ) (p : Package) (sound : IsSound list p.files) (facts :
         (names_agree.class_named id.class ∙ ap (λ o. option_as (card_class p) (option_map (λ (q : Class). q.name) o)) nowhere)
         ∙ sym (ap (λ o. begun (sent_of kind id (is_subtype w (shape_name kind) id.class) o)) (find_none id.class id.name id.desc nowhere))
 
-    by_class : ((d : Class) → class_named w id.class ≡ Some d → is_subtype w (shape_name kind) id.class ≡ true
+    pub by_class : ((d : Class) → class_named w id.class ≡ Some d → is_subtype w (shape_name kind) id.class ≡ true
         → start_selected n.loaded (sent_to n.loaded (shape_class n.loaded (shape_as n.class kind)) (n.class id.class) id) ≡ begun (sent_of kind id true (find_method w id.class id.name id.desc)))
         → sent n.loaded (shape_as n.class kind) id ≡ begun (sent_named p.files w (shape_name kind) id)
     by_class on = by (class_named w id.class) refl
@@ -321,21 +292,7 @@ module _ (list : List ℕ) (p : Package) (sound : IsSound list p.files) (facts :
         by None nowhere = no_class_sent nowhere
         by (Some d) known = sent_is d known ∙ there d known (is_subtype w (shape_name kind) id.class) refl
 
-    outside_sent : IsOutside w kind → sent n.loaded (shape_as n.class kind) id ≡ begun (sent_named p.files w (shape_name kind) id)
+    pub outside_sent : IsOutside w kind → sent n.loaded (shape_as n.class kind) id ≡ begun (sent_named p.files w (shape_name kind) id)
     outside_sent out =
         let r = outside_received kind out in
         by_class (λ d known sub. token_nothing kind r id (n.class id.class) ∙ ap begun (sym (no_method kind id true (find_method w id.class id.name id.desc) (name_nothing kind r id))))
-
-  object_sent : (x : List ℕ) (c : Class) (e : class_named w x ≡ Some c) (class_here : is_interface c.flags ≡ false) → Receives w (Some (OfClass x)) → (id : MemberId) (d : Class) (f : Found) → class_named w id.class ≡ Some d → is_interface d.flags ≡ false → is_initialiser id.name ≡ false → first (own_method false id.name id.desc) (line w id.class) ≡ Some f
-      → sent n.loaded (shape_as n.class (OfClass x)) id ≡ begun (sent_named p.files w (shape_name (OfClass x)) id)
-  object_sent x c e class_here receives id d f known named_here plain is =
-      by_class (OfClass x) receives id (λ b there sub. line_sent id plain x c e class_here d known named_here (subtypes.climbs x id.class c d e class_here known named_here sub) f is)
-
-  -- Each method that is sought in a line begins by token as by name, or is none by both.
-  pub sent_same : (kind : Shape (List ℕ)) → Receives w (Some kind) → (id : MemberId) → IsSoughtInLine w kind id → sent n.loaded (shape_as n.class kind) id ≡ begun (sent_named p.files w (shape_name kind) id)
-  sent_same kind receives id (no_class nowhere) = no_class_sent kind receives id nowhere
-  sent_same kind receives id (no_kind no_sub_kind) = by_class kind receives id (λ d known sub. (let clash : false ≡ true = sym no_sub_kind ∙ sub in absurd (cc)))
-  sent_same kind receives id (on_import out) = outside_sent kind receives id out
-  sent_same kind (one_of {x = x} c e class_here made) id (in_line d f known named_here plain is) = object_sent x c e class_here (one_of c e class_here made) id d f known named_here plain is
-  sent_same kind (numbers {element = element}) id (in_line d f known named_here plain is) = outside_sent (OfNumbers element) numbers id sends.of_numbers
-  sent_same kind (references {x = x}) id (in_line d f known named_here plain is) = outside_sent (OfReferences x) references id sends.of_references

@@ -1,27 +1,39 @@
--- Which methods a script sends among classes alone: what is left are methods that only interfaces have, and those that
--- are sent by an interface's name.
-use Rattle.std.specs.Prelude.{◌≡◌, ℕ, List, Some, None, false, true}
+-- What is promised of the interfaces of a package, of those of export files class by class (Java Card Virtual Machine
+-- Specification 2.2.2, sections 2.2.4 and 4.3.7.7).
+use Rattle.std.specs.Prelude.{◌≡◌, ℕ, List, [], ◌∷◌, Some, true, false, position, slice_get}
 use Rattle.cjc_bytes.specs.AccessFlags.{is_interface}
-use Rattle.cjc_bytes.specs.declared.fault.MemberId.{MemberId}
-use Rattle.cjc_by_name.specs.OnePackage.{is_initialiser}
-use Rattle.cjc_script.specs.Sorts.{Element, Shape, OfClass, OfNumbers, OfReferences, shape_name}
-use Rattle.cjc_world.specs.Classes.{Class, class_named}
+use Rattle.cjc_components.specs.Package.{Package, world}
+use Rattle.cjc_export.specs.declared.tree.ExportClass.{ExportClass}
+use Rattle.cjc_export.specs.declared.tree.ExportMethod.{ExportMethod}
+use Rattle.cjc_tokens.specs.Members.{In, all_methods, has, is_initialiser, same, signature_of}
+use Rattle.cjc_tokens.specs.Methods.{interface_methods}
+use Rattle.cjc_world.specs.Classes.{Class, Member, class_named, imported, method_of_export}
 use Rattle.cjc_world.specs.Kin.{line}
-use Rattle.cjc_world.specs.Lookup.{first, own_method}
-use Rattle.cjc_world.specs.Subtype.{is_subtype}
-use Rattle.cjc_world.specs.declared.found.Found.{Found}
+use Rattle.cjc_world.specs.Lookup.{is_selectable, object}
 
--- an array, or an object of an imported class
-pub data IsOutside (w : List Class) : Shape (List ℕ) → Type 0 where
-  of_numbers : {element : Element} → IsOutside w (OfNumbers element)
-  of_references : {x : List ℕ} → IsOutside w (OfReferences x)
-  of_import : {x : List ℕ} (c : Class) → class_named w x ≡ Some c → c.is_imported ≡ true → IsOutside w (OfClass x)
+-- Each method of an interface but its initialiser is neither private nor static.
+abbrev pub InterfacesAsk : List Class → Type 0
+InterfacesAsk w =
+    (x : List ℕ) (c : Class) → class_named w x ≡ Some c → is_interface c.flags ≡ true
+    → (k : ℕ) (m : Member) → slice_get c.methods k ≡ Some m → is_initialiser m.name ≡ false → is_selectable m.flags ≡ true
 
--- The named class is in no file, or the object is not of it, or is an array or of an imported class; or the named class is
--- no interface, and it or a superclass of it has the method, which is no initialiser.
-pub data IsSoughtInLine (w : List Class) (kind : Shape (List ℕ)) (id : MemberId) : Type 0 where
-  no_class : class_named w id.class ≡ None → IsSoughtInLine w kind id
-  no_kind : is_subtype w (shape_name kind) id.class ≡ false → IsSoughtInLine w kind id
-  on_import : IsOutside w kind → IsSoughtInLine w kind id
-  in_line : (d : Class) (f : Found) → class_named w id.class ≡ Some d → is_interface d.flags ≡ false → is_initialiser id.name ≡ false
-      → first (own_method false id.name id.desc) (line w id.class) ≡ Some f → IsSoughtInLine w kind id
+-- An interface of an export file has each of its methods, its initialiser aside, at the place of the method's token.
+abbrev pub ExportsListInterfaces : Package → Type 0
+ExportsListInterfaces p =
+    (y : List ℕ) (k : ℕ) (e : ExportClass) → class_named (world p) y ≡ Some (imported k e) → is_interface e.flags ≡ true
+    → (j : ℕ) (m : ExportMethod) → slice_get e.methods j ≡ Some m → is_initialiser m.name ≡ false
+    → position (λ s. same s (signature_of (method_of_export m))) (interface_methods (world p) (imported k e)) ≡ Some m.token
+
+-- What methods are sent by an interface's name, or are found in an interface, rests on. Left out are a private or static
+-- method of an interface; an interface of an export file that lists no super, or a method twice; and a private or static
+-- method of java/lang/Object with the name and descriptor of an interface's method.
+pub record InterfacesSend (p : Package) : Type 0 where
+  pub ask : InterfacesAsk (world p)
+  pub listed : ExportsListInterfaces p
+  -- over superclasses java/lang/Object alone stands above an interface of an export file
+  pub supers : (y : List ℕ) (i : Class) → class_named (world p) y ≡ Some i → is_interface i.flags ≡ true
+      → i.is_imported ≡ true → i.supers ≡ object ∷ []
+  -- what java/lang/Object has by the name and descriptor of an interface's method is neither private nor static
+  pub objects : (y : List ℕ) (i : Class) → class_named (world p) y ≡ Some i → is_interface i.flags ≡ true
+      → (m : Member) → In m (all_methods (line (world p) object)) → has (interface_methods (world p) i) (signature_of m) ≡ true
+      → is_selectable m.flags ≡ true

@@ -28,8 +28,9 @@ ghost use Rattle.cjc_vtable.specs.Kept.{Keeps};
 ghost use Rattle.cjc_written_calls.specs.Calls.{ExportsKeep, IsNamed, KeepsSubtypes, KeepsTokens, Receives, TakesWords};
 ghost use Rattle.cjc_written_calls.specs.Standing.{AreMethods, AreReady, IsSmall, place};
 ghost use Rattle.cjc_written_sends.specs.Named.{CallsAreNamed, FaultsAreClasses, InstructionsNameWhatIsThere, is_called, known, known_tests};
-ghost use Rattle.cjc_written_sends.specs.Sends.{IsSoughtInLine};
+ghost use Rattle.cjc_written_sends.specs.Sends.{InterfacesSend};
 
+use cjc_by_token::kinds_are_told;
 use cjc_layout::layouts_are_laid_out;
 use cjc_tables_by_token::classes_are_told;
 use cjc_vtable::{dispatch_laws, token_laws};
@@ -51,12 +52,11 @@ pub fn known_objects_receive_calls()
     ensures receivers { (p : Package) → FaultsAreClasses (world p) → (o : Option (Shape (List ℕ))) → KnownKind (names (naming p) (memories (naming p) (known_names (is_called p) p))) (known p) (IsAmong (placed_methods p)) (IsKnownCall (known_tests p)) o → Receives (world p) o }
 {}
 
-/// A method that a script sends to an object begins by token as by name, or is none by both: whatever is sent to an array
-/// or to an object of an imported class, or by the name of a class of which the object is not; and what is sent by the name
-/// of a class that has the method itself or from a superclass.
+/// A method that a script sends to an object begins by token as by name, or is none by both: to an array or an object of
+/// whatever class, by the name of whatever class or interface, and whatever its name and descriptor are.
 pub fn sent_methods_begin_alike()
-    ensures { (list : List ℕ) (p : Package) → IsSound list p.files → AreReady p → AreMethods p → IsSmall p → Keeps (world p) → KeepsSubtypes (world p) → KeepsTokens (world p) → ExportsKeep p
-        → (kind : Shape (List ℕ)) → Receives (world p) (Some kind) → (id : Member) → IsSoughtInLine (world p) kind id
+    ensures { (list : List ℕ) (p : Package) → IsSound list p.files → AreReady p → AreMethods p → IsSmall p → Keeps (world p) → KeepsSubtypes (world p) → KeepsTokens (world p) → ExportsKeep p → InterfacesSend p
+        → (kind : Shape (List ℕ)) → Receives (world p) (Some kind) → (id : Member)
         → (let n = naming p in let methods = Reaching.placed_methods p.files (place p) in Calls.sent n.loaded (shape_as n.class kind) id ≡ option_as (start_as (code_of n) (offset_of n)) (methods.sent kind id)) }
 {
     layouts_are_laid_out();
@@ -64,4 +64,5 @@ pub fn sent_methods_begin_alike()
     token_laws();
     lookup_laws();
     classes_are_told();
+    kinds_are_told();
 }
