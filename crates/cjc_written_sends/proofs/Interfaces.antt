@@ -1,7 +1,7 @@
 -- A method that is sought among the interfaces of a class or interface: which of them has it by token, and what it
 -- dispatches to.
 use Rattle.std.proofs.Common.{◌≡◌, ℕ, zero, suc, ◌+◌, refl, sym, ap, subst, ◌∙◌, Bool, true, false, List, [], ◌∷◌, ◌++◌, length, inl, inr, ⊎_elim}
-use Rattle.std.specs.Prelude.{◌⊎◌, ◌↔◌, ◌==◌, Option, Some, None, not, is_some, map, option_map, option_and_then, option_to_list, position, slice_get, ◌&&◌, ◌||◌, if◌then◌else◌, codes}
+use Rattle.std.specs.Prelude.{◌⊎◌, ◌↔◌, ◌==◌, Option, Some, None, not, is_some, map, option_map, option_and_then, position, slice_get, ◌&&◌, ◌||◌, if◌then◌else◌, codes}
 use Rattle.std.specs.List.{find}
 use Rattle.std.specs.Str.{bytes_eq}
 use Rattle.cjc_bytes.specs.AccessFlags.{is_abstract, is_interface}
@@ -44,7 +44,7 @@ use Rattle.cjc_world.specs.Added.{asked_by, by_token, own_methods, with_token, w
 use Rattle.cjc_world.specs.Classes.{Class, Member, class_named, imported, method_of_export}
 use Rattle.cjc_world.specs.Interfaces.{Interface, gathered, known, where_listed}
 use Rattle.cjc_world.specs.Kin.{IsKin, Kin, Known, End, Lists, after, ends, foremost, kin, known_here, line, stands, unknown_here}
-use Rattle.cjc_world.specs.Lookup.{first, is_called, object, own_method}
+use Rattle.cjc_world.specs.Lookup.{first, is_called, is_selectable, object, own_method}
 use Rattle.cjc_world.specs.Lookup as lookup
 use Rattle.cjc_world.specs.Subtype.{array_is, element, is_element, is_subclass, is_subtype, starts}
 use Rattle.cjc_world.specs.declared.found.Found.{Found}
@@ -58,7 +58,7 @@ use Rattle.cjc_written_calls.proofs.Towers.{class_stands}
 use Rattle.cjc_written_calls.specs.Calls.{ExportsKeep, KeepsSubtypes, KeepsTokens}
 use Rattle.cjc_written_sends.proofs.Found.{first_after, first_front, position_there}
 use Rattle.cjc_written_sends.proofs.Order.{class_token, listed_is}
-use Rattle.cjc_written_sends.specs.Sends.{InterfacesSend}
+use Rattle.cjc_written_sends.specs.Sends.{ExportsSend, InterfacesAsk}
 
 -- what a search finds stands there
 find_has : {A : Type 0} (test : A → Bool) (xs : List A) (x : A) → find test xs ≡ Some x → (k : ℕ) × (slice_get xs k ≡ Some x)
@@ -214,7 +214,7 @@ subtype_is w x y no_x no_y =
 
 module _ (list : List ℕ) (p : Package) (sound : IsSound list p.files) (facts : Facts p) (subtypes : KeepsSubtypes (world p)) (tokens : KeepsTokens (world p)) (keep : ExportsKeep p) (kinds : SaysKinds (world p) (naming p)) (kinds_agree : KindsAgree (world p) (naming p)) (names_agree : Rattle.cjc_by_token.specs.Names.NamesAgree (world p) (naming p))
     (imported_calls : ImportedCallsAgree (world p)) (told_kinds : (l : Loaded) (c d : card.Class) → (is_kind_of l c d ≡ true) ↔ IsAtOrAbove l c d)
-    (place : Method → Placed) (begins : BeginsAtOffsets p.files (world p) (naming p) (method_offset p) place) (send : InterfacesSend p) (id : MemberId) where
+    (place : Method → Placed) (begins : BeginsAtOffsets p.files (world p) (naming p) (method_offset p) place) (ask : InterfacesAsk false (world p)) (send : ExportsSend p) (id : MemberId) where
   abbrev w : List Class
   w = world p
 
@@ -473,10 +473,14 @@ module _ (list : List ℕ) (p : Package) (sound : IsSound list p.files) (facts :
     -- a method of an interface under the name is virtual
     pub asked_virtual : (y : List ℕ) (i : Class) → class_named w y ≡ Some i → is_interface i.flags ≡ true → (k : ℕ) (m : Member) → slice_get i.methods k ≡ Some m → m.name ≡ id.name → is_virtual m ≡ true
     asked_virtual y i known_i here k m there name =
-        let selectable = send.ask y i known_i here k m there (ap is_initialiser name ∙ plain) in
+        let selectable = asks i.is_imported refl k m there (ap is_initialiser name ∙ plain) in
         ap (λ b. b && not (members.is_constructor m.name || members.is_initialiser m.name)) selectable
         ∙ ap (λ b. not (b || members.is_initialiser m.name)) (ap is_constructor name ∙ not_constructor)
         ∙ ap not (ap is_initialiser name ∙ plain)
+      where
+        asks : (b : Bool) → i.is_imported ≡ b → (k : ℕ) (m : Member) → slice_get i.methods k ≡ Some m → is_initialiser m.name ≡ false → is_selectable m.flags ≡ true
+        asks true import = send.ask y i known_i here import
+        asks false own = ask y i known_i here own
 
     -- an interface's token is the place
     pub card_token : (y : List ℕ) (i : Class) → class_named w y ≡ Some i → is_interface i.flags ≡ true → interface_token n.loaded (n.class y) id ≡ place_in i

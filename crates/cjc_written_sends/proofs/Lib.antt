@@ -6,3 +6,4 @@ mod Found
 mod Sent
 mod Interfaces
 mod Sending
+mod OwnInterfaces

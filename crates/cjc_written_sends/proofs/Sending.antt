@@ -15,7 +15,7 @@ use Rattle.cjc_calls_by_token.specs.Dispatching.{SaysTower, of_file, of_package,
 use Rattle.cjc_calls_by_token.specs.Reaching.{BeginsAtOffsets}
 use Rattle.cjc_calls_by_token.specs.Selecting.{signature}
 use Rattle.cjc_card.specs.Calls.{found_token, interface_token, sent, sent_by, sent_to, start_selected, through, through_first, token_or}
-use Rattle.cjc_card.specs.Classes.{Own, depth, is_kind_of, object_class, superclass_by}
+use Rattle.cjc_card.specs.Classes.{depth, is_kind_of, object_class}
 use Rattle.cjc_card.specs.Classes as card
 use Rattle.cjc_card.specs.Dispatch.{NotFound, Selection, Token}
 use Rattle.cjc_card.specs.Loaded.{Loaded}
@@ -29,7 +29,7 @@ use Rattle.cjc_tables_by_token.proofs.Above.{rules_of}
 use Rattle.cjc_tables_by_token.proofs.Lists.{right_supers}
 use Rattle.cjc_tables_by_token.specs.Loading.{naming}
 use Rattle.cjc_tables_by_token.specs.Sound.{IsSound}
-use Rattle.cjc_tokens.specs.Members.{has, is_virtual, signature_of}
+use Rattle.cjc_tokens.specs.Members.{has, is_virtual}
 use Rattle.cjc_tokens.specs.Members as members
 use Rattle.cjc_tokens.specs.Methods.{interface_methods}
 use Rattle.cjc_vtable.proofs.Asked.{has-here}
@@ -51,7 +51,7 @@ use Rattle.cjc_written_calls.specs.Calls.{ExportsKeep, KeepsSubtypes, KeepsToken
 use Rattle.cjc_written_sends.proofs.Found as sought
 use Rattle.cjc_written_sends.proofs.Interfaces as interfaces
 use Rattle.cjc_written_sends.proofs.Sent as sends
-use Rattle.cjc_written_sends.specs.Sends.{InterfacesSend}
+use Rattle.cjc_written_sends.specs.Sends.{ExportsSend, InterfacesAsk}
 
 or_true : (b : Bool) → (b || true) ≡ true
 or_true true = refl
@@ -59,7 +59,7 @@ or_true false = refl
 
 module _ (list : List ℕ) (p : Package) (sound : IsSound list p.files) (facts : Facts p) (subtypes : KeepsSubtypes (world p)) (tokens : KeepsTokens (world p)) (keep : ExportsKeep p) (kinds : SaysKinds (world p) (naming p)) (kinds_agree : KindsAgree (world p) (naming p)) (names_agree : NamesAgree (world p) (naming p))
     (imported_calls : ImportedCallsAgree (world p)) (told_kinds : (l : Loaded) (c d : card.Class) → (is_kind_of l c d ≡ true) ↔ IsAtOrAbove l c d)
-    (place : Method → Placed) (begins : BeginsAtOffsets p.files (world p) (naming p) (method_offset p) place) (send : InterfacesSend p) where
+    (place : Method → Placed) (begins : BeginsAtOffsets p.files (world p) (naming p) (method_offset p) place) (ask : InterfacesAsk false (world p)) (send : ExportsSend p) where
   abbrev w : List Class
   w = world p
 
@@ -146,7 +146,7 @@ module _ (list : List ℕ) (p : Package) (sound : IsSound list p.files) (facts :
         chosen_begins z g is = sends.chosen_begins list p sound facts subtypes tokens kinds kinds_agree names_agree imported_calls place begins id plain x c e class_here z g is
 
         abbrev place_in : Class → Option ℕ
-        place_in i = interfaces.place_in list p sound facts subtypes tokens keep kinds kinds_agree names_agree imported_calls told_kinds place begins send id i
+        place_in i = interfaces.place_in list p sound facts subtypes tokens keep kinds kinds_agree names_agree imported_calls told_kinds place begins ask send id i
 
         -- what is found over superclasses of a class; where nothing is, what is found otherwise
         told_sent : (y : List ℕ) → Under w x y → (at : card.Class) (o : Option Found) (t : Option (Option Token)) → Told y o t → (other : Option Found) → (o ≡ None → Begins (through_first n.loaded receiving (card.upwards n.loaded at) id) other)
@@ -165,13 +165,13 @@ module _ (list : List ℕ) (p : Package) (sound : IsSound list p.files) (facts :
             → Begins (through_first n.loaded receiving (card.upwards n.loaded (n.class y0)) id) (first finds (behind y0))
         behind_sent y0 d named sub found_by =
             by (through_first n.loaded receiving (card.upwards n.loaded (n.class y0)) id)
-            (interfaces.scanned list p sound facts subtypes tokens keep kinds kinds_agree names_agree imported_calls told_kinds place begins send id plain not_constructor y0 d named x c e class_here own made sub)
+            (interfaces.scanned list p sound facts subtypes tokens keep kinds kinds_agree names_agree imported_calls told_kinds place begins ask send id plain not_constructor y0 d named x c e class_here own made sub)
             (first finds (behind y0)) refl
           where
-            offered : (f : Found) → first finds (behind y0) ≡ Some f → interfaces.Offered list p sound facts subtypes tokens keep kinds kinds_agree names_agree imported_calls told_kinds place begins send id plain not_constructor y0 d named f
-            offered f is = interfaces.found_offered list p sound facts subtypes tokens keep kinds kinds_agree names_agree imported_calls told_kinds place begins send id plain not_constructor y0 d named f is
+            offered : (f : Found) → first finds (behind y0) ≡ Some f → interfaces.Offered list p sound facts subtypes tokens keep kinds kinds_agree names_agree imported_calls told_kinds place begins ask send id plain not_constructor y0 d named f
+            offered f is = interfaces.found_offered list p sound facts subtypes tokens keep kinds kinds_agree names_agree imported_calls told_kinds place begins ask send id plain not_constructor y0 d named f is
 
-            by : (v : Selection) → interfaces.Scanned list p sound facts subtypes tokens keep kinds kinds_agree names_agree imported_calls told_kinds place begins send id plain not_constructor y0 d named x c e class_here own made sub (card.upwards n.loaded (n.class y0)) v
+            by : (v : Selection) → interfaces.Scanned list p sound facts subtypes tokens keep kinds kinds_agree names_agree imported_calls told_kinds place begins ask send id plain not_constructor y0 d named x c e class_here own made sub (card.upwards n.loaded (n.class y0)) v
                 → (o : Option Found) → first finds (behind y0) ≡ o → Begins v o
             by v (interfaces.none_has h) None is = refl
             by v (interfaces.none_has h) (Some f) is =
@@ -192,7 +192,7 @@ module _ (list : List ℕ) (p : Package) (sound : IsSound list p.files) (facts :
             let told = sought.line_told list p sound facts tokens kinds imported_calls id plain q.tower d named named_class (depth n.loaded) (height_fits p facts id.class d named q) in
             ap (start_selected n.loaded) (class_token_sent d named named_class receiving)
             ∙ told_sent id.class (subtypes.climbs x id.class c d e class_here named named_class sub) (n.class id.class) (first finds (line w id.class)) (found_token n.loaded (suc (depth n.loaded)) (Some (n.class id.class)) id) told (first finds (behind id.class))
-            (λ none. behind_sent id.class d named sub (λ y i known_i here kind t is. interfaces.token_found list p sound facts subtypes tokens keep kinds kinds_agree names_agree imported_calls told_kinds place begins send id plain not_constructor id.class d named named_class y i known_i here kind t is))
+            (λ none. behind_sent id.class d named sub (λ y i known_i here kind t is. interfaces.token_found list p sound facts subtypes tokens keep kinds kinds_agree names_agree imported_calls told_kinds place begins ask send id plain not_constructor id.class d named named_class y i known_i here kind t is))
             ∙ ap (λ o. begun (sent_of (OfClass x) id true o)) (sym find_is)
 
         -- by the name of an interface
@@ -212,14 +212,14 @@ module _ (list : List ℕ) (p : Package) (sound : IsSound list p.files) (facts :
           own_sends : (f : Found) → finds d ≡ Some f → Sends f true
           own_sends f is =
               let q = sought.class_chosen list p sound facts tokens kinds imported_calls id d f is in
-              let virtual = interfaces.asked_virtual list p sound facts subtypes tokens keep kinds kinds_agree names_agree imported_calls told_kinds place begins send id plain not_constructor d.name d own_known named_here q.1 q.0 q.2 q.4 in
+              let virtual = interfaces.asked_virtual list p sound facts subtypes tokens keep kinds kinds_agree names_agree imported_calls told_kinds place begins ask send id plain not_constructor d.name d own_known named_here q.1 q.0 q.2 q.4 in
               subst (Sends f) virtual (sought.sends_of list p sound facts tokens kinds imported_calls id d q.1 q.0 f own_known q.2 q.4 q.3)
 
           own_lacks : place_in d ≡ None → (o : Option Found) → finds d ≡ o → o ≡ None
           own_lacks none None is = refl
           own_lacks none (Some f) is =
               let q = sought.class_chosen list p sound facts tokens kinds imported_calls id d f is in
-              let r = interfaces.own_place list p sound facts subtypes tokens keep kinds kinds_agree names_agree imported_calls told_kinds place begins send id plain not_constructor d own_known named_here q.1 q.0 q.2 q.4 q.5 in
+              let r = interfaces.own_place list p sound facts subtypes tokens keep kinds kinds_agree names_agree imported_calls told_kinds place begins ask send id plain not_constructor d own_known named_here q.1 q.0 q.2 q.4 q.5 in
               let clash : None ≡ Some r.0 = sym none ∙ r.1 in absurd (cc)
 
           object_sends : (t : ℕ) → place_in d ≡ Some t → (f : Found) → first finds (line w object) ≡ Some f → Sends f true
@@ -244,10 +244,10 @@ module _ (list : List ℕ) (p : Package) (sound : IsSound list p.files) (facts :
                   ⊎_elim
                   (λ f. (let clash : None ≡ Some f.0 = sym is ∙ f.1 in absurd (cc)))
                   (λ f.
-                  (let at : first finds (behind id.class) ≡ Some f.0 = ap (first finds) (interfaces.listed_are list p sound facts subtypes tokens keep kinds kinds_agree names_agree imported_calls told_kinds place begins send id id.class d named) ∙ f.1 in
-                  let q = interfaces.found_offered list p sound facts subtypes tokens keep kinds kinds_agree names_agree imported_calls told_kinds place begins send id plain not_constructor id.class d named f.0 at in
+                  (let at : first finds (behind id.class) ≡ Some f.0 = ap (first finds) (interfaces.listed_are list p sound facts subtypes tokens keep kinds kinds_agree names_agree imported_calls told_kinds place begins ask send id id.class d named) ∙ f.1 in
+                  let q = interfaces.found_offered list p sound facts subtypes tokens keep kinds kinds_agree names_agree imported_calls told_kinds place begins ask send id plain not_constructor id.class d named f.0 at in
                   (f.0, found_is None is ∙ ap (λ q. lookup.or_else q (first finds (behind id.class))) at_object ∙ at, q.sends)))
-                  (interfaces.place_finds list p sound facts subtypes tokens keep kinds kinds_agree names_agree imported_calls told_kinds place begins send id d t there)
+                  (interfaces.place_finds list p sound facts subtypes tokens keep kinds kinds_agree names_agree imported_calls told_kinds place begins ask send id d t there)
 
           -- an object that is of the interface is one of java/lang/Object
           sub_object : is_subtype w x object ≡ true
@@ -257,18 +257,18 @@ module _ (list : List ℕ) (p : Package) (sound : IsSound list p.files) (facts :
               let there = ap is_some o.1 in
               let top : stands object (kin w d.supers) ≡ true =
               ap (λ ss. stands object (kin w ss)) (supers id.class d named named_here)
-              ∙ ap (stands object) (interfaces.kin_is list p sound facts subtypes tokens keep kinds kinds_agree names_agree imported_calls told_kinds place begins send id object o.0 o.1)
+              ∙ ap (stands object) (interfaces.kin_is list p sound facts subtypes tokens keep kinds kinds_agree names_agree imported_calls told_kinds place begins ask send id object o.0 o.1)
               ∙ object_here o.0 (name_is w object o.0 o.1) in
               let over : is_subtype w id.class object ≡ true =
               interfaces.subtype_is w id.class object (kinds.no_array id.class here) (kinds.no_array object there)
-              ∙ ap (stands object) (interfaces.kin_is list p sound facts subtypes tokens keep kinds kinds_agree names_agree imported_calls told_kinds place begins send id id.class d named)
+              ∙ ap (stands object) (interfaces.kin_is list p sound facts subtypes tokens keep kinds kinds_agree names_agree imported_calls told_kinds place begins ask send id id.class d named)
               ∙ interfaces.or_left ((bytes_eq d.name object || stands object (kin w d.supers)) || stands object (kin w d.interfaces)) false
               (interfaces.or_left (bytes_eq d.name object || stands object (kin w d.supers)) (stands object (kin w d.interfaces))
               (interfaces.or_right (bytes_eq d.name object) (stands object (kin w d.supers)) top)) in
-              interfaces.above_kind list p sound facts subtypes tokens keep kinds kinds_agree names_agree imported_calls told_kinds place begins send id x object (ap is_some e) there
-              (interfaces.above_then list p sound facts subtypes tokens keep kinds kinds_agree names_agree imported_calls told_kinds place begins send id (n.class x) (n.class id.class) (n.class object)
-              (interfaces.kind_above list p sound facts subtypes tokens keep kinds kinds_agree names_agree imported_calls told_kinds place begins send id x id.class (ap is_some e) here sub)
-              (interfaces.kind_above list p sound facts subtypes tokens keep kinds kinds_agree names_agree imported_calls told_kinds place begins send id id.class object here there over))
+              interfaces.above_kind list p sound facts subtypes tokens keep kinds kinds_agree names_agree imported_calls told_kinds place begins ask send id x object (ap is_some e) there
+              (interfaces.above_then list p sound facts subtypes tokens keep kinds kinds_agree names_agree imported_calls told_kinds place begins ask send id (n.class x) (n.class id.class) (n.class object)
+              (interfaces.kind_above list p sound facts subtypes tokens keep kinds kinds_agree names_agree imported_calls told_kinds place begins ask send id x id.class (ap is_some e) here sub)
+              (interfaces.kind_above list p sound facts subtypes tokens keep kinds kinds_agree names_agree imported_calls told_kinds place begins ask send id id.class object here there over))
             where
               object_here : (o : Class) → o.name ≡ object → stands object (Known o (kin w o.supers) (kin w o.interfaces) End) ≡ true
               object_here o name =
@@ -281,11 +281,11 @@ module _ (list : List ℕ) (p : Package) (sound : IsSound list p.files) (facts :
           interface_sent = by (place_in d) refl
             where
               token_is : interface_token n.loaded (n.class id.class) id ≡ place_in d
-              token_is = interfaces.card_token list p sound facts subtypes tokens keep kinds kinds_agree names_agree imported_calls told_kinds place begins send id plain not_constructor id.class d named named_here
+              token_is = interfaces.card_token list p sound facts subtypes tokens keep kinds kinds_agree names_agree imported_calls told_kinds place begins ask send id plain not_constructor id.class d named named_here
 
               by : (o : Option ℕ) → place_in d ≡ o → Begins (sent_to n.loaded receiving (n.class id.class) id) (find_method w id.class id.name id.desc)
               by (Some t) there =
-                  let r = interfaces.interface_dispatches list p sound facts subtypes tokens keep kinds kinds_agree names_agree imported_calls told_kinds place begins send id plain not_constructor x c e class_here own made id.class d named named_here sub t there in
+                  let r = interfaces.interface_dispatches list p sound facts subtypes tokens keep kinds kinds_agree names_agree imported_calls told_kinds place begins ask send id plain not_constructor x c e class_here own made id.class d named named_here sub t there in
                   let f = named_found t there in
                   ap (start_selected n.loaded) (interface_token_sent d named named_here receiving (Some t) (token_is ∙ there) ∙ r.2)
                   ∙ chosen_begins (let q = class_stands p facts x c e class_here in q.foot) r.0 r.1
@@ -294,7 +294,7 @@ module _ (list : List ℕ) (p : Package) (sound : IsSound list p.files) (facts :
                   let o = facts.object_class in
                   ap (start_selected n.loaded) (interface_token_sent d named named_here receiving None (token_is ∙ none))
                   ∙ told_sent object (subtypes.climbs x object c o.0 e class_here o.1 o.3 sub_object) (n.class id.class) (first finds (line w object)) (found_token n.loaded (suc (depth n.loaded)) (object_class n.loaded) id) object_told (first finds (behind id.class))
-                  (λ nowhere. behind_sent id.class d named sub (λ y i known_i here kind t is. interfaces.above_found list p sound facts subtypes tokens keep kinds kinds_agree names_agree imported_calls told_kinds place begins send id plain not_constructor supers y i known_i here t is id.class d named named_here none kind))
+                  (λ nowhere. behind_sent id.class d named sub (λ y i known_i here kind t is. interfaces.above_found list p sound facts subtypes tokens keep kinds kinds_agree names_agree imported_calls told_kinds place begins ask send id plain not_constructor supers y i known_i here t is id.class d named named_here none kind))
                   ∙ ap (λ q. begun (sent_of (OfClass x) id true q)) (sym (found_is None (own_lacks none (finds d) refl)))
 
       -- ---- a constructor or an initialiser: none by both
@@ -349,7 +349,7 @@ module _ (list : List ℕ) (p : Package) (sound : IsSound list p.files) (facts :
         none_sent : (d : Class) → class_named w id.class ≡ Some d → is_subtype w x id.class ≡ true → (t : Option (Option Token)) → IsNone t → sent_by n.loaded receiving (n.class id.class) id t ≡ NotFound
         none_sent d named sub t (inl is) =
             subst (λ q. sent_by n.loaded receiving (n.class id.class) id q ≡ NotFound) (sym is)
-            (interfaces.special_scanned list p sound facts subtypes tokens keep kinds kinds_agree names_agree imported_calls told_kinds place begins send id id.class d named x c e class_here own made sub special)
+            (interfaces.special_scanned list p sound facts subtypes tokens keep kinds kinds_agree names_agree imported_calls told_kinds place begins ask send id id.class d named x c e class_here own made sub special)
         none_sent d named sub t (inr is) = subst (λ q. sent_by n.loaded receiving (n.class id.class) id q ≡ NotFound) (sym is) refl
 
         special_sent : (d : Class) → class_named w id.class ≡ Some d → is_subtype w x id.class ≡ true → Begins (sent_to n.loaded receiving (n.class id.class) id) (find_method w id.class id.name id.desc)
@@ -358,7 +358,7 @@ module _ (list : List ℕ) (p : Package) (sound : IsSound list p.files) (facts :
             by : (b : Bool) → is_interface d.flags ≡ b → sent_to n.loaded receiving (n.class id.class) id ≡ NotFound
             by false named_class = class_token_sent d named named_class receiving ∙ none_sent d named sub (found_token n.loaded (suc (depth n.loaded)) (Some (n.class id.class)) id) (class_none d named named_class)
             by true named_here =
-                interface_token_sent d named named_here receiving None (interfaces.special_token list p sound facts subtypes tokens keep kinds kinds_agree names_agree imported_calls told_kinds place begins send id special id.class d named named_here)
+                interface_token_sent d named named_here receiving None (interfaces.special_token list p sound facts subtypes tokens keep kinds kinds_agree names_agree imported_calls told_kinds place begins ask send id special id.class d named named_here)
                 ∙ none_sent d named sub (found_token n.loaded (suc (depth n.loaded)) (object_class n.loaded) id) (told_none object (first finds (line w object)) (found_token n.loaded (suc (depth n.loaded)) (object_class n.loaded) id) object_told)
 
       -- ---- whatever it is

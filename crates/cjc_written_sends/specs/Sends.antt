@@ -1,6 +1,6 @@
--- What is promised of the interfaces of a package, of those of export files class by class (Java Card Virtual Machine
--- Specification 2.2.2, sections 2.2.4 and 4.3.7.7).
-use Rattle.std.specs.Prelude.{◌≡◌, ℕ, List, [], ◌∷◌, Some, true, false, position, slice_get}
+-- What is promised of interfaces, each by itself, for what scripts send (Java Card Virtual Machine Specification 2.2.2,
+-- section 4.3.7.7).
+use Rattle.std.specs.Prelude.{◌≡◌, ℕ, List, [], ◌∷◌, Some, Bool, true, false, position, slice_get}
 use Rattle.cjc_bytes.specs.AccessFlags.{is_interface}
 use Rattle.cjc_components.specs.Package.{Package, world}
 use Rattle.cjc_export.specs.declared.tree.ExportClass.{ExportClass}
@@ -11,11 +11,11 @@ use Rattle.cjc_world.specs.Classes.{Class, Member, class_named, imported, method
 use Rattle.cjc_world.specs.Kin.{line}
 use Rattle.cjc_world.specs.Lookup.{is_selectable, object}
 
--- Each method of an interface but its initialiser is neither private nor static.
-abbrev pub InterfacesAsk : List Class → Type 0
-InterfacesAsk w =
-    (x : List ℕ) (c : Class) → class_named w x ≡ Some c → is_interface c.flags ≡ true
-    → (k : ℕ) (m : Member) → slice_get c.methods k ≡ Some m → is_initialiser m.name ≡ false → is_selectable m.flags ≡ true
+-- Each method of an interface of the package, or of an export file, is neither private nor static, its initialiser aside.
+abbrev pub InterfacesAsk : (imported : Bool) → List Class → Type 0
+InterfacesAsk imported w =
+    (x : List ℕ) (i : Class) → class_named w x ≡ Some i → is_interface i.flags ≡ true → i.is_imported ≡ imported
+    → (k : ℕ) (m : Member) → slice_get i.methods k ≡ Some m → is_initialiser m.name ≡ false → is_selectable m.flags ≡ true
 
 -- An interface of an export file has each of its methods, its initialiser aside, at the place of the method's token.
 abbrev pub ExportsListInterfaces : Package → Type 0
@@ -24,13 +24,13 @@ ExportsListInterfaces p =
     → (j : ℕ) (m : ExportMethod) → slice_get e.methods j ≡ Some m → is_initialiser m.name ≡ false
     → position (λ s. same s (signature_of (method_of_export m))) (interface_methods (world p) (imported k e)) ≡ Some m.token
 
--- What methods are sent by an interface's name, or are found in an interface, rests on. Left out are a private or static
--- method of an interface; an interface of an export file that lists no super, or a method twice; and a private or static
--- method of java/lang/Object with the name and descriptor of an interface's method.
-pub record InterfacesSend (p : Package) : Type 0 where
-  pub ask : InterfacesAsk (world p)
+-- What export files say of interfaces and of java/lang/Object. Left out are a private or static method of an interface; an
+-- interface that lists no super, or a method twice; and a private or static method of java/lang/Object with the name and
+-- descriptor of an interface's method.
+pub record ExportsSend (p : Package) : Type 0 where
+  pub ask : InterfacesAsk true (world p)
   pub listed : ExportsListInterfaces p
-  -- over superclasses java/lang/Object alone stands above an interface of an export file
+  -- over superclasses java/lang/Object alone stands above an interface
   pub supers : (y : List ℕ) (i : Class) → class_named (world p) y ≡ Some i → is_interface i.flags ≡ true
       → i.is_imported ≡ true → i.supers ≡ object ∷ []
   -- what java/lang/Object has by the name and descriptor of an interface's method is neither private nor static

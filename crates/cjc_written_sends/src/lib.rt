@@ -3,10 +3,11 @@
 //! laws alone, and knows no layout.
 #![tactic(auto)]
 
-ghost use Rattle.std.specs.Prelude.{◌≡◌, ℕ, List, Option, Some, slice_get};
+ghost use Rattle.std.specs.Prelude.{◌≡◌, ℕ, List, Option, Some, false, slice_get};
 ghost use Rattle.cjc_bytecode.specs.Alike.{KnownKind, KnownThing, start_as};
 ghost use Rattle.cjc_bytecode.specs.Renaming.{KnownOperation, option_as, shape_as};
 ghost use Rattle.cjc_bytes.specs.declared.fault.MemberId.{MemberId as Member};
+ghost use Rattle.cjc_bytes.specs.declared.settings.Settings.{Settings};
 ghost use Rattle.cjc_by_name.specs.Linked.{Method};
 ghost use Rattle.cjc_by_token.specs.Classes.{memories};
 ghost use Rattle.cjc_calls_by_token.specs.Reaching as Reaching;
@@ -24,11 +25,13 @@ ghost use Rattle.cjc_script.specs.Sorts.{Shape};
 ghost use Rattle.cjc_tables_by_token.specs.Known.{known_names};
 ghost use Rattle.cjc_tables_by_token.specs.Loading.{naming};
 ghost use Rattle.cjc_tables_by_token.specs.Sound.{IsSound};
-ghost use Rattle.cjc_vtable.specs.Kept.{Keeps};
-ghost use Rattle.cjc_written_calls.specs.Calls.{ExportsKeep, IsNamed, KeepsSubtypes, KeepsTokens, Receives, TakesWords};
+ghost use Rattle.cjc_vtable.specs.Kept.{IsKept, Keeps};
+ghost use Rattle.cjc_world.specs.Classes.{all_classes};
+ghost use Rattle.cjc_world.specs.Files.{Files};
+ghost use Rattle.cjc_written_calls.specs.Calls.{ExportsKeep, IsNamed, KeepsSubtypes, KeepsTokens, NoStaticMethods, Receives, TakesWords};
 ghost use Rattle.cjc_written_calls.specs.Standing.{AreMethods, AreReady, IsSmall, place};
 ghost use Rattle.cjc_written_sends.specs.Named.{CallsAreNamed, FaultsAreClasses, InstructionsNameWhatIsThere, is_called, known, known_tests};
-ghost use Rattle.cjc_written_sends.specs.Sends.{InterfacesSend};
+ghost use Rattle.cjc_written_sends.specs.Sends.{ExportsSend, InterfacesAsk};
 
 use cjc_by_token::kinds_are_told;
 use cjc_layout::layouts_are_laid_out;
@@ -52,10 +55,16 @@ pub fn known_objects_receive_calls()
     ensures receivers { (p : Package) → FaultsAreClasses (world p) → (o : Option (Shape (List ℕ))) → KnownKind (names (naming p) (memories (naming p) (known_names (is_called p) p))) (known p) (IsAmong (placed_methods p)) (IsKnownCall (known_tests p)) o → Receives (world p) o }
 {}
 
+/// In a package of read files that breaks no rule, no interface has a private or static method but its initialiser.
+pub fn package_interfaces_ask()
+    ensures ask { (list : List ℕ) (files : Files) (codes : List MethodCode) (settings : Settings) → IsKept list files codes settings → InterfacesAsk false (all_classes files) }
+    ensures no_static { (list : List ℕ) (files : Files) (codes : List MethodCode) (settings : Settings) → IsKept list files codes settings → NoStaticMethods (all_classes files) }
+{}
+
 /// A method that a script sends to an object begins by token as by name, or is none by both: to an array or an object of
 /// whatever class, by the name of whatever class or interface, and whatever its name and descriptor are.
 pub fn sent_methods_begin_alike()
-    ensures { (list : List ℕ) (p : Package) → IsSound list p.files → AreReady p → AreMethods p → IsSmall p → Keeps (world p) → KeepsSubtypes (world p) → KeepsTokens (world p) → ExportsKeep p → InterfacesSend p
+    ensures { (list : List ℕ) (p : Package) → IsSound list p.files → AreReady p → AreMethods p → IsSmall p → Keeps (world p) → KeepsSubtypes (world p) → KeepsTokens (world p) → ExportsKeep p → InterfacesAsk false (world p) → ExportsSend p
         → (kind : Shape (List ℕ)) → Receives (world p) (Some kind) → (id : Member)
         → (let n = naming p in let methods = Reaching.placed_methods p.files (place p) in Calls.sent n.loaded (shape_as n.class kind) id ≡ option_as (start_as (code_of n) (offset_of n)) (methods.sent kind id)) }
 {
