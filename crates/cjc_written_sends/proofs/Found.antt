@@ -468,7 +468,7 @@ module _ (list : List ℕ) (p : Package) (sound : IsSound list p.files) (facts :
                 let finds_it : finds_shown (line_of w x) s ≡ true = ap (λ l. finds_shown l s) (own_line x c known own) ∙ ap (λ o. passes is_shown o (finds_shown (line_in w (kin w c.supers)) s)) first_one ∙ shown_one in
                 let calls = facts.virtual_calls x x c known itself in
                 let r = calls.open_method s finds_it in
-                subst (λ t. Told x (Some f) (Some t)) (sym (shown_described list p sound facts x c known own class_here i m there is_one shown_one r.0 (ap (token (slots (line_of w x))) names ∙ r.1) (tokens.open_tokens x c s r.0 known r.1)))
+                subst (λ t. Told x (Some f) (Some t)) (sym (shown_described list p sound facts x c known own class_here i m there is_one shown_one r.0 (ap (token (slots (line_of w x))) names ∙ r.1) (tokens x c s r.0 known class_here r.1)))
                 (bears sends (open_dispatches x c known finds_it chosen_one.0 selected r.0 r.1))
             by false not_shown =
                 let finds_it : finds_hidden (line_of w x) s ≡ true = ap (λ l. finds_hidden l s) (own_line x c known own) ∙ ap (λ o. passes is_hidden o (finds_hidden (line_in w (kin w c.supers)) s)) first_one ∙ Rattle.cjc_written_sends.proofs.Tokens.virtual_kinds m is_one not_shown in
