@@ -11,9 +11,8 @@ use Rattle.cjc_card.specs.Dispatch.{Open, Token}
 use Rattle.cjc_card.specs.Operations.{token_of}
 use Rattle.cjc_components.specs.Names.{class_at, fixed_as, member_ref, member_token, offset_where, virtual_token}
 use Rattle.cjc_components.specs.Package.{Package, world}
-use Rattle.cjc_lower.specs.Naming.{Fit, IsClass, IsFixed, IsToken, calls_special, calls_static, calls_super, calls_virtual}
+use Rattle.cjc_lower.specs.Naming.{Fit, IsFixed, IsToken, calls_special, calls_static, calls_super, calls_virtual}
 use Rattle.cjc_ncode.specs.declared.narrow.PoolKey.TheVariants as keys
-use Rattle.cjc_ncode.specs.ByLabel.{OnInterface, OnObject, OnSuper}
 use Rattle.cjc_tables_by_token.specs.Loading.{naming}
 use Rattle.cjc_tokens.proofs.Walks.{kin-known}
 use Rattle.cjc_tokens.specs.Lines.{Declared, Imported, line_in, line_of}
@@ -25,7 +24,7 @@ use Rattle.cjc_world.specs.Added.{added}
 use Rattle.cjc_world.specs.Classes.{Class, class_named}
 use Rattle.cjc_world.specs.Kin.{kin, upwards}
 use Rattle.cjc_world.specs.Lookup.{find_method}
-use Rattle.cjc_written_calls.specs.Calls.{IsNamed, KeepsTokens, on_interface, on_object, on_super}
+use Rattle.cjc_written_calls.specs.Calls.{KeepsTokens}
 use Rattle.cjc_written_calls.proofs.Facts.{Facts}
 use Rattle.cjc_written_calls.proofs.Kins.{name_is}
 use Rattle.cjc_written_calls.proofs.Tables.{class_meant}
@@ -73,14 +72,11 @@ module _ (p : Package) (facts : Facts p) (tokens : KeepsTokens (world p)) where
           let at = sym (ap (class_at p) (name_is w m.class d known)) ∙ h.on_card in
           ap (λ k. token_of k (virtual_token p m)) at ∙ own_taken 0 h.offset (virtual_token p m) ∙ ap (λ k. Some (unwrap_or (token_of k (virtual_token p m)) (Open 0))) (sym at)
 
-  pub virtual_fits : (m : MemberId) → IsNamed w (OnObject m) → Fit (naming p) (Calls Virtual) (keys.Virtual m)
-  virtual_fits m (on_object d known class_here plain sought) = calls_virtual (class_meant p facts m.class d known) (token_means m d known class_here)
+  pub virtual_fits : (m : MemberId) (d : Class) → class_named w m.class ≡ Some d → is_interface d.flags ≡ false → Fit (naming p) (Calls Virtual) (keys.Virtual m)
+  virtual_fits m d known class_here = calls_virtual (class_meant p facts m.class d known) (token_means m d known class_here)
 
-  pub super_fits : (m : MemberId) → IsNamed w (OnSuper m) → Fit (naming p) (Calls Special) (keys.Super m)
-  super_fits m (on_super c d super known own class_here supers super_is plain sought alike) = calls_super (class_meant p facts m.class c known) (token_means m c known class_here)
-
-  pub interface_means : (words : ℕ) (m : MemberId) → IsNamed w (OnInterface words m) → IsClass (naming p) m.class
-  interface_means words m (on_interface i k known interface_here plain placed) = class_meant p facts m.class i known
+  pub super_fits : (m : MemberId) (c : Class) → class_named w m.class ≡ Some c → is_interface c.flags ≡ false → Fit (naming p) (Calls Special) (keys.Super m)
+  super_fits m c known class_here = calls_super (class_meant p facts m.class c known) (token_means m c known class_here)
 
   fixed_means : (on : Bool) (m : MemberId) (c : Class) → class_named w m.class ≡ Some c → c.is_imported ≡ false → IsFixed (naming p) on m
   fixed_means on m c known own =

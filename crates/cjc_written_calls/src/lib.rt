@@ -168,13 +168,12 @@ pub fn sent_methods_stand()
     classes_are_told();
 }
 
-/// What the pool's entry of a call names is what the call names: a virtual method of a class by its token, one of the
-/// superclass, the interface of a call of its method, and of the package itself a static method, a constructor or a
-/// private method.
+/// What names of classes and calls stand for is what their entries in the pool mean: a class by its class_ref, a virtual method of
+/// a class and one of the superclass by its token, and of the package itself a static method, a constructor or a private method.
 pub fn calls_fit_their_keys()
-    ensures virtual_call { (list : List ℕ) (p : Package) → IsSound list p.files → IsSmall p → Keeps (world p) → ExportsKeep p → KeepsTokens (world p) → (m : Member) → IsNamed (world p) (ByLabel.OnObject m) → Fit (naming p) (Meanings.Calls Meanings.Virtual) (keys.Virtual m) }
-    ensures super_call { (list : List ℕ) (p : Package) → IsSound list p.files → IsSmall p → Keeps (world p) → ExportsKeep p → KeepsTokens (world p) → (m : Member) → IsNamed (world p) (ByLabel.OnSuper m) → Fit (naming p) (Meanings.Calls Meanings.Special) (keys.Super m) }
-    ensures interface_call { (list : List ℕ) (p : Package) → IsSound list p.files → IsSmall p → Keeps (world p) → ExportsKeep p → KeepsTokens (world p) → (words : ℕ) (m : Member) → IsNamed (world p) (ByLabel.OnInterface words m) → IsClass (naming p) m.class }
+    ensures classes { (list : List ℕ) (p : Package) → IsSound list p.files → IsSmall p → Keeps (world p) → ExportsKeep p → (x : List ℕ) (c : Class) → class_named (world p) x ≡ Some c → IsClass (naming p) x }
+    ensures virtual_call { (list : List ℕ) (p : Package) → IsSound list p.files → IsSmall p → Keeps (world p) → ExportsKeep p → KeepsTokens (world p) → (m : Member) (c : Class) → class_named (world p) m.class ≡ Some c → is_interface c.flags ≡ false → Fit (naming p) (Meanings.Calls Meanings.Virtual) (keys.Virtual m) }
+    ensures super_call { (list : List ℕ) (p : Package) → IsSound list p.files → IsSmall p → Keeps (world p) → ExportsKeep p → KeepsTokens (world p) → (m : Member) (c : Class) → class_named (world p) m.class ≡ Some c → is_interface c.flags ≡ false → Fit (naming p) (Meanings.Calls Meanings.Special) (keys.Super m) }
     ensures special_call { (list : List ℕ) (p : Package) → IsSound list p.files → IsSmall p → Keeps (world p) → ExportsKeep p → KeepsTokens (world p) → (m : Member) (c : Class) → class_named (world p) m.class ≡ Some c → c.is_imported ≡ false → Fit (naming p) (Meanings.Calls Meanings.Special) (keys.StaticMethod m) }
     ensures static_call { (list : List ℕ) (p : Package) → IsSound list p.files → IsSmall p → Keeps (world p) → ExportsKeep p → KeepsTokens (world p) → (m : Member) (c : Class) → class_named (world p) m.class ≡ Some c → c.is_imported ≡ false → Fit (naming p) (Meanings.Calls Meanings.Static) (keys.StaticMethod m) }
 {

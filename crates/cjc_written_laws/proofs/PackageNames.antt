@@ -59,6 +59,6 @@ class_name bs e = some_parts (slice_split (λ b. b == 47) bs) bs (join_with_byte
 pub package_named : (list : ListTree) → IsRead list → IsClassName list.«package»
 package_named list read =
     let spelt = read.2 in
-    let begins = spelt.0.2.2.begins in
+    let begins = spelt.0.3.begins in
     let says = begins.2 in
-    class_name list.«package» says.2.2
+    class_name list.«package» says.3

@@ -3,7 +3,7 @@ use Rattle.std.proofs.Common.{◌≡◌, ℕ, refl, sym, ap, ◌∙◌, Bool, tr
 use Rattle.std.specs.Prelude.{◌&&◌, ◌||◌, not, Some, is_some, slice_get}
 use Rattle.cjc_bytes.specs.AccessFlags.{is_abstract, is_interface, is_static}
 use Rattle.cjc_bytes.specs.declared.settings.Settings.{Settings}
-use Rattle.cjc_by_name.specs.OnePackage.{is_initialiser}
+use Rattle.cjc_by_name.specs.OnePackage.{is_constructor, is_initialiser}
 use Rattle.cjc_call_laws.proofs.Own.{mapped_at}
 use Rattle.cjc_call_laws.specs.Solid.{IsOwn, IsSolid}
 use Rattle.cjc_classfile.specs.declared.tree.ClassTree.{ClassTree}
@@ -19,7 +19,7 @@ use Rattle.cjc_solid_laws.proofs.Rules.{method_kept}
 use Rattle.cjc_solid_laws.proofs.Solid.{solid as solid_of}
 use Rattle.cjc_solid_laws.specs.Files.{IsClean}
 use Rattle.cjc_subset.specs.Checks.{check_breaks}
-use Rattle.cjc_subset.specs.Flags.{is_unfit_method}
+use Rattle.cjc_subset.specs.Flags.{is_unfit_method, is_unfit_method_kind}
 use Rattle.cjc_table_rules.proofs.Spelt.{class_read}
 use Rattle.cjc_upward_laws.specs.Upwards.{IsOrdered}
 use Rattle.cjc_world.specs.Classes.{Class, Member, all_classes, class_named, method_of_class}
@@ -32,9 +32,11 @@ use Rattle.cjc_written_laws.proofs.Files.{are_spelt, own_unbroken, read_files, s
 use Rattle.cjc_written_laws.proofs.Subtypes.{keeps_subtypes}
 use Rattle.cjc_written_laws.proofs.Tokens.{keeps_tokens}
 
-last_of : (a b : Bool) → (a || b) ≡ false → b ≡ false
-last_of true b e = cc
-last_of false b e = e
+last_of : (a b c d : Bool) → (a || b || c || d) ≡ false → d ≡ false
+last_of true b c d e = cc
+last_of false true c d e = cc
+last_of false false true d e = cc
+last_of false false false d e = e
 
 both_then : (a b c : Bool) → a ≡ true → b ≡ true → (a && b && not c) ≡ false → c ≡ true
 both_then true true true e f g = refl
@@ -54,7 +56,8 @@ module _ (files : Files) (solid : IsSolid files) (list : List ℕ) (codes : List
       clash false e f = absurd (cc)
 
       coded : (b : Bool) → b ≡ true → is_unfit_method (is_interface t.flags) m.flags m.name b ≡ false → is_initialiser m.name ≡ true
-      coded b g fit = both_then (is_interface t.flags) b (is_initialiser m.name) interface g (last_of _ _ (last_of _ _ (last_of _ _ fit)))
+      coded b g fit = both_then (is_interface t.flags) b (is_initialiser m.name) interface g
+          (last_of (is_unfit_method_kind m.flags) (is_abstract m.flags && (is_constructor m.name || is_initialiser m.name)) (is_initialiser m.name && not (is_static m.flags)) (is_interface t.flags && b && not (is_initialiser m.name)) fit)
 
       by : (b : Bool) → is_abstract m.flags ≡ b → is_initialiser m.name ≡ true
       by true g = clash (is_static m.flags) static (solid.bound t m own g).0

@@ -1,14 +1,26 @@
 -- Packages that are converted, and what is asked of the export files beside them.
-use Rattle.std.specs.Prelude.{◌≡◌, ℕ, List, []}
+use Rattle.std.specs.Prelude.{◌≡◌, ℕ, List, [], Some, true, false, slice_get}
+use Rattle.cjc_by_name.specs.OnePackage.{is_initialiser}
+use Rattle.cjc_bytes.specs.AccessFlags.{is_interface, is_private, is_static}
 use Rattle.cjc_components.specs.Limits.{form_breaks, of_methods, size_breaks, word_breaks}
 use Rattle.cjc_components.specs.Package.{Package, world}
+use Rattle.cjc_export.specs.declared.tree.ExportClass.{ExportClass}
+use Rattle.cjc_export.specs.declared.tree.ExportMethod.{ExportMethod}
 use Rattle.cjc_judge.specs.declared.judged.Judged.{Judged}
 use Rattle.cjc_judge.specs.Spelt.{IsRead}
 use Rattle.cjc_list.specs.Listed.{ListTree}
 use Rattle.cjc_prepared.specs.Prepared.{IsSound}
 use Rattle.cjc_solid_laws.specs.Files.{ExportsAreSound}
+use Rattle.cjc_subset.specs.Members.{imports}
 use Rattle.cjc_vtable.specs.Kept.{ExportsAgree}
 use Rattle.cjc_whole.specs.Conversion.{IsPackageOf}
+use Rattle.cjc_world.specs.Files.{Files}
+
+-- The premise on methods in export files, method by method: one of an interface is neither static nor private, and an
+-- initialiser is static (Java Virtual Machine Specification, sections 2.9 and 4.6).
+pub record ExportsArePlain (files : Files) : Type 0 where
+  pub interfaces : (n : ℕ) (c : ExportClass) → slice_get (imports files.exports) n ≡ Some c → is_interface c.flags ≡ true → (k : ℕ) (m : ExportMethod) → slice_get c.methods k ≡ Some m → (is_static m.flags ≡ false) × (is_private m.flags ≡ false)
+  pub initialisers : (n : ℕ) (c : ExportClass) → slice_get (imports files.exports) n ≡ Some c → (k : ℕ) (m : ExportMethod) → slice_get c.methods k ≡ Some m → is_initialiser m.name ≡ true → is_static m.flags ≡ true
 
 -- The package of a list that was read and of its files. It breaks no rule: none of its files, neither 417, 311, 414
 -- and 415, nor 411 and 416. Its export files say of their classes what a platform has, and don't contradict one another.
@@ -20,4 +32,5 @@ pub record IsConverted (list : ListTree) (files : List (List ℕ)) (judged : Jud
   pub forms : form_breaks p ≡ []
   pub sizes : size_breaks p ≡ []
   pub exports : ExportsAreSound p.files
+  pub plain : ExportsArePlain p.files
   pub agree : ExportsAgree (world p)

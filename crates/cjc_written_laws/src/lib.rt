@@ -13,6 +13,7 @@ ghost use Rattle.cjc_code_consistency.specs.Caught.{HandlersLie};
 ghost use Rattle.cjc_code_consistency.specs.Ends.{AllStayInside};
 ghost use Rattle.cjc_code_consistency.specs.Kinds.{AllHaveKinds};
 ghost use Rattle.cjc_code_consistency.specs.Written.{AllWritable};
+ghost use Rattle.cjc_code_promises.specs.Made.{AllAreMade};
 ghost use Rattle.cjc_component_laws.specs.Methods.{HasMethods};
 ghost use Rattle.cjc_component_laws.specs.OwnNames.{HaveOwnNames};
 ghost use Rattle.cjc_components.specs.Names.{names};
@@ -81,8 +82,9 @@ pub fn converted_methods_are_in_order()
 {}
 
 /// Its methods are short: all of Method has at most 65,535 bytes. They are consistent as code: bytes can say them, jumps and
-/// handlers stay inside them, and what they name is of the kind that its opcode uses.
+/// handlers stay inside them, and what they name is of the kind that its opcode uses. Each comes to its code by selection.
 pub fn converted_methods_are_consistent()
+    ensures made { (list : ListTree) (files : List (List ℕ)) (judged : Judged) (p : Package) → IsConverted list files judged p → AllAreMade (names p) p.files p.methods }
     ensures small { (list : ListTree) (files : List (List ℕ)) (judged : Judged) (p : Package) → IsConverted list files judged p → IsSmall p }
     ensures classes { (list : ListTree) (files : List (List ℕ)) (judged : Judged) (p : Package) → IsConverted list files judged p → HaveOwnNames (class_order (world p)) }
     ensures methods { (list : ListTree) (files : List (List ℕ)) (judged : Judged) (p : Package) → IsConverted list files judged p → HasMethods p }

@@ -12,7 +12,7 @@ use Rattle.cjc_written_laws.proofs.Made.{all_made, is_small, short_at}
 use Rattle.cjc_written_laws.proofs.Shaping.{has_pool, is_shaped, pool_of, shaped_for}
 use Rattle.cjc_written_laws.proofs.converted_methods_are_consistent.Goals as goal
 
-made : goal.Start → (list : ListTree) (files : List (List ℕ)) (judged : Judged) (p : Package) → IsConverted list files judged p → AllAreMade (names p) p.files p.methods
+made : goal.After-written_methods_are_made → (list : ListTree) (files : List (List ℕ)) (judged : Judged) (p : Package) → IsConverted list files judged p → AllAreMade (names p) p.files p.methods
 made c list files judged p is =
     let shaped = is_shaped list files judged p is (short_at list files judged p is) in
     let pooled = has_pool judged.world (tokens p) (codes p) in
@@ -24,6 +24,9 @@ made c list files judged p is =
     (λ m w e. law.added (names p) p.files near rows m w e)
     (λ m w class method e. law.without_code (names p) p.files near rows m w class method e)
     (λ m w code class method tree of e finds least some can. law.selected (names p) p.files near rows m w code class method tree of e finds least some can)
+
+pub returns-clause-made : goal.returns-clause-made
+returns-clause-made = made
 
 pub returns-clause-small : goal.returns-clause-small
 returns-clause-small c = λ list files judged p is. is_small list files judged p is c.methods_can_be_laid_out.ensures
