@@ -79,7 +79,7 @@ waits-parts i placed c e = by c.is_imported (is_of_kind i c) (is_in placed c.num
     by false false d f = cc
     by true b d f = cc
 
-waits-by : (i : Bool) (placed : List ℕ) (c : Class) → c.is_imported ≡ false → is_of_kind i c ≡ true → is_in placed c.number ≡ false → waits i placed c ≡ true
+pub waits-by : (i : Bool) (placed : List ℕ) (c : Class) → c.is_imported ≡ false → is_of_kind i c ≡ true → is_in placed c.number ≡ false → waits i placed c ≡ true
 waits-by i placed c e f g = ap (λ b. not b && is_of_kind i c && not (is_in placed c.number)) e ∙ ap (λ b. b && not (is_in placed c.number)) f ∙ ap not g
 
 stands-waits : (w : List Class) (i : Bool) (placed : List ℕ) (c : Class) → may_stand w i placed c ≡ true → waits i placed c ≡ true
@@ -150,7 +150,7 @@ left : (i : Bool) (placed : List ℕ) → List Class → ℕ
 left i placed [] = 0
 left i placed (c ∷ cs) = one (waits i placed c) + left i placed cs
 
-left-most : (i : Bool) (placed : List ℕ) (cs : List Class) → left i placed cs ≤ length cs
+pub left-most : (i : Bool) (placed : List ℕ) (cs : List Class) → left i placed cs ≤ length cs
 unfolding left one
 left-most i placed [] = omega arith
 left-most i placed (c ∷ cs) = by (waits i placed c) (left-most i placed cs)
@@ -257,7 +257,7 @@ module _ (w : List Class) (i : Bool) where
               let here : is_in (placed ++ d.number ∷ []) c.number ≡ true = ap (is_in (placed ++ d.number ∷ [])) number ∙ in-it placed d.number in
               cc
 
-  lined-has : (n : ℕ) (placed : List ℕ) (c : Class) → ((x : List ℕ) → Settles w (suc (length w)) x) → ((c d : Class) → Has c w → Has d w → c.is_imported ≡ false → d.is_imported ≡ false → c.number ≡ d.number → c ≡ d)
+  pub lined-has : (n : ℕ) (placed : List ℕ) (c : Class) → ((x : List ℕ) → Settles w (suc (length w)) x) → ((c d : Class) → Has c w → Has d w → c.is_imported ≡ false → d.is_imported ≡ false → c.number ≡ d.number → c ≡ d)
       → class_named w c.name ≡ Some c → Has c w → left i placed w ≤ n → waits i placed c ≡ true → Has c (lined_up w i n placed)
   unfolding lined_up
   lined-has zero placed c settles one_of named h le e = let some = left-some i placed w c h e in absurd (omega (arith, some, le))
