@@ -1,6 +1,6 @@
 -- A static image has no more cells than the class files have static fields that are no constants, each of which Descriptor has.
-use Rattle.std.proofs.Common.{◌≡◌, ℕ, zero, suc, ◌+◌, ◌≤◌, ◌<◌, refl, sym, ap, subst, ◌∙◌, arith, Bool, true, false, not, List, [], ◌∷◌, ◌++◌, length, length-append, map, Option, Some, None, ℤ, pos}
-use Rattle.std.specs.Prelude.{◌&&◌, ◌||◌, cond, count_by, is_some, option_map, replicate, slice_get, slice_set, sum_by, if◌then◌else◌}
+use Rattle.std.proofs.Common.{◌≡◌, ℕ, zero, suc, ◌+◌, ◌≤◌, ◌<◌, refl, sym, ap, subst, ◌∙◌, arith, Bool, true, false, not, List, [], ◌∷◌, ◌++◌, length, length-append, map, Option, Some, None, pos}
+use Rattle.std.specs.Prelude.{◌&&◌, cond, count_by, option_map, replicate, slice_get, slice_set, sum_by, if◌then◌else◌}
 use Rattle.std.specs.Ordering.{int_eq}
 use Rattle.std.proofs.lemmas.List.{length-map}
 use Rattle.std.proofs.lemmas.List.Sums.{sum_by-cons}
@@ -34,7 +34,7 @@ use Rattle.cjc_class_order.specs.Numbers.{class_count, numbered_from}
 use Rattle.cjc_fit_laws.specs.Premises.{CellsAreDescribed}
 use Rattle.cjc_narrow_laws.proofs.Own.{class_by_name}
 use Rattle.cjc_tables_by_token.proofs.Filed.{one_class, own_in}
-use Rattle.cjc_tables_by_token.proofs.Order.{left-most, lined-has, waits-by}
+use Rattle.cjc_tables_by_token.proofs.Order.{all-lined}
 use Rattle.cjc_tables_by_token.specs.Sound.{export_count}
 use Rattle.cjc_vtable.proofs.Filed.{Has}
 use Rattle.cjc_world.proofs.Settled.{clear_settles}
@@ -333,8 +333,8 @@ module _ (list : List ℕ) (p : Package) (own_listed : (let v = p.files in lengt
     where
       one : (n : ℕ) (t : ClassTree) → (let v = p.files in slice_get v.classes n ≡ Some t) → (i : Bool) → is_of_kind i (declared n t) ≡ true → Has (declared n t) (lined_up (world p) i (length (world p)) [])
       one n t at i kind =
-          lined-has (world p) i (length (world p)) [] (declared n t) (λ x. clear_settles (world p) x (λ z way far. acyclic z far)) (λ a b f g k l m. one_class p.files own_listed imports_listed a b f g (k ∙ sym l) m)
-          (class_by_name p.files list own_listed unbroken n t at) (own_in p.files own_listed imports_listed n t at) (left-most i [] (world p)) (waits-by i [] (declared n t) refl kind refl)
+          all-lined (world p) i (declared n t) (λ x. clear_settles (world p) x (λ z way far. acyclic z far)) (λ a b f g k l m. one_class p.files own_listed imports_listed a b f g (k ∙ sym l) m)
+          (class_by_name p.files list own_listed unbroken n t at) (own_in p.files own_listed imports_listed n t at) refl kind
 
       by : (n : ℕ) (t : ClassTree) → (let v = p.files in slice_get v.classes n ≡ Some t) → (b : Bool) → is_interface t.flags ≡ b → Has (declared n t) (in_order (world p) true ++ in_order (world p) false)
       by n t at true e = has_front (declared n t) (in_order (world p) true) (in_order (world p) false) (one n t at true e)

@@ -1,6 +1,6 @@
 -- A package that breaks no rule keeps what consistent components rest on.
-use Rattle.std.proofs.Common.{◌≡◌, ℕ, zero, suc, ◌≤◌, refl, sym, ap, subst, ◌∙◌, arith, Bool, true, false, not, List, [], ◌∷◌, ◌++◌, length, map, Option, Some, None}
-use Rattle.std.specs.Prelude.{◌&&◌, ◌||◌, codes, nat_lt, slice_get, sum_by}
+use Rattle.std.proofs.Common.{◌≡◌, ℕ, zero, suc, ◌≤◌, refl, sym, ap, ◌∙◌, Bool, true, false, not, List, [], ◌∷◌, ◌++◌, map, Some}
+use Rattle.std.specs.Prelude.{◌&&◌, ◌||◌, codes, nat_lt, slice_get}
 use Rattle.std.specs.List.{list_any}
 use Rattle.std.specs.Str.{bytes_eq}
 use Rattle.std.proofs.lemmas.Bool.{ltb-false}

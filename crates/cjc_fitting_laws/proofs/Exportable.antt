@@ -12,40 +12,36 @@ use Rattle.cjc_bytes.specs.AccessFlags.{is_interface}
 use Rattle.cjc_bytes.specs.Breaks.{at}
 use Rattle.cjc_bytes.specs.Descriptor.{Parts}
 use Rattle.cjc_bytes.specs.Format.{FileSpells}
-use Rattle.cjc_bytes.specs.Spots.{desc_of}
 use Rattle.cjc_bytes.specs.Text.{decimal, decimal_from, is_digit}
 use Rattle.cjc_classfile.proofs.Fitting.{spelt_fits}
 use Rattle.cjc_classfile.specs.ClassFile.{class_file}
-use Rattle.cjc_classfile.specs.Fits.{ClassFits, FieldFits}
+use Rattle.cjc_classfile.specs.Fits.{FieldFits}
 use Rattle.cjc_classfile.specs.declared.tree.ClassTree.{ClassTree}
-use Rattle.cjc_classfile.specs.declared.tree.FieldTree.{FieldTree}
 use Rattle.cjc_components.specs.ExportFile.{export_of}
-use Rattle.cjc_components.specs.Limits.{form_breaks, has_many_entries, layout_breaks, of_methods, spot_of_list}
-use Rattle.cjc_components.specs.Package.{Package, has_applets, pool, world}
+use Rattle.cjc_components.specs.Limits.{has_many_entries, layout_breaks, of_methods, spot_of_list}
+use Rattle.cjc_components.specs.Package.{Package, pool, world}
 use Rattle.cjc_export.specs.Members.{as_desc}
 use Rattle.cjc_export.specs.Pool.{aid_length}
 use Rattle.cjc_export.specs.Writable.{IsText}
 use Rattle.cjc_export.specs.Written.{constants}
 use Rattle.cjc_export_laws.proofs.Own.{IsOwn, own_class}
-use Rattle.cjc_export_laws.specs.Exportable.{ClassIsRead, ClassStands, ClassesStand, FieldIsRead, IsExportable, ListIsRead}
+use Rattle.cjc_export_laws.specs.Exportable.{ClassIsRead, ClassStands, ClassesStand, IsExportable, ListIsRead}
 use Rattle.cjc_judge.specs.Rules.{settings_of}
 use Rattle.cjc_judge.specs.Spelt.{IsRead}
 use Rattle.cjc_judge.specs.declared.judged.Judged.{Judged}
 use Rattle.cjc_list.specs.Listed.{ListTree}
-use Rattle.cjc_list.specs.Spelling.{IsVersion, Spelt}
 use Rattle.cjc_narrow_laws.proofs.Own.{own_kept}
 use Rattle.cjc_prepared.proofs.Sound as Sound
 use Rattle.cjc_range.specs.Span.{Holds, full}
 use Rattle.cjc_read_laws.proofs.Members.{read_class}
-use Rattle.cjc_read_laws.specs.Members.{IsDescOf, IsReadClass}
+use Rattle.cjc_read_laws.specs.Members.{IsDescOf}
 use Rattle.cjc_tokens.specs.Rules.{FewCells}
 use Rattle.cjc_vtable.proofs.Numbers.{at-tree}
 use Rattle.cjc_supers.specs.Supers.{interfaces}
 use Rattle.cjc_world.specs.Classes.{Class, class_at, declared, field_of_class}
-use Rattle.cjc_world.specs.Files.{Files}
 use Rattle.cjc_world.specs.Rules.{is_second}
 use Rattle.cjc_fitting_laws.proofs.Exported.{or_second}
-use Rattle.cjc_fitting_laws.proofs.Flags.{HasFlags, SmallFlags, small_flags}
+use Rattle.cjc_fitting_laws.proofs.Flags.{HasFlags, small_flags}
 use Rattle.cjc_fitting_laws.proofs.Interfaces.{few_listed}
 use Rattle.cjc_fitting_laws.proofs.Limited.{acyclic, by_files, by_list, class_in_bytes, exported, few_imports, is_kin, list_short, tokens, unbroken, writable}
 use Rattle.cjc_fitting_laws.proofs.Listed.{aid_long, aid_short, spelt}
@@ -121,16 +117,16 @@ class_read t bytes ok h =
       superclass = omega (arith, superclass);
       interfaces = texts t.interfaces fits.interfaces;
       fields = λ k f e.
-      let one = all_at FieldFits t.fields k f fits.fields e in
-      let own = one.name in
-      let desc = one.desc in
-      record {
-        flags = all_at HasFlags t.fields k f flags.fields e;
-        name = omega (arith, own);
-        desc = omega (arith, desc);
-        is_desc = field_desc f.desc (read.fields k f e);
-        constant = number f.constant (λ z g. fits32 z (read.constants k f z e g));
-      };
+          let one = all_at FieldFits t.fields k f fits.fields e in
+          let own = one.name in
+          let desc = one.desc in
+          record {
+            flags = all_at HasFlags t.fields k f flags.fields e;
+            name = omega (arith, own);
+            desc = omega (arith, desc);
+            is_desc = field_desc f.desc (read.fields k f e);
+            constant = number f.constant (λ z g. fits32 z (read.constants k f z e g));
+          };
     }
   where
     number : (o : Option ℤ) → ((z : ℤ) → o ≡ Some z → FitsSigned w32 z) → IfSome o (FitsSigned w32)

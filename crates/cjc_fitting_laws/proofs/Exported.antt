@@ -1,17 +1,14 @@
 -- Where 401 and 413 are not broken, few classes are exported, each with few static fields and methods; and interfaces have neither static methods nor constructors.
-use Rattle.std.proofs.Common.{◌≡◌, ℕ, zero, suc, ◌+◌, ◌≤◌, ◌<◌, refl, sym, ap, subst, ◌∙◌, arith, Bool, true, false, not, List, [], ◌∷◌, ◌++◌, length, map, Option, Some, None}
+use Rattle.std.proofs.Common.{◌≡◌, ℕ, suc, ◌+◌, ◌≤◌, refl, sym, ap, ◌∙◌, arith, Bool, true, false, not, List, [], ◌∷◌, ◌++◌, length, map, Some}
 use Rattle.std.specs.Prelude.{◌&&◌, ◌||◌, cond, count_by, filter, is_some, nat_lt, slice_get, if◌then◌else◌}
 use Rattle.std.proofs.lemmas.Bool.{ltb-false}
-use Rattle.std.proofs.lemmas.List.{length-map}
 use Rattle.std.proofs.lemmas.List.Sums.{length-filter, sum_by-cons}
 use Rattle.cjc_bytes.specs.AccessFlags.{acc_native, acc_strict, acc_synchronized, has, is_abstract, is_interface, is_private, is_static}
 use Rattle.cjc_bytes.specs.Format.{FileSpells}
 use Rattle.cjc_classfile.specs.ClassFile.{class_file}
 use Rattle.cjc_classfile.specs.declared.tree.ClassTree.{ClassTree}
-use Rattle.cjc_classfile.specs.declared.tree.FieldTree.{FieldTree}
 use Rattle.cjc_classfile.specs.declared.tree.MethodTree.{MethodTree}
 use Rattle.cjc_components.specs.Class.{fields_in, fields_of}
-use Rattle.cjc_components.specs.ExportFile.{export_class, export_of}
 use Rattle.cjc_components.specs.Exports.{exported_classes, open_methods}
 use Rattle.cjc_components.specs.Package.{Package, has_applets, world}
 use Rattle.cjc_export_laws.proofs.Own.{IsOwn, own_class}
@@ -163,9 +160,9 @@ module _ (p : Package) (tokens : token_breaks (has_applets p) p.files ≡ []) (b
     exports_few = record {
       fields = fields_few;
       methods =
-      let o = own in
-      let few = bound_few in
-      let all = open_counted c (length c.fields) c.methods in
-      let same : count_by is_open_bound c.methods ≡ count_by is_open_bound (declared o.number o.tree).methods = ap (λ (d : Class). count_by is_open_bound d.methods) o.is in
-      let le : length (open_methods c (length c.fields) c.methods) ≤ 255 = omega (arith, few, all, same) in le;
+          let o = own in
+          let few = bound_few in
+          let all = open_counted c (length c.fields) c.methods in
+          let same : count_by is_open_bound c.methods ≡ count_by is_open_bound (declared o.number o.tree).methods = ap (λ (d : Class). count_by is_open_bound d.methods) o.is in
+          let le : length (open_methods c (length c.fields) c.methods) ≤ 255 = omega (arith, few, all, same) in le;
     }

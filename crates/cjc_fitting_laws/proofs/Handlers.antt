@@ -1,5 +1,5 @@
 -- Where 407 is not broken at most 255 handlers are written: each stands in the exception table of a method of a class file.
-use Rattle.std.proofs.Common.{◌≡◌, ℕ, zero, suc, ◌+◌, ◌≤◌, refl, sym, ap, subst, ◌∙◌, arith, Bool, true, false, List, [], ◌∷◌, ◌++◌, length, map, get_or, inl, inr, Option, Some, None}
+use Rattle.std.proofs.Common.{◌≡◌, ℕ, zero, suc, ◌+◌, ◌≤◌, refl, sym, ap, subst, ◌∙◌, arith, Bool, true, false, List, [], ◌∷◌, length, map, get_or, inl, inr, Option, Some, None}
 use Rattle.std.specs.Prelude.{◌-◌, ◌<◌, ◌⊎◌, filter, cond, codes, nat_le, nat_lt, option_and_then, option_map, slice_get, sum_by, if◌then◌else◌}
 use Rattle.std.specs.Str.{bytes_eq}
 use Rattle.std.proofs.lemmas.List.{length-map}

@@ -10,6 +10,7 @@ pub mod Methods
 pub mod Listed
 pub mod Arrays
 pub mod Values
+pub mod Initialisers
 pub mod Cells
 pub mod Limited
 pub mod Sizes

@@ -1,5 +1,5 @@
 -- A package whose methods are laid out keeps what its components rest on.
-use Rattle.std.proofs.Common.{◌≡◌, ℕ, ◌+◌, ◌≤◌, ◌<◌, refl, sym, ap, subst, ◌∙◌, arith, Bool, true, false, List, [], ◌∷◌, ◌++◌, length, map, Some}
+use Rattle.std.proofs.Common.{◌≡◌, ℕ, ◌≤◌, ◌<◌, sym, ap, subst, ◌∙◌, arith, true, false, List, [], length, Some}
 use Rattle.std.specs.Prelude.{nat_lt, slice_get, sum_by, if◌then◌else◌}
 use Rattle.std.specs.List.{AllByRecursion}
 use Rattle.std.proofs.lemmas.List.{length-map}
@@ -9,25 +9,23 @@ use Rattle.cjc_bytes.specs.Format.{FileSpells}
 use Rattle.cjc_clinit.specs.Rules.{BreaksImage}
 use Rattle.cjc_code.specs.PackageCodes.{all_codes}
 use Rattle.cjc_descriptor.specs.Fits.{AreFit}
-use Rattle.cjc_written_laws.proofs.Places.{stand_once}
+use Rattle.cjc_fitting_laws.proofs.Initialisers.{stand_once}
 use Rattle.cjc_classfile.specs.ClassFile.{class_file}
-use Rattle.cjc_bytes.specs.declared.settings.FileLine.{FileLine}
 use Rattle.cjc_by_name.specs.OnePackage.{method_at}
-use Rattle.cjc_class_order.specs.Numbers.{class_count}
 use Rattle.cjc_classfile.specs.declared.tree.ClassTree.{ClassTree}
 use Rattle.cjc_classfile.specs.declared.tree.MethodTree.{MethodTree}
 use Rattle.cjc_components.specs.Class.{interfaces_of}
 use Rattle.cjc_components.specs.ExportFile.{export_class, export_of}
 use Rattle.cjc_components.specs.Exports.{exported_classes}
-use Rattle.cjc_components.specs.Limits.{else_of, form_breaks, limit_breaks, of_methods, size_breaks, word_breaks}
+use Rattle.cjc_components.specs.Limits.{else_of, form_breaks, limit_breaks, size_breaks}
 use Rattle.cjc_components.specs.Methods.{handler_count}
 use Rattle.cjc_components.specs.Package.{LaidMethod, Package, has_applets, world}
 use Rattle.cjc_export.specs.Writable.{IsWritable}
 use Rattle.cjc_export.specs.declared.tree.ExportTree.{ExportTree}
-use Rattle.cjc_fit_laws.specs.Premises.{CellsAreDescribed, ClassIsSmall, ExportsFew, IsLimited, ListIsShort, MethodIsShort}
+use Rattle.cjc_fit_laws.specs.Premises.{CellsAreDescribed, ClassIsSmall, IsLimited, ListIsShort, MethodIsShort}
 use Rattle.cjc_judge.specs.Rules.{settings_of}
 use Rattle.cjc_judge.specs.Rules as judging
-use Rattle.cjc_judge.specs.Spelt.{FileTree, classes_of, exports_of}
+use Rattle.cjc_judge.specs.Spelt.{FileTree, exports_of}
 use Rattle.cjc_judge.specs.declared.judged.Judged.{Judged}
 use Rattle.cjc_judge_laws.proofs.Selected.{judged_writable}
 use Rattle.cjc_list.specs.Listed.{ListTree}
@@ -39,12 +37,12 @@ use Rattle.cjc_tokens.specs.Methods.{is_open_bound}
 use Rattle.cjc_tokens.specs.Rules.{FewExported, token_breaks}
 use Rattle.cjc_vtable.proofs.Filed.{get-has}
 use Rattle.cjc_whole.proofs.Drafts as Drafts
-use Rattle.cjc_whole_laws.proofs.ClassOrder.{members_are}
+use Rattle.cjc_whole.proofs.Second.{package_is_draft}
 use Rattle.cjc_world.proofs.Settled.{IsKin-one, kin-IsKin}
 use Rattle.cjc_world.proofs.Unbroken.{unbroken_is_acyclic}
-use Rattle.cjc_world.specs.Classes.{Class, Member, all_classes, declared, method_of_class}
+use Rattle.cjc_world.specs.Classes.{Class, declared, method_of_class}
 use Rattle.cjc_world.specs.Files.{Files}
-use Rattle.cjc_world.specs.Kin.{IsAcyclic, IsKin, Kin, kin}
+use Rattle.cjc_world.specs.Kin.{IsAcyclic, IsKin, kin}
 use Rattle.cjc_world.specs.Order.{class_order}
 use Rattle.cjc_fitting_laws.proofs.Arrays.{arrays_fit}
 use Rattle.cjc_fitting_laws.proofs.Cells.{are_described}
@@ -162,7 +160,7 @@ module _ (list : ListTree) (files : List (List ℕ)) (judged : Judged) (p : Pack
   few_handlers : sum_by handler_count p.methods ≤ 255
   few_handlers = let u = unbroken in
       let rows = Drafts.rows list files judged is.sound in
-      let all = few p.files p.methods (members_are list files judged is.sound p is.is_package)
+      let all = few p.files p.methods (let d = package_is_draft list files p is.is_package in d.members)
       (λ k m e. subst (λ (v : Files). handler_count m ≤ entries (method_at v m.member)) (sym by_files) (handlers_few judged.world (near list files judged is.sound p is.is_package) rows m (own_code list files judged is.sound p is.is_package k m e))) in
       let kept = Rules.few_handlers list.name p.files judged.codes (settings_of list) u.checks in
       omega (arith, all, kept)

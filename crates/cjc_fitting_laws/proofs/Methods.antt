@@ -1,10 +1,10 @@
 -- The methods of a package that breaks no rule: their widest sizes, their forms and their handlers.
-use Rattle.std.proofs.Common.{◌≡◌, ℕ, zero, suc, ◌+◌, ◌≤◌, refl, sym, ap, subst, ◌∙◌, arith, Bool, true, false, List, [], ◌∷◌, ◌++◌, length, map, Option, Some, None}
-use Rattle.std.specs.Prelude.{All, flat_map, nat_lt, option_map, slice_get}
+use Rattle.std.proofs.Common.{◌≡◌, ℕ, zero, suc, ◌≤◌, refl, sym, ap, subst, ◌∙◌, arith, Bool, true, false, List, [], ◌∷◌, ◌++◌, map, Some}
+use Rattle.std.specs.Prelude.{All, flat_map, option_map, slice_get}
 use Rattle.std.proofs.lemmas.Bool.{ltb-false}
 use Rattle.std.proofs.lemmas.List.Elements.{All-head, All-tail}
 use Rattle.std.proofs.lemmas.Option.{slice_get-map}
-use Rattle.cjc_bytes.specs.Breaks.{Break, at}
+use Rattle.cjc_bytes.specs.Breaks.{at}
 use Rattle.cjc_bytes.specs.declared.fault.MemberId.{MemberId}
 use Rattle.cjc_components.specs.Descriptor.{method_in}
 use Rattle.cjc_components.specs.Limits.{form_breaks, has_many_entries, in_class, is_too_long, layout_breaks, method_spot, of_methods, order_breaks, spot_of_list}
@@ -13,7 +13,7 @@ use Rattle.cjc_components.specs.Written.{code_at}
 use Rattle.cjc_fit_laws.specs.Premises.{MethodIsShort}
 use Rattle.cjc_judge.specs.declared.judged.Judged.{Judged}
 use Rattle.cjc_judge_laws.proofs.Selected.{judged_whole}
-use Rattle.cjc_judge_laws.specs.Tested.{IsOne, IsTested}
+use Rattle.cjc_judge_laws.specs.Tested.{IsTested}
 use Rattle.cjc_layout.specs.Forms.{HasForm}
 use Rattle.cjc_layout.specs.Layouts.{IsWhole}
 use Rattle.cjc_layout.specs.Refusals.{least, overtaking}

@@ -1,6 +1,6 @@
 -- What a package keeps of the rules of limits and flags.
-use Rattle.std.proofs.Common.{◌≡◌, ℕ, ◌+◌, ◌≤◌, refl, sym, ap, subst, ◌∙◌, arith, Bool, true, false, List, [], ◌∷◌, ◌++◌, length, not, Some}
-use Rattle.std.specs.Prelude.{◌&&◌, is_some, nat_lt, slice_get, sum_by}
+use Rattle.std.proofs.Common.{◌≡◌, ℕ, ◌≤◌, false, List, [], ◌++◌, length, Some}
+use Rattle.std.specs.Prelude.{is_some, slice_get, sum_by}
 use Rattle.std.proofs.lemmas.Bool.{ltb-false}
 use Rattle.cjc_bytes.specs.AccessFlags.{is_interface}
 use Rattle.cjc_bytes.specs.Breaks.{Break, at, each_from}
@@ -11,10 +11,9 @@ use Rattle.cjc_classfile.specs.declared.tree.MethodTree.{MethodTree}
 use Rattle.cjc_code.specs.declared.method_code.MethodCode.{MethodCode}
 use Rattle.cjc_select_laws.proofs.Limits.{each_at, none_left, none_right, not_broken}
 use Rattle.cjc_subset.specs.Applets.{has_unfit_applets}
-use Rattle.cjc_subset.specs.Checks.{check_breaks, class_breaks, code_breaks, field_breaks, list_breaks, method_breaks, own_breaks}
+use Rattle.cjc_subset.specs.Checks.{check_breaks, class_breaks, code_breaks, list_breaks, method_breaks, own_breaks}
 use Rattle.cjc_subset.specs.Flags.{is_unfit_method}
 use Rattle.cjc_subset.specs.Limits.{handlers_of_class, has_many_handlers, has_many_interfaces, listed_names, most_interfaces, noted}
-use Rattle.cjc_subset.specs.Overriding.{overriding_breaks}
 use Rattle.cjc_world.specs.Classes.{all_classes}
 use Rattle.cjc_world.specs.Files.{Files}
 

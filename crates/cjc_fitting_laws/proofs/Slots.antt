@@ -1,6 +1,6 @@
 -- Where 413 is not broken, a class has at most 128 slots of either kind.
-use Rattle.std.proofs.Common.{◌≡◌, ℕ, zero, suc, ◌+◌, ◌<◌, ◌≤◌, refl, sym, ap, subst, ◌∙◌, arith, Bool, true, false, List, [], ◌∷◌, ◌++◌, length, map, append_assoc, append-nil, length-append, Option, Some, None}
-use Rattle.std.specs.Prelude.{◌&&◌, ◌||◌, not, nat_lt, option_map, position, slice_get, if◌then◌else◌}
+use Rattle.std.proofs.Common.{◌≡◌, ℕ, zero, suc, ◌+◌, ◌<◌, ◌≤◌, refl, sym, ap, ◌∙◌, arith, Bool, true, false, List, [], ◌∷◌, ◌++◌, length, map, append_assoc, append-nil, length-append, Some, None}
+use Rattle.std.specs.Prelude.{◌&&◌, ◌||◌, not, nat_lt, option_map, position, if◌then◌else◌}
 use Rattle.std.specs.List.{AllByRecursion, list_any}
 use Rattle.std.proofs.lemmas.Bool.{ltb-false}
 use Rattle.std.proofs.lemmas.List.{length-map}
@@ -10,7 +10,7 @@ use Rattle.cjc_tokens.specs.Lines.{Declared, Imported, Line, line_at, line_in}
 use Rattle.cjc_tokens.specs.Members.{Signature, all_methods, is_exposed, is_hidden, is_shown, is_virtual, signature_of, signatures}
 use Rattle.cjc_tokens.specs.Methods.{virtual_token}
 use Rattle.cjc_tokens.specs.Rules.{has_high_method, is_above}
-use Rattle.cjc_tokens.specs.Slots.{Slots, has_slot, hidden_slots, holds, listed, listed_slots, new_in, put, reserve, slots, token, with_new}
+use Rattle.cjc_tokens.specs.Slots.{Slots, has_slot, hidden_slots, holds, listed_slots, new_in, put, reserve, slots, token, with_new}
 use Rattle.cjc_world.specs.Added.{added}
 use Rattle.cjc_world.specs.Classes.{Class, Member, class_named}
 use Rattle.cjc_world.specs.Kin.{End, IsKin, Kin, Known, Lists, Unknown, after, ends, foremost, kin, known_here, unknown_here, upwards}

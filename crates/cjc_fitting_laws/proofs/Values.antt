@@ -1,6 +1,6 @@
 -- The numbers of a static image are of the types of their fields.
-use Rattle.std.proofs.Common.{◌≡◌, ℕ, zero, suc, ◌+◌, refl, sym, ap, subst, ◌∙◌, Bool, true, false, List, [], ◌∷◌, ◌++◌, map, arith, inl, inr, ⊎_elim, Option, Some, None, ℤ, pos}
-use Rattle.std.specs.Prelude.{All, ◌&&◌, ◌||◌, ◌⊎◌, not, codes, is_some, length, option_map, replicate, slice_get, slice_set, if◌then◌else◌}
+use Rattle.std.proofs.Common.{◌≡◌, ℕ, zero, suc, ◌+◌, refl, sym, ap, subst, ◌∙◌, Bool, true, false, List, [], ◌∷◌, map, arith, ⊎_elim, Option, Some, None, ℤ, pos}
+use Rattle.std.specs.Prelude.{All, ◌&&◌, ◌||◌, not, codes, is_some, length, option_map, replicate, slice_get, slice_set, if◌then◌else◌}
 use Rattle.std.specs.List.{AllByRecursion, list_any}
 use Rattle.std.specs.Ordering.{int_eq}
 use Rattle.std.specs.Str.{bytes_eq}
@@ -24,7 +24,6 @@ use Rattle.cjc_clinit.specs.Initialiser.{Initialises, Put, is_initialiser, nothi
 use Rattle.cjc_clinit.specs.Rules.{BreaksImage, is_wrong_class, of_class}
 use Rattle.cjc_clinit.specs.declared.stage.Held.{Held}
 use Rattle.cjc_clinit.specs.declared.stage.Held.TheVariants as held
-use Rattle.cjc_clinit.specs.declared.stage.Start.{Start}
 use Rattle.cjc_clinit.specs.declared.stage.Start.TheVariants as begun
 use Rattle.cjc_clinit_laws.proofs.Initialisers.{taken}
 use Rattle.cjc_clinit_laws.proofs.Packages.{class-there}

@@ -7,6 +7,7 @@ ghost use Rattle.std.specs.Prelude.{◌≡◌, ◌≤◌, [], length, List, None
 ghost use Rattle.cjc_capwrite.specs.Files.{limit_of, part};
 ghost use Rattle.cjc_capwrite.specs.Method.{method_bytes};
 ghost use Rattle.cjc_capwrite.specs.Writable.{IsWritable};
+ghost use Rattle.cjc_class_laws.specs.Premises.{HasNearTypes, HasShortMethods, HasShortRefs, HaveInstalls, InterfacesAreUnbound};
 ghost use Rattle.cjc_components.specs.Components.{components_of};
 ghost use Rattle.cjc_components.specs.ExportFile.{export_of};
 ghost use Rattle.cjc_components.specs.Limits.{size_breaks, widest_method};
@@ -18,6 +19,7 @@ ghost use Rattle.cjc_judge.specs.declared.judged.Judged.{Judged};
 ghost use Rattle.cjc_list.specs.Listed.{ListTree};
 ghost use Rattle.cjc_fitting_laws.specs.LaidOut.{ExportedMethodsStand, IsLaidOut};
 
+use cjc_class_laws::limits_are_kept;
 use cjc_export_file::few_classes;
 use cjc_export_laws::export_file_fits;
 use cjc_fit_laws::components_fit;
@@ -44,4 +46,20 @@ pub fn export_files_fit()
     ensures { (list : ListTree) (files : List (List ℕ)) (judged : Judged) (p : Package) → IsLaidOut list files judged p → ExportedMethodsStand p → CanBeExported (export_of p) }
 {
     export_file_fits();
+}
+
+/// What consistent components rest on and rules of the files promise: no interface of such a package has a static method or a
+/// constructor, and the class of each applet is one with an install method and no interface.
+pub fn interfaces_and_applets_fit()
+    ensures interfaces { (list : ListTree) (files : List (List ℕ)) (judged : Judged) (p : Package) → IsLaidOut list files judged p → InterfacesAreUnbound p }
+    ensures applets { (list : ListTree) (files : List (List ℕ)) (judged : Judged) (p : Package) → IsLaidOut list files judged p → HaveInstalls p }
+{}
+
+/// What they rest on where neither 411 nor 416 is broken: offsets of types, of Class and of Method fit their fields.
+pub fn sizes_fit()
+    ensures types { (list : ListTree) (files : List (List ℕ)) (judged : Judged) (p : Package) → IsLaidOut list files judged p → size_breaks p ≡ [] → HasNearTypes p }
+    ensures classes { (list : ListTree) (files : List (List ℕ)) (judged : Judged) (p : Package) → IsLaidOut list files judged p → size_breaks p ≡ [] → HasShortRefs p }
+    ensures methods { (list : ListTree) (files : List (List ℕ)) (judged : Judged) (p : Package) → IsLaidOut list files judged p → size_breaks p ≡ [] → HasShortMethods p }
+{
+    limits_are_kept();
 }

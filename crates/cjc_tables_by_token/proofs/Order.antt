@@ -79,7 +79,7 @@ waits-parts i placed c e = by c.is_imported (is_of_kind i c) (is_in placed c.num
     by false false d f = cc
     by true b d f = cc
 
-pub waits-by : (i : Bool) (placed : List ℕ) (c : Class) → c.is_imported ≡ false → is_of_kind i c ≡ true → is_in placed c.number ≡ false → waits i placed c ≡ true
+waits-by : (i : Bool) (placed : List ℕ) (c : Class) → c.is_imported ≡ false → is_of_kind i c ≡ true → is_in placed c.number ≡ false → waits i placed c ≡ true
 waits-by i placed c e f g = ap (λ b. not b && is_of_kind i c && not (is_in placed c.number)) e ∙ ap (λ b. b && not (is_in placed c.number)) f ∙ ap not g
 
 stands-waits : (w : List Class) (i : Bool) (placed : List ℕ) (c : Class) → may_stand w i placed c ≡ true → waits i placed c ≡ true
@@ -150,7 +150,7 @@ left : (i : Bool) (placed : List ℕ) → List Class → ℕ
 left i placed [] = 0
 left i placed (c ∷ cs) = one (waits i placed c) + left i placed cs
 
-pub left-most : (i : Bool) (placed : List ℕ) (cs : List Class) → left i placed cs ≤ length cs
+left-most : (i : Bool) (placed : List ℕ) (cs : List Class) → left i placed cs ≤ length cs
 unfolding left one
 left-most i placed [] = omega arith
 left-most i placed (c ∷ cs) = by (waits i placed c) (left-most i placed cs)
@@ -257,7 +257,7 @@ module _ (w : List Class) (i : Bool) where
               let here : is_in (placed ++ d.number ∷ []) c.number ≡ true = ap (is_in (placed ++ d.number ∷ [])) number ∙ in-it placed d.number in
               cc
 
-  pub lined-has : (n : ℕ) (placed : List ℕ) (c : Class) → ((x : List ℕ) → Settles w (suc (length w)) x) → ((c d : Class) → Has c w → Has d w → c.is_imported ≡ false → d.is_imported ≡ false → c.number ≡ d.number → c ≡ d)
+  lined-has : (n : ℕ) (placed : List ℕ) (c : Class) → ((x : List ℕ) → Settles w (suc (length w)) x) → ((c d : Class) → Has c w → Has d w → c.is_imported ≡ false → d.is_imported ≡ false → c.number ≡ d.number → c ≡ d)
       → class_named w c.name ≡ Some c → Has c w → left i placed w ≤ n → waits i placed c ≡ true → Has c (lined_up w i n placed)
   unfolding lined_up
   lined-has zero placed c settles one_of named h le e = let some = left-some i placed w c h e in absurd (omega (arith, some, le))
@@ -284,6 +284,11 @@ module _ (w : List Class) (i : Bool) where
               let p = waits-parts i placed c e in
               let less = left-less i placed w d at.0 d_waits in
               behind (more d (omega (arith, less, le)) (waits-by i (placed ++ d.number ∷ []) c p.0 p.1 (out-more placed d.number c.number p.2 g)))
+
+  -- with none placed, each class of the kind is lined up
+  pub all-lined : (c : Class) → ((x : List ℕ) → Settles w (suc (length w)) x) → ((c d : Class) → Has c w → Has d w → c.is_imported ≡ false → d.is_imported ≡ false → c.number ≡ d.number → c ≡ d)
+      → class_named w c.name ≡ Some c → Has c w → c.is_imported ≡ false → is_of_kind i c ≡ true → Has c (lined_up w i (length w) [])
+  all-lined c settles one_of named h e f = lined-has (length w) [] c settles one_of named h (left-most i [] w) (waits-by i [] c e f refl)
 
 -- a superclass of the package stands before its subclass
 before_sub : (w : List Class) (i : Bool) → ((c d : Class) → Has c w → Has d w → c.is_imported ≡ false → d.is_imported ≡ false → c.number ≡ d.number → c ≡ d)
@@ -367,8 +372,8 @@ module _ (list : List ℕ) (files : Files) (sound : IsSound list files) where
   pub kind-has : (i : Bool) (c : Class) → Has c w → c.is_imported ≡ false → is_of_kind i c ≡ true → Has c (in_order w i)
   unfolding in_order
   kind-has i c h e f =
-      lined-has w i (length w) [] c (λ x. clear_settles w x (λ z way far. unbroken_is_acyclic list files sound.unbroken z far)) (λ a b p q r s t. one_class files sound.classes sound.exports a b p q (r ∙ sym s) t)
-      (own_name list files sound c h) h (left-most i [] w) (waits-by i [] c e f refl)
+      all-lined w i c (λ x. clear_settles w x (λ z way far. unbroken_is_acyclic list files sound.unbroken z far)) (λ a b p q r s t. one_class files sound.classes sound.exports a b p q (r ∙ sym s) t)
+      (own_name list files sound c h) h e f
 
   -- a class of the order is one of the package
   pub order_in : (c : Class) → Has c (class_order w) → Has c w × (c.is_imported ≡ false)
