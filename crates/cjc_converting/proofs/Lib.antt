@@ -1,0 +1,4 @@
+mod Shapes
+mod Stops
+mod Handlers
+mod Listed

@@ -1,0 +1,7 @@
+-- What a list keeps by its grammar.
+use Rattle.std.proofs.Common.{◌≡◌, List, [], ◌∷◌, false, subst, sym}
+use Rattle.cjc_judge.specs.Spelt.{IsRead}
+use Rattle.cjc_list.specs.Listed.{ListTree}
+
+pub no_ints : (list : ListTree) → IsRead list → list.ints ≡ false
+no_ints list read = let spelt = read.2.0.3 in spelt.no_ints
