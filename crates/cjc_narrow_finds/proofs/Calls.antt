@@ -184,7 +184,7 @@ module _ (list : List ℕ) (files : Files) (codes : List MethodCode) (settings :
         no_constructor = (let f = c.fits in f.no_constructor) refl;
         callee = to.0;
         reaches = to.1;
-        is_reached = reached list files codes settings is spelt tables tabled id _ to.0 (λ t k h. h.0 ∙ static) to.2;
+        is_reached = reached list files codes settings is spelt tables tabled id (let f = c.fits in f.no_initialiser) _ to.0 (λ t k h. h.0 ∙ static) to.2;
       }
 
   -- ---- calls on a receiver
@@ -226,7 +226,7 @@ module _ (list : List ℕ) (files : Files) (codes : List MethodCode) (settings :
             let below = below_on w (receiver (shape_name kind)) id.class d.name sub.1 c.below in
             let s = is_selected files solid (receiver (shape_name kind)) r id f.no_initialiser d p.place m below c.named p.is_member p.has_name p.has_desc wanted (λ interface. far there.0 there.1 d m c.named interface c.fit_class r sub.1) in
             let to = on_object files solid (shape_name kind) r id s in
-            record { is_of = sub.0; callee = to.0; chooses = to.1; is_chosen = chosen list files codes settings is spelt tables tabled solid.plain id (shape_name kind) _ to.0 (λ t k h. h) to.2 });
+            record { is_of = sub.0; callee = to.0; chooses = to.1; is_chosen = chosen list files codes settings is spelt tables tabled solid.plain id f.no_initialiser (shape_name kind) _ to.0 (λ t k h. h) to.2 });
       }
     where
       -- 206: what is found in an interface is not called on an imported class
@@ -262,7 +262,7 @@ module _ (list : List ℕ) (files : Files) (codes : List MethodCode) (settings :
             let sub = known_below id.class there.0 there.1 names kind (accepts_one names on) one in
             let below = below_on w (receiver (shape_name kind)) id.class d.name sub.1 c.below in
             let to = on_interface files solid (shape_name kind) d.name r id (λ own. is_selected files solid (receiver (shape_name kind)) r id f.no_initialiser d p.place m below c.named p.is_member p.has_name p.has_desc wanted (λ i. own)) in
-            record { is_of = sub.0; callee = to.0; chooses = to.1; is_chosen = chosen list files codes settings is spelt tables tabled solid.plain id (shape_name kind) _ to.0 (λ t k h. h) to.2 });
+            record { is_of = sub.0; callee = to.0; chooses = to.1; is_chosen = chosen list files codes settings is spelt tables tabled solid.plain id f.no_initialiser (shape_name kind) _ to.0 (λ t k h. h) to.2 });
       }
     where
       is_true : (b : Bool) → not b ≡ false → b ≡ true
@@ -328,7 +328,7 @@ module _ (list : List ℕ) (files : Files) (codes : List MethodCode) (settings :
               is_of = sub.0;
               callee = to.0;
               chooses = ap (λ (h : Hit). let owner = h.owner in callee_at files owner.name id k.place) same ∙ ap (callee_at files d.name id) c.place_is ∙ to.1;
-              is_chosen = chosen list files codes settings is spelt tables tabled solid.plain id (shape_name kind) _ to.0 (λ t q h. (h.0 ∙ static, subst (λ n. Below w (receiver (shape_name kind)) n) (sym h.1) below)) to.2;
+              is_chosen = chosen list files codes settings is spelt tables tabled solid.plain id f.no_initialiser (shape_name kind) _ to.0 (λ t q h. (h.0 ∙ static, subst (λ n. Below w (receiver (shape_name kind)) n) (sym h.1) below)) to.2;
             });
       }
 
@@ -388,7 +388,7 @@ module _ (list : List ℕ) (files : Files) (codes : List MethodCode) (settings :
               is_of = sub.0;
               callee = to.0;
               chooses = to.1;
-              is_chosen = chosen list files codes settings is spelt tables tabled solid.plain id (shape_name kind) _ to.0 (λ t q h. (h.0, below_on w (receiver (shape_name kind)) class.name t.name sub.1 h.1)) to.2;
+              is_chosen = chosen list files codes settings is spelt tables tabled solid.plain id f.no_initialiser (shape_name kind) _ to.0 (λ t q h. (h.0, below_on w (receiver (shape_name kind)) class.name t.name sub.1 h.1)) to.2;
             });
       }
     where

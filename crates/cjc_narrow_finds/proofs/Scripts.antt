@@ -1,13 +1,13 @@
 -- What scripts name: a method of the package, or none.
 use Rattle.std.proofs.Common.{◌≡◌, ℕ, zero, suc, ◌<◌, ◌^◌, refl, sym, ap, subst, ◌∙◌, arith, Bool, true, false, List, [], ◌∷◌, length, inl, inr, ⊎_elim}
-use Rattle.std.specs.Prelude.{◌&&◌, ◌||◌, ◌⊎◌, Option, Some, None, option_and_then, slice_get, if◌then◌else◌}
+use Rattle.std.specs.Prelude.{not, ◌&&◌, ◌||◌, ◌⊎◌, Option, Some, None, option_and_then, slice_get, if◌then◌else◌}
 use Rattle.std.specs.List.{AllByRecursion, list_any}
 use Rattle.std.specs.Str.{bytes_eq}
 use Rattle.cjc_bytes.specs.declared.fault.MemberId.{MemberId}
 use Rattle.cjc_bytes.specs.declared.settings.Settings.{Settings}
 use Rattle.cjc_bytes.proofs.Inverse.{all_at}
 use Rattle.cjc_by_name.specs.Linked.{Method}
-use Rattle.cjc_by_name.specs.OnePackage.{entry_named, is_sendable, method_at, method_hit, select_in, sent_by, sent_named}
+use Rattle.cjc_by_name.specs.OnePackage.{entry_in, entry_named, is_constructor, is_initialiser, is_sendable, method_at, method_hit, select_in, sent_by, sent_named}
 use Rattle.cjc_call_laws.specs.Solid.{IsSolid}
 use Rattle.cjc_call_laws.specs.Targets.{IsReceiver, IsSentTo}
 use Rattle.cjc_call_laws.proofs.Own.{own_at}
@@ -39,10 +39,10 @@ use Rattle.cjc_table_rules.specs.Calls.{IsWordDesc, types_of}
 use Rattle.cjc_upward_laws.proofs.Lines.{first_has, line_named, of_line}
 use Rattle.cjc_world.specs.declared.found.Found.{Found}
 use Rattle.cjc_world.specs.declared.image.StaticImage.{StaticImage}
-use Rattle.cjc_world.specs.Classes.{Class, Member, all_classes}
+use Rattle.cjc_world.specs.Classes.{Class, Member, all_classes, class_named}
 use Rattle.cjc_world.specs.Files.{Files}
 use Rattle.cjc_world.specs.Kin.{line}
-use Rattle.cjc_world.specs.Lookup.{find_method, object, own_method, receiver, selected}
+use Rattle.cjc_world.specs.Lookup.{find_method, is_selectable, object, own_method, receiver, selected}
 use Rattle.cjc_world.specs.Subtype.{is_subtype}
 use Rattle.cjc_world.proofs.Settled.{bytes-refl, bytes-true}
 
@@ -141,6 +141,26 @@ declared_none files id e o =
     let yes : is_method_of id k ≡ true = ap (λ n. bytes_eq n id.name && bytes_eq k.desc id.desc) o.name ∙ ap (λ b. b && bytes_eq k.desc id.desc) (bytes-refl id.name) ∙ ap (λ n. bytes_eq n id.desc) o.desc ∙ bytes-refl id.desc in
     true_not_false (is_method_of id k) yes b
 
+-- a script names no initialiser
+called_plain : (files : Files) (w : List Class) (id : MemberId) (m : Method) → entry_named files w id ≡ Some m → is_initialiser id.name ≡ false
+called_plain files w id m e = not_far (is_initialiser id.name) (option_and_then (entry_in files id) (class_named w id.class)) m e
+
+sent_plain : (files : Files) (w : List Class) (type : List ℕ) (id : MemberId) (m : Method) → sent_named files w type id ≡ Some m → is_initialiser id.name ≡ false
+sent_plain files w type id m e =
+    let one = then_some (λ f. option_and_then (sent_by files w (select_in w) type id) (method_hit w f)) (find_method w id.class id.name id.desc) m e in
+    let two = then_some (sent_by files w (select_in w) type id) (method_hit w one.0) m one.2 in
+    let h = two.0 in
+    let sendable = both_front (is_sendable id h) (is_subtype w type id.class) (is_true (is_sendable id h && is_subtype w type id.class) two.2) in
+    is_false (is_initialiser id.name) (both_back (is_selectable h.flags && not (is_constructor id.name)) (not (is_initialiser id.name)) sendable)
+  where
+    is_true : (b : Bool) → (if b then option_and_then (method_at files) (select_in w type id) else None) ≡ Some m → b ≡ true
+    is_true true e = refl
+    is_true false e = absurd cc
+
+    is_false : (b : Bool) → not b ≡ true → b ≡ false
+    is_false true e = absurd cc
+    is_false false e = refl
+
 module _ (files : Files) (solid : IsSolid files) where
   abbrev v : List Class
   v = all_classes files
@@ -210,8 +230,8 @@ module _ (list : List ℕ) (files : Files) (codes : List MethodCode) (settings :
       record {
         desc = subst IsWordDesc o.desc words;
         known = subst (λ d. AllByRecursion (λ type. (kind : Shape (List ℕ)) → type ≡ Reference kind → IsThere w kind) (let types = types_of d in types.params)) o.desc (params_there w k.desc short words.is_desc there);
-        is_called = λ m e. (let r = called_method files solid id m e in begun list files codes settings is spelt tables tabled false id m r.0 r.1);
-        is_sent = λ kind m made e. (let s = sent_to kind m made e in begun list files codes settings is spelt tables tabled true id m s.code s.on_object);
+        is_called = λ m e. (let r = called_method files solid id m e in begun list files codes settings is spelt tables tabled false id (called_plain files w id m e) m r.0 r.1);
+        is_sent = λ kind m made e. (let s = sent_to kind m made e in begun list files codes settings is spelt tables tabled true id (sent_plain files w (shape_name kind) id m e) m s.code s.on_object);
         receives = λ kind m made e. (let s = sent_to kind m made e in let code = s.code in let own = code.own in
             let open_name = solid.plain (let c = code.class in c.name) _ (class_by_name files list is.listed is.world own.number code.class own.is_class) in
             subst (λ n. is_subtype w (shape_name kind) n ≡ true) (sym (declarer list files codes settings is spelt tables tabled id m code)) (below_type w (shape_name kind) (let c = code.class in c.name) open_name s.below));

@@ -1,8 +1,8 @@
 -- A package of read files that breaks no rule, over sound export files, with its tables; and what a type table says of a receiver.
-use Rattle.std.specs.Prelude.{◌≡◌, ℕ, List, Some, true}
+use Rattle.std.specs.Prelude.{◌≡◌, ℕ, List, Some, false, true}
 use Rattle.std.specs.List.{list_all}
 use Rattle.cjc_by_name.specs.Linked.{Method}
-use Rattle.cjc_by_name.specs.OnePackage.{method_by}
+use Rattle.cjc_by_name.specs.OnePackage.{is_initialiser, method_by}
 use Rattle.cjc_bytes.specs.Descriptor.{IsClassName}
 use Rattle.cjc_bytes.specs.declared.fault.MemberId.{MemberId}
 use Rattle.cjc_bytes.specs.declared.settings.Settings.{Settings}
@@ -27,9 +27,9 @@ use Rattle.cjc_world.specs.Classes.{all_classes}
 use Rattle.cjc_world.specs.Files.{Files}
 use Rattle.cjc_world.specs.Subtype.{is_subtype}
 
--- Each method of the package with code has its least tables, which break no rule of types and intervals, and each method with a row is such a one.
+-- Each method of the package with code that is no initialiser has its least tables, which break no rule of types and intervals, and each method with a row is such a one.
 pub record AreTabled (files : Files) (codes : List MethodCode) (tables : Tables) : Type 0 where
-  pub own : (class : ClassTree) (method : MethodTree) (tree : CodeTree) → IsOwn files class method → method.code ≡ Some tree → HasLeast files codes tables (method_by class method (Some tree))
+  pub own : (class : ClassTree) (method : MethodTree) (tree : CodeTree) → IsOwn files class method → is_initialiser method.name ≡ false → method.code ≡ Some tree → HasLeast files codes tables (method_by class method (Some tree))
   pub only : (m : Method) (at : ℕ) (t : State) → HasRow (tables.types m) at t → HasLeast files codes tables m
 
 -- A package of read files that was tested and breaks no rule, over sound export files.

@@ -1,0 +1,12 @@
+pub mod Names
+pub mod Read
+pub mod Ranges
+pub mod Same
+pub mod Coded
+pub mod Lookups
+pub mod Begins
+pub mod Listed
+pub mod Tabled
+pub mod Placed
+pub mod Laid
+pub mod Alike
