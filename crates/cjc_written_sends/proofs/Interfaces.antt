@@ -2,7 +2,8 @@
 -- dispatches to.
 use Rattle.std.proofs.Common.{◌≡◌, ℕ, zero, suc, ◌+◌, refl, sym, ap, subst, ◌∙◌, Bool, true, false, List, [], ◌∷◌, ◌++◌, length, inl, inr, ⊎_elim}
 use Rattle.std.specs.Prelude.{◌⊎◌, ◌↔◌, ◌==◌, Option, Some, None, not, is_some, map, option_map, option_and_then, position, slice_get, ◌&&◌, ◌||◌, if◌then◌else◌, codes}
-use Rattle.std.specs.List.{find}
+use Rattle.std.specs.List.{position_or_len}
+use Rattle.std.proofs.lemmas.List.Folds.{find_at}
 use Rattle.std.specs.Str.{bytes_eq}
 use Rattle.cjc_bytes.specs.AccessFlags.{is_abstract, is_interface}
 use Rattle.cjc_bytes.specs.declared.fault.MemberId.{MemberId}
@@ -59,15 +60,6 @@ use Rattle.cjc_written_calls.specs.Calls.{ExportsKeep, KeepsSubtypes, KeepsToken
 use Rattle.cjc_written_sends.proofs.Found.{first_after, first_front, position_there}
 use Rattle.cjc_written_sends.proofs.Order.{class_token, listed_is}
 use Rattle.cjc_written_sends.specs.Sends.{ExportsSend, InterfacesAsk}
-
--- what a search finds stands there
-find_has : {A : Type 0} (test : A → Bool) (xs : List A) (x : A) → find test xs ≡ Some x → (k : ℕ) × (slice_get xs k ≡ Some x)
-find_has test [] x e = absurd (cc)
-find_has {A = A} test (y ∷ xs) x e = by (test y) e (find_has test xs x)
-  where
-    by : (t : Bool) → Rattle.std.specs.Prelude.cond t (Some y) (find test xs) ≡ Some x → (find test xs ≡ Some x → (k : ℕ) × (slice_get xs k ≡ Some x)) → (k : ℕ) × (slice_get (y ∷ xs) k ≡ Some x)
-    by true h rest = let same : y ≡ x = cc in (0, ap Some same)
-    by false h rest = let r = rest h in (suc r.0, r.1)
 
 -- a signature that a position finds is the one that is sought
 pub position_is : (ss : List Signature) (s : Signature) (k : ℕ) → position (λ t. same t s) ss ≡ Some k → slice_get ss k ≡ Some s
@@ -508,9 +500,10 @@ module _ (list : List ℕ) (p : Package) (sound : IsSound list p.files) (facts :
             absent none (Some k) is =
                 let there : slice_get (interface_methods w (imported h.number h.entry)) k ≡ Some s = ap (λ (q : Class). slice_get (interface_methods w q) k) (sym h.class) ∙ position_is (interface_methods w i) s k is in
                 let r = keep.methods y h.number h.entry entry_known entry_here k s there in
-                let j = find_has (λ (m : ExportMethod). Rattle.cjc_export.specs.Supers.is_virtual m && (m.token == k)) h.entry.methods r.0 r.1 in
-                let at = ap (λ (q : Class). slice_get q.methods j.0) h.class ∙ Rattle.cjc_written_calls.proofs.Files.export_at h.entry.methods j.0 r.0 j.1 in
-                absurd (chosen_there s i.methods j.0 (method_of_export r.0) at r.2 none)
+                let j = position_or_len (λ (m : ExportMethod). Rattle.cjc_export.specs.Supers.is_virtual m && (m.token == k)) h.entry.methods in
+                let found = sym (find_at (λ (m : ExportMethod). Rattle.cjc_export.specs.Supers.is_virtual m && (m.token == k)) h.entry.methods) ∙ r.1 in
+                let at = ap (λ (q : Class). slice_get q.methods j) h.class ∙ Rattle.cjc_written_calls.proofs.Files.export_at h.entry.methods j r.0 found in
+                absurd (chosen_there s i.methods j (method_of_export r.0) at r.2 none)
 
             chosen_by : (o : Option Member) → chosen any_method s i.methods ≡ o → option_and_then (λ t. t) (class_token id i) ≡ place_in i
             chosen_by None is = ap (λ o. option_and_then (λ t. t) (option_map (λ (m : Member). if is_virtual m then Some m.token else None) o)) is ∙ absent is (place_in i) refl
