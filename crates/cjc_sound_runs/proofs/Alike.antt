@@ -16,7 +16,6 @@ use Rattle.cjc_classfile.specs.declared.tree.MethodTree.{MethodTree}
 use Rattle.cjc_clinit.specs.Image.{IsImage}
 use Rattle.cjc_clinit.specs.Rules.{BreaksImage}
 use Rattle.cjc_code.specs.PackageCodes.{all_codes}
-use Rattle.cjc_code.specs.declared.method_code.MethodCode.{MethodCode}
 use Rattle.cjc_components.specs.Package.{LaidMethod, Package, pool}
 use Rattle.cjc_fixpoint.specs.Tables.{HasRow}
 use Rattle.cjc_judge.specs.Rules.{settings_of}

@@ -1,15 +1,13 @@
 -- Each method with code that is no initialiser stands in Method.
 use Rattle.std.proofs.Common.{◌≡◌, ℕ, zero, suc, ◌+◌, ◌≤◌, refl, sym, ap, subst, ◌∙◌, arith, Bool, true, false, List, [], ◌∷◌, ◌++◌, length}
-use Rattle.std.specs.Prelude.{not, ◌&&◌, ◌||◌, ◌==◌, Option, Some, None, cond, is_some, map, option_map, slice_get, if◌then◌else◌, codes}
-use Rattle.std.specs.Str.{bytes_eq}
+use Rattle.std.specs.Prelude.{not, ◌&&◌, ◌||◌, ◌==◌, Some, cond, is_some, option_map, slice_get, if◌then◌else◌}
 use Rattle.std.proofs.lemmas.List.Sums.{sum_by-cons}
 use Rattle.std.proofs.lemmas.Option.{slice_get-map}
-use Rattle.cjc_by_name.specs.Linked.{Method}
 use Rattle.cjc_by_name.specs.OnePackage.{is_constructor, is_initialiser, method_at, method_by}
 use Rattle.cjc_bytes.specs.AccessFlags.{is_abstract, is_interface, is_static}
 use Rattle.cjc_bytes.specs.Descriptor.{IsClassName, IsName, inside, is_name_byte, last, more, simple}
 use Rattle.cjc_bytes.specs.declared.settings.FileLine.{FileLine}
-use Rattle.cjc_call_laws.proofs.Own.{mapped_at, method_is}
+use Rattle.cjc_call_laws.proofs.Own.{method_is}
 use Rattle.cjc_classfile.specs.Code.{CodeTree}
 use Rattle.cjc_classfile.specs.declared.tree.ClassTree.{ClassTree}
 use Rattle.cjc_classfile.specs.declared.tree.MethodTree.{MethodTree}
@@ -25,14 +23,14 @@ use Rattle.cjc_prepared.specs.Prepared.{IsSound}
 use Rattle.cjc_solid_laws.proofs.Rules.{method_kept}
 use Rattle.cjc_solid_laws.specs.Files.{ExportsAreSound}
 use Rattle.cjc_sound_runs.proofs.Read.{package_is, read_files}
-use Rattle.cjc_subset.specs.Flags.{is_unfit_method, is_unfit_method_kind}
+use Rattle.cjc_subset.specs.Flags.{is_unfit_method_kind}
 use Rattle.cjc_tables_by_token.proofs.Clean.{has_named}
 use Rattle.cjc_tables_by_token.proofs.Order.{kind-has}
 use Rattle.cjc_tables_by_token.specs.Sound.{IsSound as IsSoundPackage, export_count}
 use Rattle.cjc_tables_by_token.proofs.Filed.{has-back, has-front}
 use Rattle.cjc_vtable.proofs.Filed.{Has, at_front, behind, has-get}
 use Rattle.cjc_world.specs.Added.{added}
-use Rattle.cjc_world.specs.Classes.{Class, Member, all_classes, declared, field_of_class, method_of_class}
+use Rattle.cjc_world.specs.Classes.{Class, Member, all_classes, declared, method_of_class}
 use Rattle.cjc_world.specs.Files.{Files}
 use Rattle.cjc_world.specs.Lookup.{member_at}
 use Rattle.cjc_world.specs.Order.{in_order, method_order, methods_in_turn, methods_of_class, places, written}

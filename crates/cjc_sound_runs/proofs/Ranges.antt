@@ -1,5 +1,5 @@
 -- The numbers of a package that was tested for 601 to 609 and breaks none of them lie where their rules say.
-use Rattle.std.proofs.Common.{◌≡◌, ℕ, refl, sym, ap, subst, ◌∙◌, List, inr}
+use Rattle.std.proofs.Common.{◌≡◌, ℕ, refl, subst, List, inr}
 use Rattle.std.specs.Prelude.{Option, Some, None, slice_get}
 use Rattle.cjc_bytes.specs.Breaks.{Break}
 use Rattle.cjc_bytes.specs.declared.breaks.BrokenAt.{BrokenAt}
@@ -27,7 +27,6 @@ use Rattle.cjc_types.specs.declared.table.TypeTable.{TypeTable}
 use Rattle.cjc_types.specs.Flow.{Body, body_of}
 use Rattle.cjc_types.specs.Tables.{IsMethodOf, IsTypeTable, rows_of}
 use Rattle.cjc_world.specs.Classes.{all_classes}
-use Rattle.cjc_world.specs.Files.{Files}
 
 module _ (list : ListTree) (files : List (List ℕ)) (judged : Judged) (is : IsSound list files judged) where
   abbrev trees : List FileTree

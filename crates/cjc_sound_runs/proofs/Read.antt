@@ -1,5 +1,5 @@
 -- A package that was judged and breaks no rule is one of read files.
-use Rattle.std.proofs.Common.{◌≡◌, ℕ, zero, suc, ◌<◌, refl, sym, ap, subst, ◌∙◌, Bool, true, false, List, [], ◌∷◌}
+use Rattle.std.proofs.Common.{◌≡◌, ℕ, zero, suc, ◌<◌, refl, sym, ap, subst, ◌∙◌, List, [], ◌∷◌}
 use Rattle.std.specs.Prelude.{Some, slice_get}
 use Rattle.std.specs.List.{AllByRecursion}
 use Rattle.cjc_bytes.specs.Descriptor.{IsClassName}

@@ -1,14 +1,12 @@
 -- Tables of a package whose methods are ready to be written: least ones for each method of a class file with code that is no initialiser, and no
 -- row for any other.
-use Rattle.std.proofs.Common.{◌≡◌, ℕ, ◌+◌, ◌<◌, ◌≤◌, ◌^◌, refl, sym, ap, subst, ◌∙◌, ⊎_elim, arith, Bool, true, false, List, [], length}
-use Rattle.std.specs.Prelude.{not, ◌&&◌, IfSome, Option, Some, None, slice_get, if◌then◌else◌, ℤ}
-use Rattle.std.specs.List.{Contains}
+use Rattle.std.proofs.Common.{◌≡◌, ℕ, ◌+◌, ◌<◌, refl, sym, ap, subst, ◌∙◌, ⊎_elim, arith, Bool, true, false, List, [], length}
+use Rattle.std.specs.Prelude.{not, ◌&&◌, IfSome, Option, Some, slice_get, if◌then◌else◌, ℤ}
 use Rattle.std.proofs.lemmas.Option.{get_or_from_slice_get, slice_get_cases, slice_get_within}
 use Rattle.cjc_by_name.specs.Linked.{Method}
 use Rattle.cjc_by_name.specs.OnePackage.{is_initialiser, method_by}
 use Rattle.cjc_bytes.proofs.Inverse.{all_at}
 use Rattle.cjc_bytes.specs.declared.fault.MemberId.{MemberId}
-use Rattle.cjc_call_laws.specs.Solid.{IsOwn}
 use Rattle.cjc_classfile.specs.Code.{CodeTree}
 use Rattle.cjc_classfile.specs.Fits.{ClassFits, CodeFits, MethodFits}
 use Rattle.cjc_classfile.specs.declared.tree.ClassTree.{ClassTree}
@@ -18,8 +16,7 @@ use Rattle.cjc_code.specs.PackageCodes.{all_codes}
 use Rattle.cjc_code.specs.declared.method_code.MethodCode.{MethodCode}
 use Rattle.cjc_fixpoint.specs.Tables.{HasRow}
 use Rattle.cjc_methods.specs.Ready.{AreReady, AreRows}
-use Rattle.cjc_narrow.specs.Package.{flags_of}
-use Rattle.cjc_narrow.specs.Resolved.{constant_named, method_found}
+use Rattle.cjc_narrow.specs.Resolved.{constant_named}
 use Rattle.cjc_narrow_laws.specs.Left.{HasLeast, IsReadMethod}
 use Rattle.cjc_narrow_runs.specs.Tables.{Tables, body_in}
 use Rattle.cjc_range_flow.specs.Frames.{RangeState}
