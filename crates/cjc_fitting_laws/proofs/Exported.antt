@@ -146,7 +146,7 @@ module _ (p : Package) (tokens : token_breaks (has_applets p) p.files ≡ []) (b
         let moved : length (filter is_open_static (fields_of p.files c)) ≡ length (filter is_open_static t.fields) = ap (λ fs. length (filter is_open_static fs)) same in
         omega (arith, few, all, moved)
 
-    bound_few : (let o = own in count_by is_open_bound (declared o.number o.tree).methods ≤ 255)
+    pub bound_few : (let o = own in count_by is_open_bound (declared o.number o.tree).methods ≤ 255)
     unfolding has_high_token
     bound_few = let o = own in by (is_interface (let t = o.tree in t.flags)) refl (or_first _ _ (low_tokens p c o tokens))
       where

@@ -1,4 +1,4 @@
--- The flags of a class file and of its fields have two bytes.
+-- The flags of a class file and of its fields and methods have two bytes.
 use Rattle.std.proofs.Common.{ℕ, zero, suc, ◌^◌, ◌<◌, subst, List}
 use Rattle.std.specs.List.{AllByRecursion}
 use Rattle.cjc_bytes.proofs.Inverse.{InBytes, given, inner, u2_is}
@@ -9,14 +9,19 @@ use Rattle.cjc_classfile.specs.Members.{attribute, field_tree}
 use Rattle.cjc_classfile.specs.Methods.{method_tree}
 use Rattle.cjc_classfile.specs.declared.tree.ClassTree.{ClassTree}
 use Rattle.cjc_classfile.specs.declared.tree.FieldTree.{FieldTree}
+use Rattle.cjc_classfile.specs.declared.tree.MethodTree.{MethodTree}
 use Rattle.cjc_classfile.specs.declared.tree.PoolItem.{PoolItem}
 
 abbrev pub HasFlags : FieldTree → Type 0
 HasFlags f = f.flags < 2 ^ 16
 
+abbrev pub HasMethodFlags : MethodTree → Type 0
+HasMethodFlags m = m.flags < 2 ^ 16
+
 pub record SmallFlags (t : ClassTree) : Type 0 where
   pub own : t.flags < 2 ^ 16
   pub fields : AllByRecursion HasFlags t.fields
+  pub methods : AllByRecursion HasMethodFlags t.methods
 
 field_flags : (pool : List Entry) (at : ℕ) (f : FieldTree) (bytes : List ℕ) → InBytes bytes → Spells (field_tree pool) at f bytes → HasFlags f
 unfolding field_tree
@@ -28,13 +33,24 @@ field_flags pool at f bytes ok h =
     let constant = inner _ _ _ _ _ count.backs count.rest in
     subst HasFlags (given _ _ _ _ constant.rest).0 (u2_is _ flags.x flags.front flags.fronts flags.one).0
 
-all_flags : (pool : List Entry) (n at : ℕ) (fs : List FieldTree) (bytes : List ℕ) → InBytes bytes → Spells (repeated n (field_tree pool)) at fs bytes → AllByRecursion HasFlags fs
+method_flags : (pool : List Entry) (at : ℕ) (m : MethodTree) (bytes : List ℕ) → InBytes bytes → Spells (method_tree pool) at m bytes → HasMethodFlags m
+unfolding method_tree
+method_flags pool at m bytes ok h =
+    let flags = inner _ _ _ _ _ ok h in
+    let name = inner _ _ _ _ _ flags.backs flags.rest in
+    let desc = inner _ _ _ _ _ name.backs name.rest in
+    let count = inner _ _ _ _ _ desc.backs desc.rest in
+    let tree = inner _ _ _ _ _ count.backs count.rest in
+    subst HasMethodFlags (given _ _ _ _ tree.rest).0 (u2_is _ flags.x flags.front flags.fronts flags.one).0
+
+all_flags : {A : Type 0} (P : A → Type 0) (f : Format A) → ((at : ℕ) (x : A) (bytes : List ℕ) → InBytes bytes → Spells f at x bytes → P x)
+    → (n at : ℕ) (xs : List A) (bytes : List ℕ) → InBytes bytes → Spells (repeated n f) at xs bytes → AllByRecursion P xs
 unfolding repeated
-all_flags pool zero at fs bytes ok h = subst (AllByRecursion HasFlags) (given _ _ _ _ h).0 tt
-all_flags pool (suc n) at fs bytes ok h =
+all_flags P f one zero at xs bytes ok h = subst (AllByRecursion P) (given _ _ _ _ h).0 tt
+all_flags P f one (suc n) at xs bytes ok h =
     let x = inner _ _ _ _ _ ok h in
     let ys = inner _ _ _ _ _ x.backs x.rest in
-    subst (AllByRecursion HasFlags) (given _ _ _ _ ys.rest).0 (field_flags pool _ x.x x.front x.fronts x.one, all_flags pool n _ ys.x ys.front ys.fronts ys.one)
+    subst (AllByRecursion P) (given _ _ _ _ ys.rest).0 (one _ x.x x.front x.fronts x.one, all_flags P f one n _ ys.x ys.front ys.fronts ys.one)
 
 -- the class behind its interfaces
 abbrev members_part : ℕ → List Entry → List PoolItem → (flags : ℕ) (name superclass : List ℕ) (interfaces : List (List ℕ)) → Format ClassTree
@@ -56,7 +72,7 @@ members_flags major pool items flags name superclass interfaces at t bytes small
     let methods = inner _ _ _ _ _ method_count.backs method_count.rest in
     let attribute_count = inner _ _ _ _ _ methods.backs methods.rest in
     let free = inner _ _ _ _ _ attribute_count.backs attribute_count.rest in
-    subst SmallFlags (given _ _ _ _ free.rest).0 (record { own = small; fields = all_flags pool field_count.x _ fields.x fields.front fields.fronts fields.one })
+    subst SmallFlags (given _ _ _ _ free.rest).0 (record { own = small; fields = all_flags HasFlags (field_tree pool) (field_flags pool) field_count.x _ fields.x fields.front fields.fronts fields.one; methods = all_flags HasMethodFlags (method_tree pool) (method_flags pool) method_count.x _ methods.x methods.front methods.fronts methods.one })
 
 back_flags : (major : ℕ) (pool : List Entry) (items : List PoolItem) (at : ℕ) (t : ClassTree) (bytes : List ℕ) → InBytes bytes → Spells (back_part major pool items) at t bytes → SmallFlags t
 unfolding back_part

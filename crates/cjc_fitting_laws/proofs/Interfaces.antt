@@ -279,22 +279,28 @@ module _ (list : List ℕ) (files : Files) (own_listed : length files.classes �
       by None e g rest = let r = rest g in (r.0, behind r.1, r.2)
       by (Some c) e g rest = one c e g rest
 
+  -- what is gathered for a class
+  at_gathered : (x : List ℕ) (c : Class) (j : Interface) (d : Class) → class_named w x ≡ Some c → Has j (gathered false (kin w c.supers) ++ gathered true (kin w c.interfaces)) → j.class ≡ Some d → (is_interface d.flags ≡ true) × ((y : List ℕ) × (class_named w y ≡ Some d))
+  at_gathered x c j d e h f =
+      ⊎_elim
+      (λ g. gathered_interface false c.supers (kin w c.supers) j d (is_kin c.supers) (λ is y v l. never is) g f)
+      (λ g. gathered_interface true c.interfaces (kin w c.interfaces) j d (is_kin c.interfaces) (λ is y v l m. listed_interface list files unbroken x y c v e l m) g f)
+      (has_either j (gathered false (kin w c.supers)) (gathered true (kin w c.interfaces)) h)
+    where
+      never : {B : Type 0} → false ≡ true → B
+      never f = cc
+
   -- the interfaces of a class or interface are interfaces
   pub are_interfaces : (x : List ℕ) (c d : Class) → class_named w x ≡ Some c → Has d (interfaces_of w c) → (is_interface d.flags ≡ true) × ((y : List ℕ) × (class_named w y ≡ Some d))
   unfolding interfaces_at
   are_interfaces x c d e h =
-      let A = gathered false (kin w c.supers) in
-      let B = gathered true (kin w c.interfaces) in
-      let r = known_has (each_once [] (A ++ B)) d h in
-      let j = r.0 in
-      let n = once_new [] (A ++ B) j r.1 in
-      ⊎_elim
-      (λ g. gathered_interface false c.supers (kin w c.supers) j d (is_kin c.supers) (λ is y v l. never is) g r.2)
-      (λ g. gathered_interface true c.interfaces (kin w c.interfaces) j d (is_kin c.interfaces) (λ is y v l m. listed_interface list files unbroken x y c v e l m) g r.2)
-      (has_either j A B n.1)
-    where
-      never : {B : Type 0} → false ≡ true → B
-      never f = cc
+      let all = gathered false (kin w c.supers) ++ gathered true (kin w c.interfaces) in
+      let r = known_has (each_once [] all) d h in
+      at_gathered x c r.0 d e (once_new [] all r.0 r.1).1 r.2
+
+  -- so are those whose methods a class may get
+  pub are_asked : (x : List ℕ) (c d : Class) → class_named w x ≡ Some c → Has d (known (gathered false (kin w c.supers) ++ gathered true (kin w c.interfaces))) → (is_interface d.flags ≡ true) × ((y : List ℕ) × (class_named w y ≡ Some d))
+  are_asked x c d e h = let r = known_has (gathered false (kin w c.supers) ++ gathered true (kin w c.interfaces)) d h in at_gathered x c r.0 d e r.1 r.2
 
   -- ---- the names that a class lists with all that stands above it
 

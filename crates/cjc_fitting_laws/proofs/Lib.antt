@@ -17,3 +17,7 @@ pub mod Sizes
 pub mod Consistency
 pub mod Flags
 pub mod Exportable
+pub mod Standing
+pub mod OwnTokens
+pub mod Meant
+pub mod ClassMethods

@@ -238,10 +238,13 @@ module _ (list : List ℕ) (files : Files) (own_listed : length files.classes �
     pub own_maps : AllByRecursion (λ (m : InterfaceMap). length m.index ≤ 255) (let u = table_of w c in u.maps)
     own_maps = maps_few (slots (line_at w c)) (interfaces_of w c) (λ d h. let r = are_interfaces list files own_listed imports_listed unbroken acyclic is_kin t.name c d there h in interface_few r.1.0 d r.1.1 r.0)
 
+    pub few_slots : is_interface t.flags ≡ false → length (slots (line_at w c)) ≤ 128
+    few_slots plain = (class_few w is_kin one_kin is_low t.name c there plain).0
+
     pub own_public : is_interface t.flags ≡ false → length (let u = table_of w c in u.public) ≤ 255
     own_public plain =
         let line = line_at w c in
-        let few = (class_few w is_kin one_kin is_low t.name c there plain).0 in
+        let few = few_slots plain in
         let a = entries_few n (row line) in
         let b = length-map (slots line) (meant_by (implementing line)) in
         omega (arith, few, a, b)

@@ -1,5 +1,5 @@
 -- Packages whose methods are laid out, before what is written for them is measured.
-use Rattle.std.specs.Prelude.{◌≡◌, ◌<◌, ◌≤◌, ◌^◌, ℕ, List, [], length, slice_get, Some}
+use Rattle.std.specs.Prelude.{◌≡◌, true, ◌<◌, ◌≤◌, ◌^◌, ℕ, List, [], length, slice_get, Some}
 use Rattle.std.specs.List.{AllByRecursion}
 use Rattle.cjc_bytes.specs.AccessFlags.{is_interface}
 use Rattle.cjc_bytes.specs.declared.settings.AppletLine.{AppletLine}
@@ -38,3 +38,7 @@ pub record MethodsStand (p : Package) (c : Class) : Type 0 where
 -- those of each class that others may name
 abbrev pub ExportedMethodsStand : Package → Type 0
 ExportedMethodsStand p = (k : ℕ) (c : Class) → slice_get (exported_classes p) k ≡ Some c → MethodsStand p c
+
+-- those of each interface that others may name
+abbrev pub ExportedInterfacesStand : Package → Type 0
+ExportedInterfacesStand p = (k : ℕ) (c : Class) → slice_get (exported_classes p) k ≡ Some c → is_interface c.flags ≡ true → MethodsStand p c

@@ -17,7 +17,7 @@ ghost use Rattle.cjc_export.specs.Writable.{IsWritable as CanBeExported};
 ghost use Rattle.cjc_fit_laws.specs.Premises.{IsLimited};
 ghost use Rattle.cjc_judge.specs.declared.judged.Judged.{Judged};
 ghost use Rattle.cjc_list.specs.Listed.{ListTree};
-ghost use Rattle.cjc_fitting_laws.specs.LaidOut.{ExportedMethodsStand, IsLaidOut};
+ghost use Rattle.cjc_fitting_laws.specs.LaidOut.{ExportedInterfacesStand, ExportedMethodsStand, IsLaidOut};
 
 use cjc_class_laws::limits_are_kept;
 use cjc_export_file::few_classes;
@@ -47,6 +47,12 @@ pub fn export_files_fit()
 {
     export_file_fits();
 }
+
+/// The methods of each class that its export file lists, and that is no interface, can stand there: each fits, and no two have
+/// one token. So those of all do, where those of interfaces do.
+pub fn exported_classes_stand()
+    ensures { (list : ListTree) (files : List (List ℕ)) (judged : Judged) (p : Package) → IsLaidOut list files judged p → ExportedInterfacesStand p → ExportedMethodsStand p }
+{}
 
 /// What consistent components rest on and rules of the files promise: no interface of such a package has a static method or a
 /// constructor, and the class of each applet is one with an install method and no interface.
