@@ -41,8 +41,9 @@ use Rattle.cjc_world.specs.Lookup.{member_at}
 use Rattle.cjc_world.specs.Rules.{is_twice}
 use Rattle.cjc_world.specs.declared.found.Found.{Found}
 use Rattle.cjc_fitting_laws.proofs.Exported.{bound_few, or_first, or_second}
+use Rattle.cjc_fitting_laws.proofs.Lists.{mapped_at}
 use Rattle.cjc_fitting_laws.proofs.Limited.{acyclic, few_imports, is_kin, no_open, tokens, unbroken, writable}
-use Rattle.cjc_fitting_laws.proofs.Meant.{IsMethodRead, added_method, class_method, line_meant, mapped_at}
+use Rattle.cjc_fitting_laws.proofs.Meant.{IsMethodRead, added_method, class_method, line_meant}
 use Rattle.cjc_fitting_laws.proofs.Order.{has_either, has_none}
 use Rattle.cjc_fitting_laws.proofs.OwnTokens.{Offers, added_token, both_apart, bound_token, bound_unbound, given_apart, listed_kind, offers_given, offers_shown, own_apart, own_there, shown_token, shown_unbound, slot_there}
 use Rattle.cjc_fitting_laws.proofs.Rules as Rules

@@ -1,5 +1,5 @@
 -- A package that breaks no rule keeps what consistent components rest on.
-use Rattle.std.proofs.Common.{◌≡◌, ℕ, zero, suc, ◌≤◌, refl, sym, ap, ◌∙◌, Bool, true, false, not, List, [], ◌∷◌, ◌++◌, map, Some}
+use Rattle.std.proofs.Common.{◌≡◌, ℕ, zero, suc, ◌≤◌, refl, sym, ap, ◌∙◌, Bool, true, false, not, List, [], ◌∷◌, ◌++◌, Some}
 use Rattle.std.specs.Prelude.{◌&&◌, ◌||◌, codes, nat_lt, slice_get}
 use Rattle.std.specs.List.{list_any}
 use Rattle.std.specs.Str.{bytes_eq}
@@ -24,6 +24,7 @@ use Rattle.cjc_tokens.specs.Methods.{is_open_bound}
 use Rattle.cjc_world.specs.Classes.{Class, Member, class_named, method_of_class}
 use Rattle.cjc_world.proofs.Settled.{bytes-true}
 use Rattle.cjc_fitting_laws.proofs.Exported.{or_first, or_second}
+use Rattle.cjc_fitting_laws.proofs.Lists.{mapped_at}
 use Rattle.cjc_fitting_laws.proofs.Limited.{by_list, few_files, methods_short, no_open, unbroken}
 use Rattle.cjc_fitting_laws.proofs.Rules as Rules
 use Rattle.cjc_fitting_laws.specs.LaidOut.{IsLaidOut}
@@ -42,11 +43,6 @@ some_any {A} test (y ∷ xs) e = by (test y) refl e (some_any test xs)
     by : (b : Bool) → test y ≡ b → (b || list_any test xs) ≡ true → (list_any test xs ≡ true → (k : ℕ) × (x : A) × (slice_get xs k ≡ Some x) × (test x ≡ true)) → (k : ℕ) × (x : A) × (slice_get (y ∷ xs) k ≡ Some x) × (test x ≡ true)
     by true f g rest = (0, y, refl, f)
     by false f g rest = let r = rest g in (suc r.0, r.1, r.2, r.3)
-
-mapped_at : {A B : Type 0} (f : A → B) (xs : List A) (k : ℕ) (y : B) → slice_get (map f xs) k ≡ Some y → (x : A) × (slice_get xs k ≡ Some x) × (f x ≡ y)
-mapped_at f [] k y e = cc
-mapped_at f (x ∷ xs) zero y e = (x, refl, cc)
-mapped_at f (x ∷ xs) (suc k) y e = mapped_at f xs k y e
 
 clash : {A : Type 0} (b : Bool) → b ≡ true → b ≡ false → A
 clash true e f = absurd (cc)

@@ -13,7 +13,7 @@ use Rattle.cjc_classfile.specs.declared.tree.MethodTree.{MethodTree}
 use Rattle.cjc_components.specs.Descriptor.{as_added, method_in, methods_with_added, no_member}
 use Rattle.cjc_components.specs.Package.{Package, world}
 use Rattle.cjc_export.specs.Members.{as_desc, is_unbound, not_special}
-use Rattle.cjc_export.specs.Writable.{ClassFits, EachAfter, IsText, MethodFits, MethodStands}
+use Rattle.cjc_export.specs.Writable.{ClassFits, IsText, MethodFits, MethodStands}
 use Rattle.cjc_export.specs.declared.tree.ExportClass.{ExportClass}
 use Rattle.cjc_export.specs.declared.tree.ExportMethod.{ExportMethod}
 use Rattle.cjc_judge.specs.Rules.{settings_of}
@@ -40,6 +40,7 @@ use Rattle.cjc_fitting_laws.proofs.Exported.{is_bare}
 use Rattle.cjc_fitting_laws.proofs.Flags.{HasMethodFlags, small_flags}
 use Rattle.cjc_fitting_laws.proofs.Interfaces.{are_asked}
 use Rattle.cjc_fitting_laws.proofs.Limited.{acyclic, class_in_bytes, few_imports, is_kin, unbroken, writable}
+use Rattle.cjc_fitting_laws.proofs.Lists.{each_after, mapped_at}
 use Rattle.cjc_fitting_laws.proofs.Order.{has_cons, has_either, has_none}
 use Rattle.cjc_fitting_laws.proofs.Rules as Rules
 use Rattle.cjc_fitting_laws.specs.LaidOut.{IsLaidOut}
@@ -52,16 +53,6 @@ pub record IsMethodRead (m : Member) : Type 0 where
   pub is_desc : as_desc true m.desc ≡ Some m.desc
 
 -- ---- lists
-
-each_after : {A : Type 0} (P : List A → A → Type 0) (before xs : List A) (x : A) → EachAfter P before xs → Has x xs → (b : List A) × P b x
-each_after P before [] x h i = elim i [ ]
-each_after P before (y ∷ xs) x h at_front = (before, h.0)
-each_after P before (y ∷ xs) x h (behind i) = each_after P (before ++ y ∷ []) xs x h.1 i
-
-pub mapped_at : {A B : Type 0} (f : A → B) (xs : List A) (k : ℕ) (y : B) → slice_get (map f xs) k ≡ Some y → (x : A) × (slice_get xs k ≡ Some x) × (f x ≡ y)
-mapped_at f [] k y e = cc
-mapped_at f (x ∷ xs) zero y e = (x, refl, cc)
-mapped_at f (x ∷ xs) (suc k) y e = mapped_at f xs k y e
 
 front_at : {A : Type 0} (xs ys : List A) (k : ℕ) (x : A) → slice_get xs k ≡ Some x → slice_get (xs ++ ys) k ≡ Some x
 front_at [] ys k x e = cc

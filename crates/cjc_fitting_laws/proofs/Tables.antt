@@ -39,6 +39,7 @@ use Rattle.cjc_world.specs.Rules.{breaks}
 use Rattle.cjc_world.specs.declared.found.Found.{Found}
 use Rattle.cjc_fitting_laws.proofs.Exported.{or_first, or_second}
 use Rattle.cjc_fitting_laws.proofs.Interfaces.{are_interfaces, lists_front}
+use Rattle.cjc_fitting_laws.proofs.Lists.{each_after}
 use Rattle.cjc_fitting_laws.proofs.Slots.{IsLow, IsLowMember, class_few}
 
 -- ---- tables
@@ -98,11 +99,6 @@ module _ (w : List Class) (applets : Bool) (lines : List FileLine) where
       ∙ none_high (k + 1) cs n c (nil_back (breaks_where (has_high_token w (is_exported w applets (declared k d)) k d) (at_class (file_of lines k) d.name)) (breaks_from w applets lines (k + 1) cs) e) f
 
 -- ---- imported classes
-
-each_after : {A : Type 0} (P : List A → A → Type 0) (before xs : List A) (x : A) → EachAfter P before xs → Has x xs → (b : List A) × P b x
-each_after P before [] x h i = elim i [ ]
-each_after P before (y ∷ xs) x h at_front = (before, h.0)
-each_after P before (y ∷ xs) x h (behind i) = each_after P (before ++ y ∷ []) xs x h.1 i
 
 low_token : (before : List ExportMethod) (m : ExportMethod) → method_token_wrong before (is_unbound m.flags m.name) m.token ≡ false → is_virtual (method_of_export m) ≡ true → m.token ≤ 127
 low_token before m e virtual =
