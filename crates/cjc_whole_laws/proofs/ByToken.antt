@@ -5,9 +5,9 @@ use Rattle.std.specs.List.{AllByRecursion, IsDistinct, list_any}
 use Rattle.std.specs.Str.{bytes_eq}
 use Rattle.std.proofs.lemmas.Bool.{eqb-true}
 use Rattle.std.proofs.lemmas.Bool.Decides.{nat_tests}
-use Rattle.std.proofs.lemmas.List.{length-map}
+use Rattle.std.proofs.lemmas.List.{length-append, length-map}
 use Rattle.std.proofs.lemmas.Map.Steps.{length-le_from_distinct_below}
-use Rattle.std.proofs.lemmas.Option.{slice_get-map}
+use Rattle.std.proofs.lemmas.Option.{slice_get-map, slice_get_within}
 use Rattle.cjc_tokens.proofs.Facts.{position-cons, same-refl, same-true}
 use Rattle.cjc_tokens.specs.Members.{Signature, same, signature_of}
 use Rattle.cjc_tokens.specs.Slots.{Slots, has_slot, new_in}
@@ -250,3 +250,45 @@ module _ (ms : List Member) (apart : IsDistinct (λ s t. s == t) (map (λ m. m.t
           by : (b : Bool) → list_any (λ t. m.token == t) (map (λ n. n.token) xs) ≡ true → (b || list_any (λ t. m.token == t) (map (λ n. n.token) xs)) ≡ true
           by true h = refl
           by false h = h
+
+  -- ---- and at each place stands the one with that token
+
+  one_at_most : (t : ℕ) (xs : List Member) → length (with_token t xs) ≤ 1
+  one_at_most t [] = omega arith
+  one_at_most t (x ∷ xs) = by (x.token == t) (one_at_most t xs)
+    where
+      by : (b : Bool) → length (with_token t xs) ≤ 1 → length (if b then x ∷ [] else with_token t xs) ≤ 1
+      by true rest = omega arith
+      by false rest = rest
+
+  few_by_token : (count k : ℕ) → length (by_token count k ms) ≤ count
+  few_by_token zero k = omega arith
+  few_by_token (suc count) k =
+      let here = one_at_most k ms in
+      let rest = few_by_token count (k + 1) in
+      let both = length-append (with_token k ms) (by_token count (k + 1) ms) in
+      omega (arith, here, rest, both)
+
+  mapped_from : {A B : Type 0} (f : A → B) (xs : List A) (i : ℕ) (y : B) → slice_get (map f xs) i ≡ Some y → (x : A) × (slice_get xs i ≡ Some x) × (f x ≡ y)
+  mapped_from f [] i y e = cc
+  mapped_from f (x ∷ xs) zero y e = (x, refl, cc)
+  mapped_from f (x ∷ xs) (suc i) y e = mapped_from f xs i y e
+
+  -- one of a token is the only one
+  pub only_one : (i j : ℕ) (x y : Member) → slice_get ms i ≡ Some x → slice_get ms j ≡ Some y → x.token ≡ y.token → x ≡ y
+  only_one i j x y e f same_token = in_one ms i j x y apart e f same_token
+
+  pub token_is_place : (t : ℕ) (s : Signature) → slice_get (new_in [] (map signature_of (without_initialiser (by_token (length ms) 0 ms)))) t ≡ Some s → (i : ℕ) × (m : Member) × (slice_get ms i ≡ Some m) × (m.token ≡ t) × (signature_of m ≡ s)
+  token_is_place t s e =
+      let all = by_token (length ms) 0 ms in
+      let here : slice_get (map signature_of all) t ≡ Some s =
+      sym (ap (λ ys. slice_get (new_in [] (map signature_of ys)) t) (none_left_out (length ms) 0)
+      ∙ ap (λ ys. slice_get ys t) (new_same [] (map signature_of all) (all_apart (length ms) 0) (fresh_all (map signature_of all)))) ∙ e in
+      let x = mapped_from signature_of all t s here in
+      let within = slice_get_within all t x.0 x.1 in
+      let few = few_by_token (length ms) 0 in
+      let r = at_place (length ms) 0 t (omega (arith, within, few)) (omega arith) in
+      let both : Some r.one ≡ Some x.0 = sym r.is ∙ x.1 in
+      let is : r.one ≡ x.0 = cc in
+      let token = r.token in
+      (r.inside.0, r.one, r.inside.1, omega (arith, token), ap signature_of is ∙ x.2)

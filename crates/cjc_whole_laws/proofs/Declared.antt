@@ -38,7 +38,7 @@ use Rattle.cjc_world.specs.Files.{Files}
 use Rattle.cjc_world.specs.Lookup.{is_called}
 use Rattle.cjc_world.specs.Rules.{breaks, is_twice}
 use Rattle.cjc_world.specs.declared.found.Found.{Found}
-use Rattle.cjc_whole_laws.proofs.ByToken.{place_is_token}
+use Rattle.cjc_whole_laws.proofs.ByToken.{only_one, place_is_token, token_is_place}
 use Rattle.cjc_whole_laws.proofs.Once.{once}
 
 -- ---- lists
@@ -210,6 +210,51 @@ module _ (list : List ℕ) (files : Files) (unbroken : breaks list files ≡ [])
       (λ q h. let low = tokens_low (length c.methods) [] c.methods stands q h in subst (λ k. q < k) (sym count) low)
       (one_place (map method_of_export c.methods) (once list files unbroken c.name (imported n c) named))
       (names_plain (length c.methods) [] c.methods stands) i m e
+
+  -- A method of an interface of an export file that stands at a place, by the export file.
+  pub record StandsThere (c : ExportClass) (t : ℕ) (s : Signature) : Type 0 where
+    pub place : ℕ
+    pub method : ExportMethod
+    pub there : slice_get c.methods place ≡ Some method
+    pub token : method.token ≡ t
+    pub signature : signature_of (method_of_export method) ≡ s
+    pub no_constructor : bytes_eq method.name (codes "<init>") ≡ false
+    pub only_one : (j : ℕ) (z : ExportMethod) → slice_get c.methods j ≡ Some z → z.token ≡ t → method_of_export z ≡ method_of_export method
+
+  pub method_there : (n : ℕ) (c : ExportClass) → slice_get (imports files.exports) n ≡ Some c → class_named w c.name ≡ Some (imported n c) → is_interface c.flags ≡ true
+      → (t : ℕ) (s : Signature) → slice_get (interface_methods w (imported n c)) t ≡ Some s → StandsThere c t s
+  unfolding interface_methods own_methods
+  method_there n c there named interface t s e =
+      let tree = of-imports c files.exports (get-has c (imports files.exports) n there) in
+      let place = has-get tree.0 files.exports tree.1 in
+      let fits = each_after ClassFits [] (let t = tree.0 in t.classes) c (writable place.0 tree.0 place.1).classes tree.2 in
+      let stands : EachAfter (MethodStands true (length c.methods)) [] c.methods = subst (λ b. EachAfter (MethodStands b (length c.methods)) [] c.methods) interface fits.1.methods in
+      let count : length (map method_of_export c.methods) ≡ length c.methods = length-map c.methods method_of_export in
+      let ms = map method_of_export c.methods in
+      let apart = tokens_apart (length c.methods) [] c.methods stands in
+      let low : (q : ℕ) → list_any (λ x. q == x) (map (λ (m : Member). m.token) ms) ≡ true → q < length ms =
+      λ q h. let low = tokens_low (length c.methods) [] c.methods stands q h in subst (λ k. q < k) (sym count) low in
+      let once_each = one_place ms (once list files unbroken c.name (imported n c) named) in
+      let plain = names_plain (length c.methods) [] c.methods stands in
+      let r = token_is_place ms apart low once_each plain t s e in
+      let y = listed_at c.methods r.0 r.1 r.2 in
+      record {
+        place = r.0;
+        method = y.0;
+        there = y.1;
+        token = ap (λ (x : Member). x.token) y.2 ∙ r.3;
+        signature = ap signature_of y.2 ∙ r.4;
+        no_constructor = (let one = each_after (MethodStands true (length c.methods)) [] c.methods y.0 stands (get-has y.0 c.methods r.0 y.1) in no_constructor y.0.name one.1.2);
+        only_one = λ j z f g. only_one ms apart low once_each plain j r.0 (method_of_export z) (method_of_export y.0) (slice_get-map method_of_export c.methods j ∙ ap (option_map method_of_export) f)
+            (slice_get-map method_of_export c.methods r.0 ∙ ap (option_map method_of_export) y.1) (g ∙ sym (ap (λ (x : Member). x.token) y.2 ∙ r.3));
+      }
+    where
+      no_constructor : (name : List ℕ) → not_special name ≡ Some name → bytes_eq name (codes "<init>") ≡ false
+      no_constructor name e = by (bytes_eq name (codes "<init>")) refl
+        where
+          by : (b : Bool) → bytes_eq name (codes "<init>") ≡ b → b ≡ false
+          by false f = refl
+          by true f = (let none : not_special name ≡ None = ap not_special ((bytes_eq-Decides name (codes "<init>")).0 f) in cc)
 
   of_owner : (o : Class) → IsFiled files o → class_named w o.name ≡ Some o → (name desc : List ℕ) (f : Found) (own : IsOwn o name desc f) → is_interface o.flags ≡ true → is_initialiser name ≡ false
       → (t : ℕ) → token_of_member (assigned applets files) f ≡ Some t → position (λ s. same s (signature_of own.member)) (interface_methods w o) ≡ Some t

@@ -1,5 +1,5 @@
 mod ByToken
 mod Once
-mod Declared
+pub mod Declared
 pub mod Emittable
 mod ClassOrder

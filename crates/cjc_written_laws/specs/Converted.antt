@@ -16,10 +16,11 @@ use Rattle.cjc_vtable.specs.Kept.{ExportsAgree}
 use Rattle.cjc_whole.specs.Conversion.{IsPackageOf}
 use Rattle.cjc_world.specs.Files.{Files}
 
--- The premise on methods in export files, method by method: one of an interface is neither static nor private, and an
--- initialiser is static (Java Virtual Machine Specification, sections 2.9 and 4.6).
+-- The premise on methods in export files, method by method: none is private, one of an interface is not static, and an
+-- initialiser is static (Java Virtual Machine Specification, sections 2.9 and 4.6; Java Card 2.2.2, section 5.9).
 pub record ExportsArePlain (files : Files) : Type 0 where
-  pub interfaces : (n : ℕ) (c : ExportClass) → slice_get (imports files.exports) n ≡ Some c → is_interface c.flags ≡ true → (k : ℕ) (m : ExportMethod) → slice_get c.methods k ≡ Some m → (is_static m.flags ≡ false) × (is_private m.flags ≡ false)
+  pub visible : (n : ℕ) (c : ExportClass) → slice_get (imports files.exports) n ≡ Some c → (k : ℕ) (m : ExportMethod) → slice_get c.methods k ≡ Some m → is_private m.flags ≡ false
+  pub interfaces : (n : ℕ) (c : ExportClass) → slice_get (imports files.exports) n ≡ Some c → is_interface c.flags ≡ true → (k : ℕ) (m : ExportMethod) → slice_get c.methods k ≡ Some m → is_static m.flags ≡ false
   pub initialisers : (n : ℕ) (c : ExportClass) → slice_get (imports files.exports) n ≡ Some c → (k : ℕ) (m : ExportMethod) → slice_get c.methods k ≡ Some m → is_initialiser m.name ≡ true → is_static m.flags ≡ true
 
 -- The package of a list that was read and of its files. It breaks no rule: none of its files, neither 417, 311, 414
