@@ -87,13 +87,15 @@ class_sums (c ∷ entries) =
     ∙ ap (λ n. n + sum_by class_size entries) (sym (class_bytes c))
     ∙ sym (sum_by-cons class_size c entries)
 
-pub offset_below : (c : ClassInfo) (x k : ℕ) → class_info_size c < 2 ^ 32 → number_from 2 (infos_in c) x ≡ Some k → x < 2 ^ 32
-offset_below c x k small e =
+all_bytes : (c : ClassInfo) → class_info_size c ≡ 2 + sum_by info_size (infos_in c)
+all_bytes c =
     let a = sum_by-append info_size (map IsInterface c.interfaces) (map IsClass c.classes) in
     let i = interface_sums c.interfaces in
     let s = class_sums c.classes in
-    let h = below 2 (infos_in c) x k e in
-    omega (arith, a, i, s, h, small)
+    omega (arith, a, i, s)
+
+pub offset_below : (c : ClassInfo) (x k : ℕ) → class_info_size c < 2 ^ 32 → number_from 2 (infos_in c) x ≡ Some k → x < 2 ^ 32
+offset_below c x k small e = let b = all_bytes c in let h = below 2 (infos_in c) x k e in omega (arith, b, h, small)
 
 pub offset_is_small : (c : ClassInfo) (x : ℕ) (r : Option ℕ) → class_info_size c < 2 ^ 32 → r ≡ number_from 2 (infos_in c) x → IfSome r (λ n. x < 2 ^ 32)
 offset_is_small c x None small e = tt
@@ -102,3 +104,20 @@ offset_is_small c x (Some k) small e = offset_below c x k small (sym e)
 pub where_some : {A P : Type 0} (r : Option A) → P → IfSome r (λ a. P)
 where_some None h = tt
 where_some (Some a) h = h
+
+found_below : (at : ℕ) (infos : List Info) (n x : ℕ) → offset_from at infos n ≡ Some x → x ≤ at + sum_by info_size infos
+found_below at [] n x e = absurd (none_is_some x e)
+found_below at (i ∷ infos) zero x e = let same : at ≡ x = cc in omega (arith, same)
+found_below at (i ∷ infos) (suc n) x e = let s = sum_by-cons info_size i infos in let h = found_below (at + info_size i) infos n x e in omega (arith, s, h)
+
+pub found_is_small : (c : ClassInfo) (n : ℕ) (r : Option ℕ) → class_info_size c < 2 ^ 32 → r ≡ offset_from 2 (infos_in c) n → IfSome r (λ x. x < 2 ^ 32)
+found_is_small c n None small e = tt
+found_is_small c n (Some x) small e = let b = all_bytes c in let h = found_below 2 (infos_in c) n x (sym e) in omega (arith, b, h, small)
+
+count_at_most : (infos : List Info) → length infos ≤ sum_by info_size infos
+count_at_most [] = omega arith
+count_at_most (IsInterface i ∷ infos) = let s = sum_by-cons info_size (IsInterface i) infos in let h = count_at_most infos in omega (arith, s, h)
+count_at_most (IsClass c ∷ infos) = let s = sum_by-cons info_size (IsClass c) infos in let h = count_at_most infos in omega (arith, s, h)
+
+pub count_is_small : (c : ClassInfo) (n : ℕ) → class_info_size c < 2 ^ 32 → n ≡ length (infos_in c) → n + 2 < 2 ^ 32
+count_is_small c n small is = let b = all_bytes c in let h = count_at_most (infos_in c) in omega (arith, b, h, is, small)

@@ -6,3 +6,7 @@ pub mod ByName
 pub mod Alone
 pub mod Fetched
 pub mod Slots
+mod ByPlace
+mod Climbing
+mod Stepping
+mod Outer

@@ -6,3 +6,5 @@ pub mod Described
 pub mod Exported
 pub mod Tables
 pub mod Walks
+pub mod MetClasses
+pub mod Climbs

@@ -128,6 +128,13 @@ impl<'a> Exported<'a> {
         })
     }
 
+    /// The export files.
+    pub(crate) fn trees(&self) -> &'a [ExportTree]
+        ensures { result.now ≡ self.now }
+    {
+        self.trees
+    }
+
     /// The class of an export file by its token.
     pub(crate) fn class(&self, tree: u32, token: u8) -> Option<&'a ExportClass>
         ensures { option_copied result ≡ exported_class self.now tree token }

@@ -98,7 +98,8 @@ impl<'a> Infos<'a> {
 
     /// How many there are.
     pub(crate) fn count(&self) -> usize
-        ensures { result ≡ length (infos_in self.now) }
+        ensures count { result ≡ length (infos_in self.now) }
+        ensures small { result + 2 < 2 ^ 32 }
     {
         self.offsets.items().len()
     }
@@ -113,7 +114,8 @@ impl<'a> Infos<'a> {
 
     /// The offset of the info with a number.
     pub(crate) fn offset_of(&self, number: u64) -> Option<u64>
-        ensures { result ≡ offset_from 2 (infos_in self.now) number }
+        ensures offset { result ≡ offset_from 2 (infos_in self.now) number }
+        ensures small { IfSome result (λ offset. offset < 2 ^ 32) }
     {
         number_at(self.offsets.items(), number)
     }

@@ -3,6 +3,7 @@
 //! not how names came to components.
 #![tactic(auto)]
 
+mod calls;
 mod described;
 mod dispatch;
 mod entries;
@@ -10,9 +11,13 @@ mod exported;
 mod fresh;
 mod indices;
 mod infos;
+mod met;
+mod named;
 mod names;
 mod part;
 mod starts;
+mod steps;
+mod supers;
 mod tables;
 
 pub use names::{ClassNames, FieldName, MethodName};

@@ -173,13 +173,13 @@ impl<'a> Tables<'a> {
         }
     }
 
-    /// The superclass of a class of the package.
-    pub(crate) fn superclass(&self, offset: u64) -> Option<Class>
+    /// The superclass of a class of a package.
+    pub(crate) fn superclass(&self, part: u32, offset: u32) -> Option<Class>
         requires { AreKept self.now }
-        ensures { option_map class_of result ≡ superclass (loaded_of self.now) 0 offset }
+        ensures { option_map class_of result ≡ superclass (loaded_of self.now) part offset }
     {
-        match self.info(0, offset) {
-            Some(Info::IsClass(class)) => self.class(class.superclass),
+        match self.info(part, u64::from(offset)) {
+            Some(Info::IsClass(class)) => self.class_in(part, class.superclass),
             Some(Info::IsInterface(_)) => None,
             None => None,
         }
