@@ -1,21 +1,20 @@
 -- A static method or a constructor of an imported class is what its reference means on the card.
 use Rattle.std.proofs.Common.{◌≡◌, ℕ, zero, suc, ◌+◌, ◌<◌, refl, sym, ap, subst, ◌∙◌, arith, Bool, true, false, List, [], ◌∷◌, ◌++◌, length, map}
-use Rattle.std.specs.Prelude.{◌&&◌, ◌||◌, ◌==◌, not, nat_lt, Option, Some, None, option_and_then, option_map, slice_get, unwrap_or, if◌then◌else◌}
-use Rattle.std.specs.List.{list_any}
+use Rattle.std.specs.Prelude.{◌&&◌, ◌||◌, ◌==◌, not, nat_lt, Some, None, option_and_then, option_map, slice_get, unwrap_or, if◌then◌else◌}
 use Rattle.std.proofs.lemmas.Bool.Decides.{nat_tests}
 use Rattle.std.proofs.lemmas.List.{length-map}
 use Rattle.std.proofs.lemmas.Option.{slice_get-map}
-use Rattle.cjc_bytes.specs.AccessFlags.{is_interface, is_static}
+use Rattle.cjc_bytes.specs.AccessFlags.{is_interface}
 use Rattle.cjc_bytes.specs.declared.fault.MemberId.{MemberId}
-use Rattle.cjc_by_name.specs.OnePackage.{is_constructor, is_initialiser}
+use Rattle.cjc_by_name.specs.OnePackage.{is_initialiser}
 use Rattle.cjc_call_laws.proofs.Own.{IsAt, mapped_at}
-use Rattle.cjc_card.specs.Classes.{Class as CardClass, Foreign, foreign}
+use Rattle.cjc_card.specs.Classes.{Foreign}
 use Rattle.cjc_card.specs.Loaded.{OfFile}
-use Rattle.cjc_card.specs.Operations.{Callee, Outer, method_through, outer, static_method, unbound_of}
+use Rattle.cjc_card.specs.Operations.{Outer, method_through, outer, static_method, unbound_of}
 use Rattle.cjc_components.specs.Names.{class_at, fixed_as, member_ref, member_token, offset_where}
-use Rattle.cjc_components.specs.Package.{Package, tokens, world}
+use Rattle.cjc_components.specs.Package.{Package, world}
 use Rattle.cjc_export.specs.Members.{is_unbound, method_token_taken, method_token_wrong, same_bool}
-use Rattle.cjc_export.specs.Writable.{ClassFits, EachAfter, IsWritable, MethodFits, MethodStands}
+use Rattle.cjc_export.specs.Writable.{ClassFits, EachAfter, MethodStands}
 use Rattle.cjc_export.specs.declared.tree.ExportClass.{ExportClass}
 use Rattle.cjc_export.specs.declared.tree.ExportMethod.{ExportMethod}
 use Rattle.cjc_export.specs.declared.tree.ExportTree.{ExportTree}
@@ -23,15 +22,14 @@ use Rattle.cjc_lower.specs.Naming.{IsFixed}
 use Rattle.cjc_narrow_finds.proofs.Descs.{each_after}
 use Rattle.cjc_paired.specs.Naming.{files_from}
 use Rattle.cjc_subset.specs.Members.{imports}
-use Rattle.cjc_tables_by_token.specs.Infos.{HasEntry}
 use Rattle.cjc_tables_by_token.specs.Loading.{loaded, naming}
 use Rattle.cjc_tables_by_token.specs.Sound.{IsSound}
 use Rattle.cjc_tables_by_token.proofs.Above.{entry_of_name}
-use Rattle.cjc_tokens.specs.Tokens.{assigned, imports_of, joined, listed_field_token, listed_method_token, of_import, token_of_member}
-use Rattle.cjc_vtable.proofs.Filed.{Has, IsFiled, filed, get-has, in_class_file, in_export_file, of-imports, has-get}
+use Rattle.cjc_tokens.specs.Tokens.{assigned, imports_of, joined, listed_field_token, listed_method_token, of_import}
+use Rattle.cjc_vtable.proofs.Filed.{IsFiled, filed, get-has, in_class_file, in_export_file, of-imports, has-get}
 use Rattle.cjc_world.specs.declared.found.Found.{Found}
-use Rattle.cjc_world.specs.Classes.{Class, Member, all_classes, class_named, field_of_export, imported, method_of_export}
-use Rattle.cjc_world.specs.Lookup.{find_method, member_at}
+use Rattle.cjc_world.specs.Classes.{Class, Member, class_named, field_of_export, method_of_export}
+use Rattle.cjc_world.specs.Lookup.{find_method}
 use Rattle.cjc_world.proofs.Cycles.{class_named-name}
 
 -- ---- lists

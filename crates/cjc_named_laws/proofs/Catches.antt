@@ -1,11 +1,10 @@
 -- What the handlers of a converted package catch stands in its pool, behind the entry of every exception.
-use Rattle.std.proofs.Common.{◌≡◌, ℕ, zero, suc, refl, sym, ap, ◌∙◌, Bool, true, false, not, List, [], ◌∷◌, ◌++◌, map}
-use Rattle.std.specs.Prelude.{◌||◌, IsSome, Option, Some, None, filter, flat_map, option_map, position, slice_get, unwrap_or, if◌then◌else◌}
-use Rattle.std.specs.List.{Contains, list_any}
+use Rattle.std.proofs.Common.{◌≡◌, ℕ, zero, suc, refl, sym, ap, ◌∙◌, Bool, true, false, not, List, [], ◌∷◌, ◌++◌}
+use Rattle.std.specs.Prelude.{◌||◌, Option, Some, None, filter, flat_map, option_map, position, slice_get, unwrap_or, if◌then◌else◌}
+use Rattle.std.specs.List.{list_any}
 use Rattle.std.specs.Str.{bytes_eq}
 use Rattle.std.proofs.lemmas.Option.{slice_get-get_or, slice_get-map}
 use Rattle.std.proofs.lemmas.Slice.Eq.{bytes_eq-Decides}
-use Rattle.cjc_classfile.specs.declared.tree.Catch.{Catch}
 use Rattle.cjc_components.specs.Package.{LaidMethod, Package, codes, pool, world}
 use Rattle.cjc_judge.specs.declared.judged.Judged.{Judged}
 use Rattle.cjc_keys.specs.Index.{index_of}
@@ -14,10 +13,8 @@ use Rattle.cjc_list.specs.Listed.{ListTree}
 use Rattle.cjc_lower.specs.Handlers.{Catches, any, one}
 use Rattle.cjc_lower.specs.Naming.{IsClass}
 use Rattle.cjc_narrow_laws.proofs.Handlers.{caught_there, class_there}
-use Rattle.cjc_ncode.specs.PoolOrder.{any_exception, class_key, has_catch_type, insn_keys, is_field, is_some, method_keys, once, pool_order, same_key}
+use Rattle.cjc_ncode.specs.PoolOrder.{any_exception, has_catch_type, is_field, is_some, method_keys, once, same_key}
 use Rattle.cjc_ncode.specs.declared.narrow.NCatch.{NCatch}
-use Rattle.cjc_ncode.specs.declared.narrow.NMethod.{NMethod}
-use Rattle.cjc_ncode.specs.declared.narrow.PoolKey.{PoolKey}
 use Rattle.cjc_ncode.specs.declared.narrow.PoolKey.TheVariants as keys
 use Rattle.cjc_pool_laws.proofs.Keys.{some_of}
 use Rattle.cjc_tables_by_token.specs.Loading.{naming}
@@ -26,7 +23,7 @@ use Rattle.cjc_world.specs.Classes.{Class, class_named}
 use Rattle.cjc_world.specs.Lookup.{object}
 use Rattle.cjc_named_laws.specs.Handlers.{CatchThrowables}
 use Rattle.cjc_named_laws.proofs.Means.{catch_held, catch_needed}
-use Rattle.cjc_named_laws.proofs.Sources.{HasCatch, has_catch}
+use Rattle.cjc_named_laws.proofs.Sources.{has_catch}
 use Rattle.cjc_written_laws.specs.Converted.{IsConverted}
 use Rattle.cjc_written_laws.proofs.Files.{own_unbroken}
 

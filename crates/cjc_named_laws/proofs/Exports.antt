@@ -1,7 +1,7 @@
 -- What export files say of initialisers and of the methods of interfaces is what calls ask.
-use Rattle.std.proofs.Common.{◌≡◌, ℕ, zero, suc, refl, sym, ap, ◌∙◌, arith, Bool, true, false, not, List, [], ◌∷◌, ◌++◌, map}
-use Rattle.std.specs.Prelude.{◌&&◌, ◌||◌, ◌==◌, Option, Some, None, option_map, slice_get, if◌then◌else◌, codes}
-use Rattle.std.specs.List.{find, flat_map}
+use Rattle.std.proofs.Common.{◌≡◌, ℕ, zero, suc, refl, sym, ap, ◌∙◌, arith, Bool, true, false, not, List, [], ◌∷◌, ◌++◌}
+use Rattle.std.specs.Prelude.{◌&&◌, ◌||◌, ◌==◌, Some, option_map, slice_get, if◌then◌else◌, codes}
+use Rattle.std.specs.List.{find}
 use Rattle.std.specs.Str.{bytes_eq}
 use Rattle.std.proofs.lemmas.Bool.{eqb-true}
 use Rattle.std.proofs.lemmas.Bool.Decides.{nat_tests}
@@ -20,9 +20,8 @@ use Rattle.cjc_tables_by_token.specs.Sound.{IsSound}
 use Rattle.cjc_tokens.specs.Members.{Signature, signature_of}
 use Rattle.cjc_tokens.specs.Methods.{interface_methods}
 use Rattle.cjc_vtable.proofs.Filed.{IsFiled, filed, in_class_file, in_export_file}
-use Rattle.cjc_whole_laws.proofs.Declared.{StandsThere, method_there}
+use Rattle.cjc_whole_laws.proofs.Declared.{method_there}
 use Rattle.cjc_world.specs.Classes.{Class, Member, class_named, imported, method_of_export}
-use Rattle.cjc_world.specs.Lookup.{object}
 use Rattle.cjc_world.proofs.Cycles.{class_named-name}
 use Rattle.cjc_written_calls.specs.Calls.{ExportsKeep}
 use Rattle.cjc_written_laws.specs.Converted.{ExportsArePlain}

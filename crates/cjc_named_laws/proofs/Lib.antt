@@ -6,3 +6,4 @@ pub mod Interfaces
 pub mod Names
 pub mod Exports
 pub mod Catches
+pub mod FixedCalls

@@ -11,7 +11,6 @@ use Rattle.cjc_lower.specs.Naming.{Fit, Holds, IsCell, IsClass, Naming, gets, ge
 use Rattle.cjc_ncode.specs.PoolOrder.{class_key, insn_keys, method_keys, same_key}
 use Rattle.cjc_ncode.specs.declared.narrow.NCatch.{NCatch}
 use Rattle.cjc_ncode.specs.declared.narrow.NInsn.{NInsn}
-use Rattle.cjc_ncode.specs.declared.narrow.NMethod.{NMethod}
 use Rattle.cjc_ncode.specs.declared.narrow.PoolKey.{PoolKey}
 use Rattle.cjc_ncode.specs.declared.narrow.PoolKey.TheVariants as keys
 use Rattle.cjc_pool_laws.proofs.Entries.{all_held}

@@ -1,11 +1,11 @@
 -- The fields and methods that instructions of a package name, with the classes that declare them.
-use Rattle.std.proofs.Common.{◌≡◌, ℕ, ◌+◌, ◌-◌, refl, sym, ap, subst, ◌∙◌, arith, Bool, true, false, List, [], ◌∷◌, ◌++◌, length}
-use Rattle.std.specs.Prelude.{not, ◌&&◌, ◌||◌, ◌==◌, Option, Some, None, is_some, option_and_then, option_map, slice_get, if◌then◌else◌, ℤ}
+use Rattle.std.proofs.Common.{◌≡◌, ℕ, ◌-◌, refl, sym, ap, ◌∙◌, Bool, true, false, List, [], ◌∷◌, ◌++◌, length}
+use Rattle.std.specs.Prelude.{not, ◌&&◌, ◌||◌, Option, Some, None, is_some, option_and_then, option_map, slice_get, if◌then◌else◌, ℤ}
 use Rattle.std.specs.List.{flat_map}
-use Rattle.cjc_bytes.specs.AccessFlags.{is_interface, is_static}
+use Rattle.cjc_bytes.specs.AccessFlags.{is_static}
 use Rattle.cjc_bytes.specs.declared.fault.MemberId.{MemberId}
 use Rattle.cjc_bytes.specs.declared.settings.Settings.{Settings}
-use Rattle.cjc_by_name.specs.OnePackage.{Hit, constant_at, constant_in, exported_constant, field_hit, method_hit, of_class}
+use Rattle.cjc_by_name.specs.OnePackage.{Hit, constant_at, exported_constant, field_hit, method_hit, of_class}
 use Rattle.cjc_call_laws.specs.Solid.{IsSolid}
 use Rattle.cjc_call_laws.proofs.Own.{IsAt, IsFieldAt, field_at, field_hit_is, hit_is, mapped_at, own_at}
 use Rattle.cjc_classfile.specs.declared.tree.ClassTree.{ClassTree}
@@ -25,7 +25,7 @@ use Rattle.cjc_subset.specs.Checks.{is_imported_variable, names_variable}
 use Rattle.cjc_subset.specs.Members.{imported_field, imports, is_imported_constant}
 use Rattle.cjc_subset.specs.Members as subset
 use Rattle.cjc_subset.specs.Names.{is_constant_found, is_hidden, is_other_kind, is_unfit_call, is_unfit_class, is_unfit_field, is_unfit_method, names_unfit}
-use Rattle.cjc_upward_laws.specs.Upwards.{Below, OnLine}
+use Rattle.cjc_upward_laws.specs.Upwards.{Below}
 use Rattle.cjc_upward_laws.proofs.Lines.{field_found_above, method_found_above, own_found}
 use Rattle.cjc_vtable.proofs.Filed.{IsFiled, filed, in_class_file, in_export_file}
 use Rattle.cjc_world.specs.declared.found.Found.{Found}

@@ -1,13 +1,12 @@
 -- What the instructions of a converted package name stands in its pool, and means what they use.
-use Rattle.std.proofs.Common.{◌≡◌, ◌⊎◌, inl, inr, ℕ, refl, sym, ap, subst, ◌∙◌, Bool, true, false, List, [], ◌∷◌}
-use Rattle.std.specs.Prelude.{◌&&◌, ◌||◌, ◌==◌, Option, Some, None, option_and_then, slice_get, if◌then◌else◌}
+use Rattle.std.proofs.Common.{◌≡◌, ◌⊎◌, inl, inr, ℕ, refl, sym, ap, subst, ◌∙◌, Bool, true, false, List}
+use Rattle.std.specs.Prelude.{◌&&◌, ◌||◌, Option, Some, None, option_and_then, slice_get, if◌then◌else◌}
 use Rattle.cjc_bytecode.specs.Meanings.{Calls, Special, Static, Use, Virtual}
 use Rattle.cjc_bytes.specs.AccessFlags.{is_interface, is_private, is_static}
 use Rattle.cjc_bytes.specs.declared.fault.MemberId.{MemberId}
-use Rattle.cjc_by_name.specs.OnePackage.{Hit, is_constructor, is_initialiser, is_made, made_of, method_hit, object_fields, of_class}
+use Rattle.cjc_by_name.specs.OnePackage.{is_constructor, is_initialiser, is_made, method_hit, object_fields, of_class}
 use Rattle.cjc_call_laws.proofs.Own.{IsAt, mapped_at}
 use Rattle.cjc_call_laws.specs.Solid.{IsSolid}
-use Rattle.cjc_card.specs.Classes.{Own}
 use Rattle.cjc_card.specs.Operations.{static_cell}
 use Rattle.cjc_classfile.specs.declared.tree.ClassTree.{ClassTree}
 use Rattle.cjc_code.specs.declared.insn.JOp.{JOp}
@@ -23,29 +22,27 @@ use Rattle.cjc_export.specs.Members.{is_unbound}
 use Rattle.cjc_judge.specs.Rules.{settings_of}
 use Rattle.cjc_judge.specs.declared.judged.Judged.{Judged}
 use Rattle.cjc_list.specs.Listed.{ListTree}
-use Rattle.cjc_lower.specs.Naming.{Fit, Holds, IsCell, IsClass, calls_special, calls_static}
-use Rattle.cjc_narrow.specs.Resolved.{by_owner, constant_named, method_found, resolution, resolved_field, resolved_method, special_by, virtual_by}
+use Rattle.cjc_lower.specs.Naming.{Fit, IsCell, IsClass, calls_special, calls_static}
+use Rattle.cjc_narrow.specs.Resolved.{method_found, resolution, resolved_field, resolved_method, special_by, virtual_by}
 use Rattle.cjc_narrow.specs.Selected.{near_fields}
 use Rattle.cjc_narrow_laws.specs.Unbroken.{IsInsnOf, IsUnbroken}
-use Rattle.cjc_narrow_laws.proofs.Casts.{IsReadType, cast_there, test_there}
+use Rattle.cjc_narrow_laws.proofs.Casts.{cast_there, test_there}
 use Rattle.cjc_narrow_laws.proofs.Instructions.{array_of_class, new_fields, op_fit, op_there}
 use Rattle.cjc_narrow_runs.specs.Types as types
 use Rattle.cjc_narrow_runs.specs.Types.{IsThere}
-use Rattle.cjc_ncode.specs.Written.{Resolution}
 use Rattle.cjc_ncode.specs.declared.narrow.NInsn.{NInsn}
 use Rattle.cjc_ncode.specs.declared.narrow.NInsn.TheVariants as insns
 use Rattle.cjc_ncode.specs.declared.narrow.PoolKey.{PoolKey}
 use Rattle.cjc_ncode.specs.declared.narrow.PoolKey.TheVariants as keys
 use Rattle.cjc_script.specs.Sorts.{OfClass, OfReferences, Shape, shape_named}
 use Rattle.cjc_select_laws.specs.Names.{NamesFit}
-use Rattle.cjc_subset.specs.Names.{is_unfit_class, is_unfit_virtual}
+use Rattle.cjc_subset.specs.Names.{is_unfit_virtual}
 use Rattle.cjc_subset.specs.Members as subset
 use Rattle.cjc_tables_by_token.specs.Loading.{loaded, naming}
 use Rattle.cjc_tables_by_token.proofs.Above.{info_of_name}
 use Rattle.cjc_vtable.proofs.Filed.{IsFiled, filed, in_class_file, in_export_file}
 use Rattle.cjc_world.specs.Classes.{Class, Member, class_named, declared, method_of_export}
 use Rattle.cjc_world.specs.Exported.{is_imported}
-use Rattle.cjc_world.specs.Files.{Files}
 use Rattle.cjc_world.specs.Rules.{is_interface_of}
 use Rattle.cjc_world.proofs.Cycles.{class_named-name}
 use Rattle.cjc_written_laws.specs.Converted.{IsConverted}
@@ -53,10 +50,10 @@ use Rattle.cjc_written_laws.proofs.Files.{are_spelt, files_sound, own_unbroken, 
 use Rattle.cjc_written_laws.proofs.Worlds.{own_solid}
 use Rattle.cjc_named_laws.specs.Opcodes.{CallsHaveOpcodes}
 use Rattle.cjc_named_laws.proofs.Abroad.{fixed_abroad}
-use Rattle.cjc_named_laws.proofs.Interfaces.{IsOpen, interface_open}
+use Rattle.cjc_named_laws.proofs.Interfaces.{interface_open}
 use Rattle.cjc_named_laws.proofs.Means.{class_fits, field_fits, insn_held, method_fits, static_field_fits, super_fits, virtual_fits}
-use Rattle.cjc_named_laws.proofs.Members.{NamesField, NamesMethod, field_named, method_named, static_named, static_own}
-use Rattle.cjc_named_laws.proofs.Sources.{HasHolder, HasSource, has_source, holder}
+use Rattle.cjc_named_laws.proofs.Members.{NamesMethod, field_named, method_named, static_named, static_own}
+use Rattle.cjc_named_laws.proofs.Sources.{has_source, holder}
 
 or_left : (a b : Bool) → (a || b) ≡ false → a ≡ false
 or_left true b e = cc

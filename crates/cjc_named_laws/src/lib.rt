@@ -3,16 +3,23 @@
 //! here runs.
 #![tactic(auto)]
 
-ghost use Rattle.std.specs.Prelude.{◌≡◌, ℕ, List, Some, slice_get};
-ghost use Rattle.cjc_components.specs.Package.{LaidMethod, Package};
+ghost use Rattle.std.specs.Prelude.{◌≡◌, ℕ, List, Some, false, slice_get, true};
+ghost use Rattle.cjc_bytes.specs.declared.fault.MemberId.{MemberId as Member};
+ghost use Rattle.cjc_by_name.specs.OnePackage.{is_constructor};
+ghost use Rattle.cjc_classfile.specs.declared.tree.ClassTree.{ClassTree};
+ghost use Rattle.cjc_code.specs.declared.insn.JOp.TheVariants as jop;
+ghost use Rattle.cjc_components.specs.Package.{LaidMethod, Package, world};
 ghost use Rattle.cjc_judge.specs.declared.judged.Judged.{Judged};
 ghost use Rattle.cjc_list.specs.Listed.{ListTree};
 ghost use Rattle.cjc_named_laws.specs.Handlers.{CatchThrowables};
 ghost use Rattle.cjc_named_laws.specs.Opcodes.{CallsHaveOpcodes};
+ghost use Rattle.cjc_narrow.specs.Resolved.{resolved_method};
+ghost use Rattle.cjc_narrow_laws.specs.Unbroken.{IsInsnOf};
+ghost use Rattle.cjc_ncode.specs.ByLabel.{Fixed};
 ghost use Rattle.cjc_ncode.specs.declared.narrow.NInsn.{NInsn as Narrow};
 ghost use Rattle.cjc_select_laws.specs.Names.{NamesFit};
 ghost use Rattle.cjc_tables_by_token.specs.Loading.{naming};
-ghost use Rattle.cjc_written_calls.specs.Calls.{ExportsKeep};
+ghost use Rattle.cjc_written_calls.specs.Calls.{ExportsKeep, IsNamed};
 ghost use Rattle.cjc_written_laws.specs.Converted.{IsConverted};
 ghost use Rattle.cjc_written_laws.specs.Joined.{NamesAreThere};
 
@@ -37,3 +44,10 @@ pub fn names_are_there()
     converted_classes_keep_rules();
     converted_methods_are_consistent();
 }
+
+/// What an invokestatic calls, and the constructor that an invokespecial calls, is a method that calls can name, by the class that
+/// declares it.
+pub fn fixed_calls_are_named()
+    ensures statics { (list : ListTree) (files : List (List ℕ)) (judged : Judged) (p : Package) → IsConverted list files judged p → (class : ClassTree) (id : Member) → IsInsnOf p.files judged.codes class (jop.Call 0xB8 id) → IsNamed (world p) (Fixed false (resolved_method (world p) id)) }
+    ensures constructors { (list : ListTree) (files : List (List ℕ)) (judged : Judged) (p : Package) → IsConverted list files judged p → (class : ClassTree) (id : Member) → IsInsnOf p.files judged.codes class (jop.Call 0xB7 id) → is_constructor id.name ≡ true → IsNamed (world p) (Fixed true (resolved_method (world p) id)) }
+{}
