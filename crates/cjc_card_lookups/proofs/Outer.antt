@@ -1,5 +1,5 @@
 -- Static methods of imported packages.
-use Rattle.std.proofs.Common.{◌≡◌, ℕ, suc, ◌+◌, refl, sym, ap, ◌∙◌, arith, Bool, Option, Some, None}
+use Rattle.std.proofs.Common.{◌≡◌, ℕ, ◌+◌, refl, sym, ap, ◌∙◌, arith, Bool, Option, Some, None}
 use Rattle.std.specs.Prelude.{option_map, option_and_then, slice_get, List}
 use Rattle.cjc_capread.specs.declared.tree.StaticRef.TheVariants as statics
 use Rattle.cjc_export.specs.declared.tree.ExportClass.{ExportClass}
@@ -21,6 +21,3 @@ through_file p trees on «package» class token = sym (ap (option_and_then (meth
       → option_and_then (method_through (alone p trees) on class token) (option_map (λ u. OfFile (0 + «package»)) t) ≡ outer_by on token (foreign (alone p trees) «package» class)
   by None e = ap (λ o. outer_by on token (option_and_then (λ (t : ExportTree). with_token t.classes class) o)) (sym e)
   by (Some t) e = ap (λ n. outer_by on token (foreign (alone p trees) n class)) (omega arith)
-
-pub no_method : (p : Part) (trees : List ExportTree) (on : Bool) (part «package» class token : ℕ) → None ≡ static_method (alone p trees) (suc part) on (statics.Outside «package» class token)
-no_method p trees on part «package» class token = refl
