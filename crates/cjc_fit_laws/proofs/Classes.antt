@@ -136,14 +136,21 @@ module _ (p : Package) (h : IsLimited p) where
       record {
         flags = class_high (is_interface c.flags) (is_shareable (world p) c) (of_kind (world p) false k c e);
         superclass = class_fits p h (superclass c);
-        public_count = (let n = small.public in let same = length-map t.public (table_entry p) in let lt : length (map (table_entry p) t.public) < 2 ^ 8 = omega (arith, n, same) in lt);
-        package_count = (let n = small.«package» in let same = length-map t.«package» (method_offset p) in let lt : length (map (method_offset p) t.«package») < 2 ^ 8 = omega (arith, n, same) in lt);
+        public_count = (let n = small.public (plain (of_kind (world p) false k c e)) in let same = length-map t.public (table_entry p) in let lt : length (map (table_entry p) t.public) < 2 ^ 8 = omega (arith, n, same) in lt);
+        package_count = (let n = small.«package» (plain (of_kind (world p) false k c e)) in let same = length-map t.«package» (method_offset p) in let lt : length (map (method_offset p) t.«package») < 2 ^ 8 = omega (arith, n, same) in lt);
         public_methods = all_mapped Fits2 (table_entry p) t.public (λ j o f. entry_low o);
         package_methods = all_mapped Fits2 (method_offset p) t.«package» (λ j o f. offset_low p h o);
         count = (let n = few (is_interface c.flags) (length (interfaces_of (world p) c)) small.interfaces in let a = length-map t.maps (implemented (class_ref p)) in let b = maps_long c in let lt : length (map (implemented (class_ref p)) t.maps) < 16 = omega (arith, n, a, b) in lt);
         interfaces = maps_fit t.maps small.maps;
       }
     where
+      plain : is_of_kind false c ≡ true → is_interface c.flags ≡ false
+      plain = off (is_interface c.flags)
+        where
+          off : (b : Bool) → not b ≡ true → b ≡ false
+          off true f = cc
+          off false f = refl
+
       maps_long : (c : Class) → (let t = table_of (world p) c in length t.maps) ≡ length (interfaces_of (world p) c)
       maps_long c = length-map (interfaces_of (world p) c) _
 

@@ -1,6 +1,6 @@
 -- Method.
 use Rattle.std.proofs.Common.{◌≡◌, ℕ, zero, suc, ◌+◌, ◌-◌, ◌^◌, ◌<◌, ◌≤◌, refl, ap, Bool, true, false, List, [], ◌∷◌, ◌++◌, length, length-append, cond, arith, Option, Some, None, ℤ}
-use Rattle.std.specs.Prelude.{sum_by, unwrap_or, nat_lt}
+use Rattle.std.specs.Prelude.{sum_by, unwrap_or, nat_lt, slice_get}
 use Rattle.std.specs.List.{AllByRecursion, position_or_len}
 use Rattle.std.proofs.lemmas.Bool.Decides.{nat_tests}
 use Rattle.std.proofs.lemmas.List.Sums.{sum_by-cons}
@@ -27,11 +27,12 @@ use Rattle.cjc_ncode.specs.PoolOrder.{same_key}
 use Rattle.cjc_components.specs.Components.{method}
 use Rattle.cjc_components.specs.Methods.{bytecode_count, first_method, handler_count, header_of, method_size, placed_at, placed_from, placed_methods}
 use Rattle.cjc_components.specs.Names.{names}
+use Rattle.cjc_components.specs.Limits.{widest_method}
 use Rattle.cjc_components.specs.Package.{LaidMethod, Package, pool}
 use Rattle.cjc_fit_laws.specs.Premises.{IsLimited, MethodIsShort}
-use Rattle.cjc_fit_laws.proofs.Limits.{entries_few}
+use Rattle.cjc_fit_laws.proofs.Limits.{entries_few, method_counted, sizes_kept}
 use Rattle.cjc_fit_laws.proofs.Lists.{all_of}
-use Rattle.cjc_fit_laws.proofs.Offsets.{code_few, methods_short}
+use Rattle.cjc_fit_laws.proofs.Offsets.{code_few, methods_short, widest_short}
 use Rattle.cjc_fit_laws.proofs.Refs.{all_both}
 
 -- ---- no instruction has more bytes than its size
@@ -147,6 +148,15 @@ module _ (p : Package) where
       let a = length-append here (all_handlers (names p) (placed_from (at + method_size m) ms)) in
       omega (arith, l, one, rest, a)
 
+-- all of Method, where it is short at the widest, whether or not another component is too large
+pub widest_low : (p : Package) → length (pool p) ≤ 16383 → ((k : ℕ) (m : LaidMethod) → slice_get p.methods k ≡ Some m → MethodIsShort m) → widest_method p ≤ 65535 → length (method_bytes (method p)) ≤ 65535
+widest_low p few each all =
+    let long = method_length (method p) in
+    let same = handlers_many p (first_method p.methods) p.methods in
+    let bytes = bytes_short p few (first_method p.methods) p.methods (all_of MethodIsShort p.methods each) in
+    let room = widest_short p each all in
+    omega (arith, long, same, bytes, room)
+
 module _ (p : Package) (h : IsLimited p) where
   all_short : AllByRecursion MethodIsShort p.methods
   all_short = all_of MethodIsShort p.methods h.methods
@@ -157,11 +167,5 @@ module _ (p : Package) (h : IsLimited p) where
     handlers = handlers_fit p (entries_few p h.limits) (first_method p.methods) p.methods all_short (methods_short p h);
   }
 
-  -- all of Method
   pub method_low : length (method_bytes (method p)) ≤ 65535
-  method_low =
-      let long = method_length (method p) in
-      let same = handlers_many p (first_method p.methods) p.methods in
-      let bytes = bytes_short p (entries_few p h.limits) (first_method p.methods) p.methods all_short in
-      let room = methods_short p h in
-      omega (arith, long, same, bytes, room)
+  method_low = widest_low p (entries_few p h.limits) h.methods (method_counted p (sizes_kept p h.limits))

@@ -1,6 +1,6 @@
 -- Offsets of cells and of methods, by what stands before them.
-use Rattle.std.proofs.Common.{◌≡◌, ℕ, ◌+◌, ◌*◌, ◌^◌, ◌<◌, ◌≤◌, ◌==◌, Bool, true, false, List, [], ◌∷◌, map, length, length-append, arith}
-use Rattle.std.specs.Prelude.{sum_by, flat_map, if◌then◌else◌}
+use Rattle.std.proofs.Common.{◌≡◌, ℕ, ◌+◌, ◌*◌, ◌^◌, ◌<◌, ◌≤◌, ◌==◌, Bool, true, false, List, [], ◌∷◌, map, length, length-append, arith, Some}
+use Rattle.std.specs.Prelude.{sum_by, flat_map, slice_get, if◌then◌else◌}
 use Rattle.std.specs.List.{AllByRecursion}
 use Rattle.std.proofs.lemmas.List.Sums.{sum_by-cons}
 use Rattle.cjc_bytes.specs.declared.fault.MemberId.{MemberId}
@@ -15,6 +15,7 @@ use Rattle.cjc_ncode.specs.PoolOrder.{same_member}
 use Rattle.cjc_lower.specs.Placed.{short_header, extended_header}
 use Rattle.cjc_emit.specs.Emitted.{is_short}
 use Rattle.cjc_layout.proofs.Places.{all_wide}
+use Rattle.cjc_components.specs.Limits.{widest_method}
 use Rattle.cjc_components.specs.Package.{LaidMethod, Package, world}
 use Rattle.cjc_components.specs.Class.{fields_of}
 use Rattle.cjc_components.specs.Descriptor.{class_descriptor, descriptor, fields_from}
@@ -120,12 +121,13 @@ extent_within at k (m ∷ ms) f =
         let j = rest.first_handler in
         record { offset = omega (arith, b, o); bytecode_count = omega (arith, b, n); handler_count = omega (arith, c, g); first_handler = omega (arith, c, j) }
 
+-- as many bytes as Method has at the widest
+pub widest_short : (p : Package) → ((k : ℕ) (m : LaidMethod) → slice_get p.methods k ≡ Some m → MethodIsShort m) → widest_method p ≤ 65535 → first_method p.methods + sum_by method_size p.methods ≤ 65535
+widest_short p each all = let few = methods_few p.methods (all_of MethodIsShort p.methods each) in omega (arith, few, all)
+
 module _ (p : Package) (h : IsLimited p) where
   pub methods_short : first_method p.methods + sum_by method_size p.methods ≤ 65535
-  methods_short =
-      let few = methods_few p.methods (all_of MethodIsShort p.methods h.methods) in
-      let all = method_counted p (sizes_kept p h.limits) in
-      omega (arith, few, all)
+  methods_short = widest_short p h.methods (method_counted p (sizes_kept p h.limits))
 
   pub extent_low : (f : Found) → IsWithin 65535 255 (extent_of p f)
   extent_low f =

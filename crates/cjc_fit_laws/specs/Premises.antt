@@ -1,5 +1,5 @@
 -- What of a package its components rest on so that they fit: what its list and its files keep by their formats, and the rules that it does not break.
-use Rattle.std.specs.Prelude.{◌≡◌, ◌≤◌, ℕ, [], length, slice_get, sum_by, filter, Some, if◌then◌else◌}
+use Rattle.std.specs.Prelude.{◌≡◌, ◌≤◌, ℕ, [], false, length, slice_get, sum_by, filter, Some, if◌then◌else◌}
 use Rattle.std.specs.List.{AllByRecursion}
 use Rattle.cjc_bytes.specs.AccessFlags.{is_interface}
 use Rattle.cjc_bytes.specs.declared.settings.AppletLine.{AppletLine}
@@ -33,11 +33,11 @@ pub record ListIsShort (list : ListTree) : Type 0 where
 
 -- ---- classes
 
--- 403, and tables and maps of at most 255 entries: 413 keeps tokens low
+-- 403, and tables and maps of at most 255 entries: 413 keeps tokens low. No table is written for an interface.
 pub record ClassIsSmall (p : Package) (c : Class) : Type 0 where
   pub interfaces : length (interfaces_of (world p) c) ≤ (if is_interface c.flags then 14 else 15)
-  pub public : (let t = table_of (world p) c in length t.public ≤ 255)
-  pub «package» : (let t = table_of (world p) c in length t.«package» ≤ 255)
+  pub public : is_interface c.flags ≡ false → (let t = table_of (world p) c in length t.public ≤ 255)
+  pub «package» : is_interface c.flags ≡ false → (let t = table_of (world p) c in length t.«package» ≤ 255)
   pub maps : (let t = table_of (world p) c in AllByRecursion (λ (m : InterfaceMap). length m.index ≤ 255) t.maps)
 
 -- 413 of the static fields, static methods and constructors that Export lists

@@ -285,6 +285,11 @@ module _ (w : List Class) (i : Bool) where
               let less = left-less i placed w d at.0 d_waits in
               behind (more d (omega (arith, less, le)) (waits-by i (placed ++ d.number ∷ []) c p.0 p.1 (out-more placed d.number c.number p.2 g)))
 
+  -- with none placed, each class of the kind is lined up
+  pub all-lined : (c : Class) → ((x : List ℕ) → Settles w (suc (length w)) x) → ((c d : Class) → Has c w → Has d w → c.is_imported ≡ false → d.is_imported ≡ false → c.number ≡ d.number → c ≡ d)
+      → class_named w c.name ≡ Some c → Has c w → c.is_imported ≡ false → is_of_kind i c ≡ true → Has c (lined_up w i (length w) [])
+  all-lined c settles one_of named h e f = lined-has (length w) [] c settles one_of named h (left-most i [] w) (waits-by i [] c e f refl)
+
 -- a superclass of the package stands before its subclass
 before_sub : (w : List Class) (i : Bool) → ((c d : Class) → Has c w → Has d w → c.is_imported ≡ false → d.is_imported ≡ false → c.number ≡ d.number → c ≡ d)
     → (n : ℕ) (placed : List ℕ) (k : ℕ) (c : Class) → slice_get (lined_up w i n placed) k ≡ Some c
@@ -367,8 +372,8 @@ module _ (list : List ℕ) (files : Files) (sound : IsSound list files) where
   pub kind-has : (i : Bool) (c : Class) → Has c w → c.is_imported ≡ false → is_of_kind i c ≡ true → Has c (in_order w i)
   unfolding in_order
   kind-has i c h e f =
-      lined-has w i (length w) [] c (λ x. clear_settles w x (λ z way far. unbroken_is_acyclic list files sound.unbroken z far)) (λ a b p q r s t. one_class files sound.classes sound.exports a b p q (r ∙ sym s) t)
-      (own_name list files sound c h) h (left-most i [] w) (waits-by i [] c e f refl)
+      all-lined w i c (λ x. clear_settles w x (λ z way far. unbroken_is_acyclic list files sound.unbroken z far)) (λ a b p q r s t. one_class files sound.classes sound.exports a b p q (r ∙ sym s) t)
+      (own_name list files sound c h) h e f
 
   -- a class of the order is one of the package
   pub order_in : (c : Class) → Has c (class_order w) → Has c w × (c.is_imported ≡ false)

@@ -1,5 +1,5 @@
 mod ByToken
 mod Once
 mod Declared
-mod Emittable
+pub mod Emittable
 mod ClassOrder

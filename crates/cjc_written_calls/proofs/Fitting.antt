@@ -2,6 +2,7 @@
 use Rattle.std.proofs.Common.{◌≡◌, ℕ, ◌<◌, refl, sym, ap, ◌∙◌, arith, Bool, true, false, List, ◌∷◌}
 use Rattle.std.specs.Prelude.{Option, Some, None, unwrap_or, nat_lt, if◌then◌else◌}
 use Rattle.std.proofs.lemmas.Bool.Decides.{nat_tests}
+use Rattle.cjc_bytes.specs.AccessFlags.{is_interface}
 use Rattle.cjc_bytes.specs.declared.fault.MemberId.{MemberId}
 use Rattle.cjc_bytecode.specs.Meanings.{Calls, Special, Static, Virtual}
 use Rattle.cjc_calls_by_token.specs.Selecting.{signature}
@@ -43,8 +44,8 @@ module _ (p : Package) (facts : Facts p) (tokens : KeepsTokens (world p)) where
   abbrev w : List Class
   w = world p
 
-  token_low : (m : MemberId) (d : Class) → class_named w m.class ≡ Some d → d.is_imported ≡ true → virtual_token p m < 128
-  token_low m d known import =
+  token_low : (m : MemberId) (d : Class) → class_named w m.class ≡ Some d → is_interface d.flags ≡ false → d.is_imported ≡ true → virtual_token p m < 128
+  token_low m d known class_here import =
       let line : line_of w m.class ≡ Imported (d ∷ upwards (kin w d.supers)) = ap (line_in w) (kin-known w facts.is_kin facts.one_kin m.class d known) ∙ ap (λ t. if t then Imported (d ∷ upwards (kin w d.supers)) else Declared d (added w d) (line_in w (kin w d.supers))) import in
       let open_one : virtual_token p m ≡ or_zero (token (slots (line_of w m.class)) (signature m)) =
       ap (λ b. if b then with_high_bit (or_zero (token (hidden_slots (line_of w m.class)) (signature m))) else or_zero (token (slots (line_of w m.class)) (signature m))) (ap (λ l. finds_hidden l (signature m)) line) in
@@ -54,10 +55,10 @@ module _ (p : Package) (facts : Facts p) (tokens : KeepsTokens (world p)) where
       by None is e = let z = e ∙ ap or_zero is in omega (arith, z)
       by (Some t) is e =
           let z = e ∙ ap or_zero is in
-          let low = tokens.open_tokens m.class d (signature m) t known is in omega (arith, z, low)
+          let low = tokens m.class d (signature m) t known class_here is in omega (arith, z, low)
 
-  token_means : (m : MemberId) (d : Class) → class_named w m.class ≡ Some d → IsToken (naming p) m
-  token_means m d known = by d.is_imported refl
+  token_means : (m : MemberId) (d : Class) → class_named w m.class ≡ Some d → is_interface d.flags ≡ false → IsToken (naming p) m
+  token_means m d known class_here = by d.is_imported refl
     where
       name : d.name ≡ m.class
       name = name_is w m.class d known
@@ -66,17 +67,17 @@ module _ (p : Package) (facts : Facts p) (tokens : KeepsTokens (world p)) where
       by true import =
           let h = facts.file m.class d known import in
           let at = sym (ap (class_at p) (name_is w m.class d known)) ∙ h.on_card in
-          ap (λ k. token_of k (virtual_token p m)) at ∙ file_taken h.file h.entry.token (virtual_token p m) (token_low m d known import) ∙ ap (λ k. Some (unwrap_or (token_of k (virtual_token p m)) (Open 0))) (sym at)
+          ap (λ k. token_of k (virtual_token p m)) at ∙ file_taken h.file h.entry.token (virtual_token p m) (token_low m d known class_here import) ∙ ap (λ k. Some (unwrap_or (token_of k (virtual_token p m)) (Open 0))) (sym at)
       by false own =
           let h = facts.own m.class d known own in
           let at = sym (ap (class_at p) (name_is w m.class d known)) ∙ h.on_card in
           ap (λ k. token_of k (virtual_token p m)) at ∙ own_taken 0 h.offset (virtual_token p m) ∙ ap (λ k. Some (unwrap_or (token_of k (virtual_token p m)) (Open 0))) (sym at)
 
   pub virtual_fits : (m : MemberId) → IsNamed w (OnObject m) → Fit (naming p) (Calls Virtual) (keys.Virtual m)
-  virtual_fits m (on_object d known class_here plain sought) = calls_virtual (class_meant p facts m.class d known) (token_means m d known)
+  virtual_fits m (on_object d known class_here plain sought) = calls_virtual (class_meant p facts m.class d known) (token_means m d known class_here)
 
   pub super_fits : (m : MemberId) → IsNamed w (OnSuper m) → Fit (naming p) (Calls Special) (keys.Super m)
-  super_fits m (on_super c d super known own class_here supers super_is plain sought alike) = calls_super (class_meant p facts m.class c known) (token_means m c known)
+  super_fits m (on_super c d super known own class_here supers super_is plain sought alike) = calls_super (class_meant p facts m.class c known) (token_means m c known class_here)
 
   pub interface_means : (words : ℕ) (m : MemberId) → IsNamed w (OnInterface words m) → IsClass (naming p) m.class
   interface_means words m (on_interface i k known interface_here plain placed) = class_meant p facts m.class i known

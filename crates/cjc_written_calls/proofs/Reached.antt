@@ -91,7 +91,7 @@ module _ (p : Package) (facts : Facts p) (subtypes : KeepsSubtypes (world p)) (t
   virtual_on m d known class_here plain sought x c e not_interface r h is =
       let s = class_stands p facts x c e not_interface in
       reaching.virtual_calls_reach p.files w n (method_offset p) place begins x s.foot (receiver_says p facts subtypes.climbs kinds x c e not_interface) (agrees x c e not_interface) m d r known class_here plain
-      (token_says p tokens m d known (hidden_own m.class d (signature m) known) sought) h is
+      (token_says p tokens m d known class_here (hidden_own m.class d (signature m) known) sought) h is
 
   -- ---- arrays are receivers as java/lang/Object is
 
@@ -297,8 +297,8 @@ module _ (p : Package) (facts : Facts p) (subtypes : KeepsSubtypes (world p)) (t
 
         open_same : (t : ℕ) → token (slots (line_of w super)) (signature m) ≡ Some t → finds_hidden (line_of w super) (signature m) ≡ false → n.dispatch_token m ≡ n.dispatch_token (of_class super m)
         open_same t is no_hidden =
-            dispatched_shown p tokens m c known (hidden_alike ∙ no_hidden) t (once.inherited (signature m) t is)
-            ∙ sym (dispatched_shown p tokens (of_class super m) d super_is no_hidden t is)
+            dispatched_shown p tokens m c known class_here (hidden_alike ∙ no_hidden) t (once.inherited (signature m) t is)
+            ∙ sym (dispatched_shown p tokens (of_class super m) d super_is super_class no_hidden t is)
 
         by : Rattle.cjc_written_calls.specs.Calls.IsSought w (of_class super m) → n.dispatch_token m ≡ n.dispatch_token (of_class super m)
         by (shown finds no_hidden) =
@@ -323,7 +323,7 @@ module _ (p : Package) (facts : Facts p) (subtypes : KeepsSubtypes (world p)) (t
           first_one = ap first_super known ∙ ap (λ ss. slice_get ss 0) supers;
           tables = card_towers.superclass_above w n (method_offset p) m.class super s.foot c (tables p facts m.class super c known own class_here supers) s.tower (super_fits p facts m.class super c d known own class_here supers super_is s);
           same_token = token_same;
-          token = token_says p tokens (of_class super m) d super_is (hidden_own super d (signature m) super_is) sought;
+          token = token_says p tokens (of_class super m) d super_is super_class (hidden_own super d (signature m) super_is) sought;
           imported = ap (λ y. first_imported (line w y)) itself_there ∙ s.imported;
           itself = itself_there;
           found = λ f h. line_found p facts true m.name m.desc super f h;

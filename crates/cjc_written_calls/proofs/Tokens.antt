@@ -2,6 +2,7 @@
 use Rattle.std.proofs.Common.{◌≡◌, ℕ, ◌+◌, ◌-◌, ◌<◌, ap, ◌∙◌, arith, Bool, true, false, List}
 use Rattle.std.specs.Prelude.{Some, None, unwrap_or, nat_lt, if◌then◌else◌}
 use Rattle.std.proofs.lemmas.Bool.Decides.{nat_tests}
+use Rattle.cjc_bytes.specs.AccessFlags.{is_interface}
 use Rattle.cjc_bytes.specs.declared.fault.MemberId.{MemberId}
 use Rattle.cjc_calls_by_token.specs.Selecting.{SaysToken, got, open_method, package_method, signature}
 use Rattle.cjc_card.specs.Classes.{Class as CardClass, Own, Foreign}
@@ -35,11 +36,11 @@ module _ (p : Package) (tokens : KeepsTokens (world p)) where
   abbrev w : List Class
   w = world p
 
-  pub dispatched_shown : (m : MemberId) (d : Class) → class_named w m.class ≡ Some d → finds_hidden (line_of w m.class) (signature m) ≡ false → (t : ℕ) → token (slots (line_of w m.class)) (signature m) ≡ Some t → (naming p).dispatch_token m ≡ Open t
-  dispatched_shown m d known no_hidden t is =
+  pub dispatched_shown : (m : MemberId) (d : Class) → class_named w m.class ≡ Some d → is_interface d.flags ≡ false → finds_hidden (line_of w m.class) (signature m) ≡ false → (t : ℕ) → token (slots (line_of w m.class)) (signature m) ≡ Some t → (naming p).dispatch_token m ≡ Open t
+  dispatched_shown m d known class_here no_hidden t is =
       ap (λ b. unwrap_or (token_of (class_at p m.class) (if b then with_high_bit (or_zero (token (hidden_slots (line_of w m.class)) (signature m))) else or_zero (token (slots (line_of w m.class)) (signature m)))) (Open 0)) no_hidden
       ∙ ap (λ o. unwrap_or (token_of (class_at p m.class) (or_zero o)) (Open 0)) is
-      ∙ open_token (class_at p m.class) t (tokens.open_tokens m.class d (signature m) t known is)
+      ∙ open_token (class_at p m.class) t (tokens m.class d (signature m) t known class_here is)
 
   pub dispatched_hidden : (m : MemberId) (offset : ℕ) → class_at p m.class ≡ Own 0 offset → finds_hidden (line_of w m.class) (signature m) ≡ true → (t : ℕ) → token (hidden_slots (line_of w m.class)) (signature m) ≡ Some t → (naming p).dispatch_token m ≡ Hidden 0 t
   dispatched_hidden m offset on_card is_hidden t is =
@@ -49,7 +50,7 @@ module _ (p : Package) (tokens : KeepsTokens (world p)) where
       ∙ hidden_token 0 offset t
 
   -- a virtual method that is sought has its token, where the class is of the package if the method is package-visible
-  pub token_says : (m : MemberId) (d : Class) → class_named w m.class ≡ Some d → (finds_hidden (line_of w m.class) (signature m) ≡ true → (offset : ℕ) × (class_at p m.class ≡ Own 0 offset)) → IsSought w m → SaysToken w (naming p) m
-  token_says m d known own (shown finds no_hidden) = open_method finds (λ t is. dispatched_shown m d known no_hidden t is)
-  token_says m d known own (hidden finds) = let at = own finds in package_method finds (λ t is. dispatched_hidden m at.0 at.1 finds t is)
-  token_says m d known own (calls.got t is no_hidden selects) = got t is (dispatched_shown m d known no_hidden t is) selects
+  pub token_says : (m : MemberId) (d : Class) → class_named w m.class ≡ Some d → is_interface d.flags ≡ false → (finds_hidden (line_of w m.class) (signature m) ≡ true → (offset : ℕ) × (class_at p m.class ≡ Own 0 offset)) → IsSought w m → SaysToken w (naming p) m
+  token_says m d known class_here own (shown finds no_hidden) = open_method finds (λ t is. dispatched_shown m d known class_here no_hidden t is)
+  token_says m d known class_here own (hidden finds) = let at = own finds in package_method finds (λ t is. dispatched_hidden m at.0 at.1 finds t is)
+  token_says m d known class_here own (calls.got t is no_hidden selects) = got t is (dispatched_shown m d known class_here no_hidden t is) selects

@@ -172,7 +172,7 @@ module _ (p : Package) (facts : Facts p) (subtypes : KeepsSubtypes (world p)) (t
   virtual_taken m d known class_here plain sought s sig f sel =
       let stands = class_stands p facts m.class d known class_here in
       let calls = agrees p facts subtypes tokens keep kinds at begins m.class d known class_here in
-      ap (card.words_of (loaded p) true) (calls.virtual_call m d f known itself (token_says p tokens m d known (hidden_own p facts subtypes tokens keep kinds at begins m.class d (signature m) known) sought) sel (line_found p facts true m.name m.desc m.class f sel))
+      ap (card.words_of (loaded p) true) (calls.virtual_call m d f known itself (token_says p tokens m d known class_here (hidden_own p facts subtypes tokens keep kinds at begins m.class d (signature m) known) sought) sel (line_found p facts true m.name m.desc m.class f sel))
       ∙ selected_taken m.class m d known class_here plain s sig stands.foot f sel
 
   super_taken : (m : MemberId) (c d : Class) (super : List ℕ) (known : class_named w m.class ≡ Some c) (own : c.is_imported ≡ false) (class_here : is_interface c.flags ≡ false) (supers : c.supers ≡ super ∷ []) (super_is : class_named w super ≡ Some d) (plain : is_initialiser m.name ≡ false)

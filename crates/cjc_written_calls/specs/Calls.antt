@@ -17,7 +17,7 @@ use Rattle.cjc_script.specs.Sorts.{Element, Shape, OfClass, OfNumbers, OfReferen
 use Rattle.cjc_tokens.specs.Lines.{line_of}
 use Rattle.cjc_tokens.specs.Members.{Signature, same, signature_of}
 use Rattle.cjc_tokens.specs.Methods.{interface_methods, interfaces_at}
-use Rattle.cjc_tokens.specs.Slots.{slots, hidden_slots, token}
+use Rattle.cjc_tokens.specs.Slots.{slots, token}
 use Rattle.cjc_vtable.specs.Calls.{finds_hidden, finds_shown, selects_shown}
 use Rattle.cjc_vtable.specs.Laws.{Under, interface_named, selection}
 use Rattle.cjc_world.specs.declared.found.Found.{Found}
@@ -33,10 +33,9 @@ pub record KeepsSubtypes (w : List Class) : Type 0 where
   pub climbs : (x y : List ℕ) (c d : Class) → class_named w x ≡ Some c → is_interface c.flags ≡ false → class_named w y ≡ Some d → is_interface d.flags ≡ false → is_subtype w x y ≡ true → Under w x y
   pub implements : (x y : List ℕ) (c i : Class) → class_named w x ≡ Some c → is_interface c.flags ≡ false → class_named w y ≡ Some i → is_interface i.flags ≡ true → is_subtype w x y ≡ true → interface_named (known (interfaces_at w c)) y ≡ Some i
 
--- Public and package-visible tokens fit seven bits.
-pub record KeepsTokens (w : List Class) : Type 0 where
-  pub open_tokens : (x : List ℕ) (c : Class) (s : Signature) (t : ℕ) → class_named w x ≡ Some c → token (slots (line_of w x)) s ≡ Some t → t < 128
-  pub package_tokens : (x : List ℕ) (c : Class) (s : Signature) (t : ℕ) → class_named w x ≡ Some c → token (hidden_slots (line_of w x)) s ≡ Some t → t < 128
+-- Tokens of the public and protected methods of classes fit seven bits.
+abbrev pub KeepsTokens : List Class → Type 0
+KeepsTokens w = (x : List ℕ) (c : Class) (s : Signature) (t : ℕ) → class_named w x ≡ Some c → is_interface c.flags ≡ false → token (slots (line_of w x)) s ≡ Some t → t < 128
 
 -- What export files say: an initialiser is static, so that it is no virtual method; java/lang/Object is no interface; and an interface has its methods by their places.
 pub record ExportsKeep (p : Package) : Type 0 where

@@ -1,0 +1,11 @@
+pub mod PackageNames
+pub mod Places
+pub mod Files
+pub mod Subtypes
+pub mod Tokens
+pub mod Joining
+pub mod Worlds
+pub mod Shaping
+pub mod Made
+pub mod Ready
+pub mod Ordering
