@@ -1,5 +1,5 @@
 -- What a list keeps by its grammar.
-use Rattle.std.proofs.Common.{◌≡◌, List, [], ◌∷◌, false, subst, sym}
+use Rattle.std.proofs.Common.{◌≡◌, false}
 use Rattle.cjc_judge.specs.Spelt.{IsRead}
 use Rattle.cjc_list.specs.Listed.{ListTree}
 

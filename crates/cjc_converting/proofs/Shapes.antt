@@ -1,8 +1,6 @@
 -- A package that is laid out, by what the code has of it.
 use Rattle.std.proofs.Common.{◌≡◌, ◌∙◌, ℕ, List, length, map, nat_lt, sym, ap, subst}
 use Rattle.cjc_components.specs.Package.{LaidMethod, Package, codes, tokens}
-use Rattle.cjc_components.specs.Package as packages
-use Rattle.cjc_judge.specs.declared.judged.Judged.{Judged}
 use Rattle.cjc_layouts.proofs.Kept.{codes_of}
 use Rattle.cjc_list.specs.Listed.{ListTree}
 use Rattle.cjc_ncode.specs.declared.narrow.NMethod.{NMethod}

@@ -1,5 +1,5 @@
 -- Which rule is answered for a list and its files.
-use Rattle.std.proofs.Common.{◌≡◌, ◌⊎◌, ◌∙◌, ℕ, List, [], refl, sym, ap, subst, inl, inr}
+use Rattle.std.proofs.Common.{◌≡◌, ◌∙◌, ℕ, List, [], refl, sym, ap, subst, inl, inr}
 use Rattle.cjc_bytes.specs.Breaks.{Among, Break, IsFirst, IsFirstRefusal}
 use Rattle.cjc_bytes.specs.Order.{NotAfter}
 use Rattle.cjc_bytes.specs.declared.fault.Fault.{Fault}

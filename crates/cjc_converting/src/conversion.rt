@@ -3,10 +3,10 @@
 ghost use Rattle.std.specs.Prelude.{◌≡◌, ℕ, List as Items, length, IfOk, IfErr};
 ghost use Rattle.cjc_components.specs.Package.{Package};
 ghost use Rattle.cjc_descriptor.specs.Fits.{AreFit};
+ghost use Rattle.cjc_fitting_laws.specs.LaidOut.{AidsAreShort};
 ghost use Rattle.cjc_judge.specs.Spelt.{IsRead, AreFiles};
 ghost use Rattle.cjc_judge_laws.specs.Tested as small;
 ghost use Rattle.cjc_prepared.specs.Prepared.{IsSound};
-ghost use Rattle.cjc_whole.specs.Conversion.{IsPackageOf};
 ghost use Rattle.cjc_whole.specs.Working.Shaped.{IsShaped, Stopped};
 ghost use Rattle.cjc_converting.specs.Made.{AreCaps};
 
@@ -14,6 +14,7 @@ use crate::caps::caps_of;
 use crate::sizes::test_sizes;
 use cjc_bytes::{Bytes, Fault, Row};
 use cjc_capread::CapTree;
+use cjc_fitting_laws::static_images_fit;
 use cjc_judge::{Group, Judged, judge};
 use cjc_list::List;
 use cjc_whole::{Shaped, shape};
@@ -42,10 +43,13 @@ fn caps_within(
 
 /// The components of a package that breaks no rule of its files.
 fn caps_judged(alloc: Global, list: &List, judged: &Judged<'_>) -> Result<CapTree, Fault>
-    requires sound { (files : Items (Items ℕ)) × IsSound list.now files judged.now × ((p : Package) → IsPackageOf list.now files p → AreFit p.image) }
+    requires read { IsRead list.now }
+    requires aids { AidsAreShort list.now }
+    requires sound { (files : Items (Items ℕ)) × IsSound list.now files judged.now }
     ensures made { (files : Items (Items ℕ)) → IsSound list.now files judged.now → IfOk result (AreCaps list.now files) }
     ensures refused { (files : Items (Items ℕ)) → IsSound list.now files judged.now → IfErr result (Stopped list.now files) }
 {
+    static_images_fit();
     let shaped = shape(alloc, list, judged)?;
     caps_within(alloc, list, judged, &shaped)
 }
@@ -58,10 +62,10 @@ fn caps_judged(alloc: Global, list: &List, judged: &Judged<'_>) -> Result<CapTre
 /// 609; where they break none, 417; else 311, 414 or 415; else 411 or 416.
 pub fn components_of_files(alloc: Global, list: &List, files: &Row<Bytes>) -> Result<CapTree, Fault>
     requires read { IsRead list.now }
+    requires aids { AidsAreShort list.now }
     requires count { length files.now ≡ length list.now.lines }
     requires files { AreFiles files.now }
     requires bytes { small.AreFiles files.now }
-    requires images { (p : Package) → IsPackageOf list.now files.now p → AreFit p.image }
     ensures made { IfOk result (AreCaps list.now files.now) }
     ensures refused { IfErr result (Stopped list.now files.now) }
 {

@@ -1,4 +1,4 @@
-use Rattle.std.proofs.Common.{◌≡◌, ◌∙◌, List, ap, map, sym}
+use Rattle.std.proofs.Common.{◌∙◌, List, ap, map, sym}
 use Rattle.cjc_components.specs.Methods.{first_method, placed_from}
 use Rattle.cjc_components.specs.Package.{LaidMethod}
 use Rattle.cjc_ncode.specs.PoolOrder.{pool_order}

@@ -1,4 +1,4 @@
-use Rattle.std.proofs.Common.{◌≡◌, ◌∙◌, ap, length, map, nat_lt, subst, sym}
+use Rattle.std.proofs.Common.{◌∙◌, ap, length, map, nat_lt, subst, sym}
 use Rattle.std.proofs.lemmas.List.{length-map}
 use Rattle.cjc_descriptor.specs.Fits.{AreFit}
 use Rattle.cjc_methods.specs.Ready.{AreOrdered}

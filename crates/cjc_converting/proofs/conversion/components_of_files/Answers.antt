@@ -4,12 +4,12 @@ use Rattle.cjc_converting.proofs.Listed.{no_ints}
 use Rattle.cjc_converting.proofs.Stops.{stopped_by_files}
 use Rattle.cjc_converting.proofs.conversion.components_of_files.Goals as goal
 
-pub caps_judged-requires : goal.caps_judged-requires
-caps_judged-requires c =
+pub caps_judged-requires-clause-sound : goal.caps_judged-requires-clause-sound
+caps_judged-requires-clause-sound c =
     let list = c.args.list.now in
     let files = c.args.files.now in
     let is : IsSound list files c.in_ok-judged.judged = record { judged_by = c.in_ok-judged.ensures.judged; are_files = c.requires.bytes; no_int = no_ints list c.requires.read } in
-    record { sound = (files, is, c.requires.images) }
+    (files, is)
 
 pub returns-in_err-judged-clause-refused : goal.returns-in_err-judged-clause-refused
 returns-in_err-judged-clause-refused c =
