@@ -17,6 +17,8 @@ ghost use Rattle.cjc_written_laws.specs.Converted.{IsConverted};
 ghost use Rattle.cjc_written_laws.specs.Joined.{IsJoined, laid_code};
 ghost use Rattle.cjc_written_sends.specs.Named.{is_called};
 
+use cjc_call_opcodes::calls_have_opcodes;
+use cjc_first_cells::first_cells_are_typed;
 use cjc_named_laws::{export_files_are_kept, names_are_there};
 use cjc_types::State;
 use cjc_vtable::package_laws;
@@ -34,8 +36,9 @@ use cjc_written_sends::{
 /// makes.
 pub fn converted_packages_are_joined()
     ensures { (list : ListTree) (files : List (List ℕ)) (judged : Judged) (p : Package)
-        → IsConverted list files judged p → AreLeft judged p → IsJoined p (is_called p) }
+        → IsConverted list files judged p → AreLeft p → IsJoined p (is_called p) }
 {
+    calls_have_opcodes();
     calls_take_words::<State>();
     converted_classes_keep_rules();
     converted_files_are_sound();
@@ -43,6 +46,7 @@ pub fn converted_packages_are_joined()
     converted_methods_are_in_order();
     converted_methods_are_ready();
     export_files_are_kept();
+    first_cells_are_typed();
     known_objects_receive_calls();
     names_are_there();
     operations_are_known::<State>();
@@ -55,7 +59,7 @@ pub fn converted_packages_are_joined()
 /// instructions where narrow code is not stuck.
 pub fn converted_components_run_by_token()
     ensures { (list : ListTree) (files : List (List ℕ)) (judged : Judged) (p : Package)
-        → IsConverted list files judged p → AreLeft judged p → (script : Script) (n : ℕ)
+        → IsConverted list files judged p → AreLeft p → (script : Script) (n : ℕ)
         → (let report = run_by_label p.files p.image (laid_code p) script n in (at : ℕ) → report.outcome ≢ Stuck at)
         → run_by_token (loaded p) script n ≡ run_by_label p.files p.image (laid_code p) script n }
 {

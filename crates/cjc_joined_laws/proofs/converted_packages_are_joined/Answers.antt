@@ -13,7 +13,7 @@ returns c = λ list files judged p is left.
     let tokens = rules.tokens list files judged p is in
     let methods = c.converted_methods_are_in_order.ensures list files judged p is in
     let small = c.converted_methods_are_consistent.ensures.small list files judged p is in
-    let there = c.names_are_there.ensures.all list files judged p is left.opcodes left.catches in
+    let there = c.names_are_there.ensures.all list files judged p is (c.calls_have_opcodes.ensures list files judged is.sound) left.catches in
     let ready = c.converted_methods_are_ready.ensures list files judged p is there in
     let exports = c.export_files_are_kept.ensures list files judged p is in
     let kept = is_kept list files judged p is (λ l fs none fine. c.package_laws.ensures.unbroken l fs judged.codes (settings_of list) none fine) in
@@ -24,7 +24,7 @@ returns c = λ list files judged p is left.
     record {
       there = there;
       exports = exports;
-      cells = left.cells;
+      cells = c.first_cells_are_typed.ensures.converted list files judged p is;
       operations = λ m k insn among at. c.operations_are_known.ensures.known list codes laid.rows p laid.is_package left.names m k insn among at;
       calls = λ m known. c.operations_are_known.ensures.calls p left.calls m known;
       takes = λ m k known words. c.calls_take_words.ensures list.name list codes laid.rows p sound laid.is_package ready small keeps subtypes tokens exports m (c.operations_are_known.ensures.calls p left.calls m known) (c.operations_are_known.ensures.words p left.calls m known) k words;
