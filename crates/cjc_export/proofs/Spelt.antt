@@ -349,8 +349,7 @@ module _ (pool : List Entry) (mine : ℕ) where
       token_same count before n token e = cond_same _ n token e
 
       special_same : (b name : List ℕ) → not_special b ≡ Some name → b ≡ name
-      special_same [] name e = cc
-      special_same (x ∷ xs) name e = cond_other _ (x ∷ xs) name e
+      special_same b name e = cond_other _ b name e
 
       interface_method_read : (count : ℕ) (before : List ExportMethod) (at : ℕ) (m : ExportMethod) (bytes : List ℕ) → InBytes bytes → Spells (interface_method pool count before) at m bytes → MethodRead true count before (length bytes) m
       unfolding interface_method interface_name_at

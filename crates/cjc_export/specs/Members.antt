@@ -150,10 +150,13 @@ abbrev pub interface_token : ℕ → List ExportMethod → ℕ → Option ℕ
 interface_token count so_far token =
     if nat_lt token count && not (interface_token_taken so_far token) then Some token else None
 
--- a name, but no <init> and no <clinit>, nor another name that begins so
+-- <init> and <clinit>, which no class that has an interface has a token for
+abbrev pub is_special : List ℕ → Bool
+is_special name = bytes_eq name (codes "<init>") || bytes_eq name (codes "<clinit>")
+
+-- any other name
 abbrev pub not_special : List ℕ → Option (List ℕ)
-not_special [] = Some []
-not_special (b ∷ bs) = if b == 60 then None else Some (b ∷ bs)
+not_special name = if is_special name then None else Some name
 
 unfoldable pub interface_name_at : List Entry → ℕ → Option (List ℕ)
 interface_name_at pool i = option_and_then not_special (text_at pool i)

@@ -6,7 +6,7 @@ ghost use Rattle.cjc_bytes.specs.Format.{iterated};
 ghost use Rattle.cjc_bytes.specs.Found.{Finds};
 ghost use Rattle.cjc_bytes.specs.Reading.{Reads};
 ghost use Rattle.cjc_export.specs.Words.{broken_where};
-ghost use Rattle.cjc_export.specs.Members.{grown, text_field, class_field, same_bool, as_desc, desc_at, desc_field, is_constant_type, may_be_constant, constant_name_at, integer_at, attribute_content, attribute, field_token_taken, no_token, where_constant, field, is_unbound, method_token_taken, method_token_wrong, class_method, interface_token_taken, interface_token, interface_name_at, interface_method, method};
+ghost use Rattle.cjc_export.specs.Members.{grown, text_field, class_field, same_bool, as_desc, desc_at, desc_field, is_constant_type, may_be_constant, constant_name_at, integer_at, attribute_content, attribute, field_token_taken, no_token, where_constant, field, is_unbound, method_token_taken, method_token_wrong, class_method, interface_token_taken, interface_token, is_special, interface_name_at, interface_method, method};
 
 use crate::pool::{Entry, Kind, class_name_at, text_at};
 use crate::tree::{ExportField, ExportMethod};
@@ -307,15 +307,19 @@ fn interface_token(count: u16, so_far: &[ExportMethod], token: u8) -> Option<u8>
     }
 }
 
+/// No class that has an interface has a token for a method of such a name.
+fn is_special(name: &[u8]) -> bool
+    ensures { result ≡ is_special name.now }
+{
+    name == b"<init>".as_slice() || name == b"<clinit>".as_slice()
+}
+
 #[tactic(auto, unfolding(crate::specs::Members::interface_name_at))]
 fn interface_name_at<'a>(pool: &[Entry<'a>], index: u16) -> Option<&'a [u8]>
     ensures { option_copied result ≡ interface_name_at pool.now index }
 {
     let name = text_at(pool, index)?;
-    match name {
-        [b'<', ..] => None,
-        _ => Some(name),
-    }
+    if is_special(name) { None } else { Some(name) }
 }
 
 #[tactic(auto, unfolding(crate::specs::Members::interface_method, cjc_bytes::specs::Format::u2))]
