@@ -1,6 +1,5 @@
 pub mod Listing
 pub mod Standing
-pub mod OwnTokens
 pub mod Promising
 pub mod OneStatus
 pub mod Tested

@@ -2,7 +2,7 @@
 use Rattle.std.proofs.Common.{ℕ, List}
 use Rattle.cjc_list.specs.Listed.{ListTree}
 use Rattle.cjc_command.proofs.OneAnswer.{IsOneAnswer}
-use Rattle.cjc_convert.proofs.OneAnswer.{one_refusal, not_refused}
+use Rattle.cjc_conversion.proofs.OneAnswer.{one_refusal, not_refused}
 use Rattle.cjc_checking.proofs.OneAnswer.{one_refusal as one_broken, never_both}
 use Rattle.cjc_checking.specs.Check.{Checks}
 use Rattle.cjc_folder.specs.declared.folder.Folder.{Folder}

@@ -1,5 +1,6 @@
 -- A conversion that is done keeps its promise.
-use Rattle.std.proofs.Common.{◌≡◌, inl, inr, ℕ, Bool, true, false, cond, List, [], ◌∷◌, ◌++◌, length, map, nat_lt, Option, Some, None, IfSome, IsSomeAnd, Result, Ok, Err, refl, sym, ap, subst, ◌∙◌}
+use Rattle.std.proofs.Common.{◌≡◌, inl, inr, ℕ, Bool, true, false, cond, List, [], ◌∷◌, ◌++◌, length, map, nat_lt, Option, Some, None, IfSome, IsSomeAnd, Result, Ok, Err, refl, sym, ap, subst, ◌∙◌, ◌<◌, arith}
+use Rattle.std.proofs.lemmas.Bool.Decides.{nat_tests}
 use Rattle.std.proofs.lemmas.List.{append-nil, append_assoc}
 use Rattle.std.specs.FinMap.{get}
 use Rattle.cjc_bytes.specs.Format.{FileSpells}
@@ -10,17 +11,14 @@ use Rattle.cjc_shelf.specs.Sink.{Sunk}
 use Rattle.cjc_list.specs.Listed.{ListTree, listed}
 use Rattle.cjc_classfile.specs.ClassFile.{class_file}
 use Rattle.cjc_classfile.specs.declared.tree.ClassTree.{ClassTree}
-use Rattle.cjc_bytes.proofs.Laws.{one_value}
-use Rattle.cjc_convert.specs.Conversion.{IsPair}
-use Rattle.cjc_first.specs.Above.{IsRoot}
-use Rattle.cjc_first.specs.Converted.{converted}
-use Rattle.cjc_first.specs.FirstForm.{PackageLine, IsFirstForm, line_of}
-use Rattle.cjc_first.proofs.BehavesAlike.{form_behaves_alike}
-use Rattle.cjc_first.proofs.Consistency.{form_is_consistent}
-use Rattle.cjc_first.specs.Sentences.Consistent.{Consistent}
+use Rattle.cjc_alike.proofs.Alike.{behaves_alike, is_consistent}
+use Rattle.cjc_alike.specs.Alike.{BehaveAlike}
+use Rattle.cjc_alike.specs.Fair.{ExportsAreFair}
+use Rattle.cjc_components.specs.Components.{components_of}
+use Rattle.cjc_judge.specs.Rules.{files_spelt}
+use Rattle.cjc_judge.specs.Spelt.{FileTree, SpellTrees, classes_of, exports_of, of_class, of_export}
+use Rattle.cjc_world.specs.Files.{Files as World}
 use Rattle.cjc_export.specs.ExportFile.{export_file}
-use Rattle.cjc_export.specs.Tokens.{HaveOwnTokens}
-use Rattle.cjc_export.specs.declared.tree.ExportClass.{ExportClass}
 use Rattle.cjc_export.specs.declared.tree.ExportTree.{ExportTree}
 use Rattle.cjc_command.specs.Plan.{◌>>=◌, has, Verdict, at_file, verdict, for_each, read_behind, read_each, unless_refused, absent, too_long, refused, complete}
 use Rattle.cjc_command.proofs.Gathering.{verdict-then, on_complete}
@@ -38,7 +36,7 @@ use Rattle.cjc_run.specs.Promise.{SpellStep, SpellClasses, ExportStep, SpellExpo
 use Rattle.cjc_run.proofs.Standing.{stand_made}
 use Rattle.cjc_run.proofs.Ran.{keeps_run}
 use Rattle.cjc_run.proofs.Tested.{keeps_tested}
-use Rattle.cjc_run.proofs.OwnTokens.{exports_own}
+use Rattle.cjc_run.proofs.Listing.{is_read}
 
 -- ---- what was read
 
@@ -85,6 +83,7 @@ files_got files list x e =
 pub record IsGot (files : Files) (name : List ℕ) (x : ListTree × List (List ℕ)) : Type 0 where
   pub text : List ℕ
   pub text_is : get files name ≡ Some text
+  pub short : length text < 4294967296
   pub listed_is : listed name text ≡ Ok x.0
   pub all : AllGot files (names_of x.0) x.1
 
@@ -96,103 +95,63 @@ list_got files (Ok list) x e =
     let same : list ≡ x.0 = sym (ap (λ (y : ListTree × List (List ℕ)). y.0) got.0) in
     (ap (λ (l : ListTree). Ok l) same, subst (λ (l : ListTree). AllGot files (names_of l) x.1) same got.1)
 
+-- a file that is not too long has a length of four bytes
+got_short : {X : Type 0} (name : List ℕ) (next : List ℕ → Verdict X) (bytes : List ℕ) (x : X) → at_file name next (Some bytes) ≡ complete x → length bytes < 4294967296
+got_short {X} name next bytes x e = by (nat_lt longest_file (length bytes)) refl e
+  where
+    by : (b : Bool) → nat_lt longest_file (length bytes) ≡ b → cond b (too_long name) (next bytes) ≡ complete x → length bytes < 4294967296
+    by true is h = absurd cc
+    by false is h = grind (arith, nat_tests)
+
 pub convert_got : (files : Files) (name : List ℕ) (x : ListTree × List (List ℕ)) → verdict files (plan_of_convert name) ≡ complete x → IsGot files name x
 convert_got files name x e =
     let got = at_got name (λ text. verdict files (plan_of_list name text)) (get files name) x e in
     let list = list_got files (listed name got.0) x got.2 in
-    record { text = got.0; text_is = got.1; listed_is = list.0; all = list.1 }
+    let short = got_short name (λ text. verdict files (plan_of_list name text)) got.0 x (subst (λ (o : Option (List ℕ)). at_file name (λ text. verdict files (plan_of_list name text)) o ≡ complete x) got.1 e) in
+    record { text = got.0; text_is = got.1; short = short; listed_is = list.0; all = list.1 }
 
--- ---- the class files
+-- ---- what the files spell
 
-spell_class : (c : Bool) (o : Option (List ℕ)) (bytes : List ℕ) (rest : List ClassTree → Type 0) (tree : ClassTree) (trees : List ClassTree) → c ≡ true → o ≡ Some bytes
+step_class : (c : Bool) (o : Option (List ℕ)) (bytes : List ℕ) (rest : List ClassTree → Type 0) (tree : ClassTree) (trees : List ClassTree) → c ≡ true → o ≡ Some bytes
     → FileSpells class_file tree bytes → rest trees → SpellStep c o rest (tree ∷ trees)
-spell_class true (Some b) bytes rest tree trees c o f r = (subst (FileSpells class_file tree) (let e = o in cc) f, r)
-spell_class true None bytes rest tree trees c o f r = absurd cc
-spell_class false o bytes rest tree trees c e f r = absurd cc
+step_class true (Some b) bytes rest tree trees c o f r = (subst (FileSpells class_file tree) (let e = o in cc) f, r)
+step_class true None bytes rest tree trees c o f r = absurd cc
+step_class false o bytes rest tree trees c e f r = absurd cc
 
-spell_other : (c : Bool) (o : Option (List ℕ)) (rest : List ClassTree → Type 0) (trees : List ClassTree) → c ≡ false → rest trees → SpellStep c o rest trees
-spell_other true o rest trees c r = absurd cc
-spell_other false o rest trees c r = r
+no_class : (c : Bool) (o : Option (List ℕ)) (rest : List ClassTree → Type 0) (trees : List ClassTree) → c ≡ false → rest trees → SpellStep c o rest trees
+no_class true o rest trees c r = absurd cc
+no_class false o rest trees c r = r
 
-classes_spelt : (files : Files) (lines : List FileLine) (all : List (List ℕ)) (bytes export : List ℕ) (tree : ClassTree) → IsPair lines all bytes export
-    → AllGot files (map (λ line. line.name) lines) all → FileSpells class_file tree bytes → SpellClasses files lines (tree ∷ [])
-classes_spelt files lines all bytes export tree (a, b, l, choice) got f = subst (λ (ls : List FileLine). SpellClasses files ls (tree ∷ [])) (sym l) (elim choice [
-  | inl (ca, cb, is) ↦ (
-      let here = subst (λ (ls : List FileLine). AllGot files (map (λ line. line.name) ls) all) l got in
-      let both = subst (λ (fs : List (List ℕ)). AllGot files (a.name ∷ b.name ∷ []) fs) is here in
-      spell_class a.class_file (get files a.name) bytes (SpellClasses files (b ∷ [])) tree [] ca both.0 f
-      (spell_other b.class_file (get files b.name) (SpellClasses files []) [] cb refl))
-  | inr (ca, cb, is) ↦ (
-      let here = subst (λ (ls : List FileLine). AllGot files (map (λ line. line.name) ls) all) l got in
-      let both = subst (λ (fs : List (List ℕ)). AllGot files (a.name ∷ b.name ∷ []) fs) is here in
-      spell_other a.class_file (get files a.name) (SpellClasses files (b ∷ [])) (tree ∷ []) ca
-      (spell_class b.class_file (get files b.name) bytes (SpellClasses files []) tree [] cb both.1.0 f refl))
-])
-
--- ---- the export file
-
-export_spelt : (c : Bool) (o : Option (List ℕ)) (bytes : List ℕ) (rest : List ExportTree → Type 0) (tree : ExportTree) (trees : List ExportTree) → c ≡ false → o ≡ Some bytes
+step_export : (c : Bool) (o : Option (List ℕ)) (bytes : List ℕ) (rest : List ExportTree → Type 0) (tree : ExportTree) (trees : List ExportTree) → c ≡ false → o ≡ Some bytes
     → FileSpells export_file tree bytes → rest trees → ExportStep c o rest (tree ∷ trees)
-export_spelt false (Some b) bytes rest tree trees c o f r = (subst (FileSpells export_file tree) (let e = o in cc) f, r)
-export_spelt false None bytes rest tree trees c o f r = absurd cc
-export_spelt true o bytes rest tree trees c e f r = absurd cc
+step_export false (Some b) bytes rest tree trees c o f r = (subst (FileSpells export_file tree) (let e = o in cc) f, r)
+step_export false None bytes rest tree trees c o f r = absurd cc
+step_export true o bytes rest tree trees c e f r = absurd cc
 
-export_other : (c : Bool) (o : Option (List ℕ)) (rest : List ExportTree → Type 0) (trees : List ExportTree) → c ≡ true → rest trees → ExportStep c o rest trees
-export_other true o rest trees c r = r
-export_other false o rest trees c r = absurd cc
+no_export : (c : Bool) (o : Option (List ℕ)) (rest : List ExportTree → Type 0) (trees : List ExportTree) → c ≡ true → rest trees → ExportStep c o rest trees
+no_export true o rest trees c r = r
+no_export false o rest trees c r = absurd cc
 
-exports_spelt : (files : Files) (lines : List FileLine) (all : List (List ℕ)) (bytes export : List ℕ) (tree : ExportTree) → IsPair lines all bytes export
-    → AllGot files (map (λ line. line.name) lines) all → FileSpells export_file tree export → SpellExports files lines (tree ∷ [])
-exports_spelt files lines all bytes export tree (a, b, l, choice) got f = subst (λ (ls : List FileLine). SpellExports files ls (tree ∷ [])) (sym l) (elim choice [
-  | inl (ca, cb, is) ↦ (
-      let here = subst (λ (ls : List FileLine). AllGot files (map (λ line. line.name) ls) all) l got in
-      let both = subst (λ (fs : List (List ℕ)). AllGot files (a.name ∷ b.name ∷ []) fs) is here in
-      export_other a.class_file (get files a.name) (SpellExports files (b ∷ [])) (tree ∷ []) ca
-      (export_spelt b.class_file (get files b.name) export (SpellExports files []) tree [] cb both.1.0 f refl))
-  | inr (ca, cb, is) ↦ (
-      let here = subst (λ (ls : List FileLine). AllGot files (map (λ line. line.name) ls) all) l got in
-      let both = subst (λ (fs : List (List ℕ)). AllGot files (a.name ∷ b.name ∷ []) fs) is here in
-      export_spelt a.class_file (get files a.name) export (SpellExports files (b ∷ [])) tree [] ca both.0 f
-      (export_other b.class_file (get files b.name) (SpellExports files []) [] cb refl))
-])
+-- the files that were read are those of the shelf
+classes_spelt : (files : Files) (lines : List FileLine) (all : List (List ℕ)) (trees : List FileTree) → AllGot files (map (λ line. line.name) lines) all
+    → SpellTrees lines all trees → SpellClasses files lines (classes_of trees)
+classes_spelt files [] all trees got (none, no_trees) = ap classes_of no_trees
+classes_spelt files (line ∷ lines) [] trees got s = absurd s
+classes_spelt files (line ∷ lines) (bytes ∷ all) [] got s = absurd s
+classes_spelt files (line ∷ lines) (bytes ∷ all) (of_class tree ∷ trees) (here, more) ((is, f), s) =
+    step_class line.class_file (get files line.name) bytes (SpellClasses files lines) tree (classes_of trees) is here f (classes_spelt files lines all trees more s)
+classes_spelt files (line ∷ lines) (bytes ∷ all) (of_export tree ∷ trees) (here, more) ((is, f), s) =
+    no_class line.class_file (get files line.name) (SpellClasses files lines) (classes_of trees) is (classes_spelt files lines all trees more s)
 
--- The trees are one, which the bytes spell.
-abbrev pub IsOne : List ℕ → List ExportTree → Type 0
-IsOne bytes trees = (tree : ExportTree) × (trees ≡ tree ∷ []) × FileSpells export_file tree bytes
-
-one_spelt : (c : Bool) (o : Option (List ℕ)) (bytes : List ℕ) (rest : List ExportTree → Type 0) (trees : List ExportTree) → c ≡ false → o ≡ Some bytes
-    → ((ts : List ExportTree) → rest ts → ts ≡ []) → ExportStep c o rest trees → IsOne bytes trees
-one_spelt true o bytes rest trees c e none s = absurd cc
-one_spelt false o bytes rest [] c e none s = absurd s
-one_spelt false None bytes rest (tree ∷ trees) c e none s = absurd s.0
-one_spelt false (Some b) bytes rest (tree ∷ trees) c e none s =
-    (tree, ap (λ (ts : List ExportTree). tree ∷ ts) (none trees s.1), subst (FileSpells export_file tree) (let f = e in cc) s.0)
-
-other_spelt : (c : Bool) (o : Option (List ℕ)) (rest : List ExportTree → Type 0) (trees : List ExportTree) → c ≡ true → ExportStep c o rest trees → rest trees
-other_spelt true o rest trees c s = s
-other_spelt false o rest trees c s = absurd cc
-
-export_alone : (files : Files) (lines : List FileLine) (all : List (List ℕ)) (bytes export : List ℕ) (trees : List ExportTree) → IsPair lines all bytes export
-    → AllGot files (map (λ line. line.name) lines) all → SpellExports files lines trees → IsOne export trees
-export_alone files lines all bytes export trees (a, b, l, choice) got s =
-    let here = subst (λ (ls : List FileLine). AllGot files (map (λ line. line.name) ls) all) l got in
-    let spelt = subst (λ (ls : List FileLine). SpellExports files ls trees) l s in
-    elim choice [
-      | inl (ca, cb, is) ↦ (
-          let both = subst (λ (fs : List (List ℕ)). AllGot files (a.name ∷ b.name ∷ []) fs) is here in
-          one_spelt b.class_file (get files b.name) export (SpellExports files []) trees cb both.1.0 (λ ts e. e)
-          (other_spelt a.class_file (get files a.name) (SpellExports files (b ∷ [])) trees ca spelt))
-      | inr (ca, cb, is) ↦ (
-          let both = subst (λ (fs : List (List ℕ)). AllGot files (a.name ∷ b.name ∷ []) fs) is here in
-          one_spelt a.class_file (get files a.name) export (SpellExports files (b ∷ [])) trees ca both.0
-          (λ ts r. other_spelt b.class_file (get files b.name) (SpellExports files []) ts cb r) spelt)
-    ]
-
-consistent_with : (line : PackageLine) (tree : ClassTree) (form : IsFirstForm line tree) (lang : ExportTree) (root : ExportClass) (bytes : List ℕ) → IsRoot lang root → FileSpells export_file lang bytes
-    → (exports : List ExportTree) → HaveOwnTokens exports → IsOne bytes exports → Consistent (converted line lang root tree form) exports
-consistent_with line tree form lang root bytes is_root spelt exports own (other, is, other_spelt) =
-    let same : exports ≡ lang ∷ [] = is ∙ ap (λ (t : ExportTree). t ∷ []) (one_value export_file bytes other lang other_spelt spelt) in
-    subst (Consistent (converted line lang root tree form)) (sym same) (form_is_consistent line tree form lang root is_root (subst (λ (ts : List ExportTree). HaveOwnTokens ts) same own))
+exports_spelt : (files : Files) (lines : List FileLine) (all : List (List ℕ)) (trees : List FileTree) → AllGot files (map (λ line. line.name) lines) all
+    → SpellTrees lines all trees → SpellExports files lines (exports_of trees)
+exports_spelt files [] all trees got (none, no_trees) = ap exports_of no_trees
+exports_spelt files (line ∷ lines) [] trees got s = absurd s
+exports_spelt files (line ∷ lines) (bytes ∷ all) [] got s = absurd s
+exports_spelt files (line ∷ lines) (bytes ∷ all) (of_class tree ∷ trees) (here, more) ((is, f), s) =
+    no_export line.class_file (get files line.name) (SpellExports files lines) (exports_of trees) is (exports_spelt files lines all trees more s)
+exports_spelt files (line ∷ lines) (bytes ∷ all) (of_export tree ∷ trees) (here, more) ((is, f), s) =
+    step_export line.class_file (get files line.name) bytes (SpellExports files lines) tree (exports_of trees) is here f (exports_spelt files lines all trees more s)
 
 -- ---- the whole
 
@@ -203,26 +162,28 @@ keeps name dir files new todo ready written =
     let got = convert_got files name x ready.read in
     let made = ready.made.0 in
     let is = ready.made.1 in
+    let trees = is.is_package.spelt.trees in
+    let spell = is.is_package.spelt.is_world.0 in
+    let world : is.whole.files ≡ files_spelt x.0 trees = is.is_package.spelt.world_is in
+    let list = listed_spelt name got.text x.0 got.listed_is in
     let all : List File = map (below dir) (files_made x.0.package made) in
     let after : written_files todo.files files ≡ written_files all files = ap (λ (t : Todo). written_files t.files files) ready.made.2 in
     subst (λ (o : Option Files). IsSomeAnd o (Converts name dir files)) (sym written) (record {
       text = got.text;
       list = x.0;
-      classes = is.tree ∷ [];
+      classes = classes_of trees;
+      exports = exports_of trees;
       made = made;
-      cap = converted (line_of x.0) is.lang is.root is.tree is.form.form;
+      cap = components_of is.whole;
       text_is = got.text_is;
-      list_is = listed_spelt name got.text x.0 got.listed_is;
-      class_files = classes_spelt files x.0.lines x.1 is.form.class is.form.export is.tree is.form.pair got.all is.form.spelt;
-      exports = is.lang ∷ [];
-      export_files = exports_spelt files x.0.lines x.1 is.form.class is.form.export is.lang is.form.pair got.all is.form.lang_spelt;
+      list_is = list;
+      class_files = classes_spelt files x.0.lines x.1 trees got.all spell;
+      export_files = exports_spelt files x.0.lines x.1 trees got.all spell;
       stand = subst (λ (fs : Files). Stand fs all) (sym after) (stand_made dir x.0.package files made);
-      spelt = is.is_made.spelt;
-      alike = λ exports spelt. form_behaves_alike (line_of x.0) is.tree is.form.form is.lang is.root exports (exports_own files x.0.lines exports spelt);
-      consistent = λ exports spelt.
-          consistent_with (line_of x.0) is.tree is.form.form is.lang is.root is.form.export is.form.is_root is.form.lang_spelt exports (exports_own files x.0.lines exports spelt)
-          (export_alone files x.0.lines x.1 is.form.class is.form.export exports is.form.pair got.all spelt);
-      alike_beyond = λ exports own. form_behaves_alike (line_of x.0) is.tree is.form.form is.lang is.root exports own;
+      spelt = is.caps_spelt;
+      consistent = λ fair. is_consistent x.0 x.1 is.judged is.whole is.limits (is_read name got.text x.0 got.short list) is.sound is.is_package (subst ExportsAreFair (sym world) fair);
+      alike = λ fair. subst (λ (w : World). BehaveAlike x.0 w (components_of is.whole)) world
+          (behaves_alike x.0 x.1 is.judged is.whole is.limits (is_read name got.text x.0 got.short list) is.sound is.is_package (subst ExportsAreFair (sym world) fair));
     })
 
 keeps_told : (name dir : List ℕ) (told : Option Files) (new : Shelved) (todo : Todo) → IsReady (command_of (convert name dir)) told todo → IsWritten told todo new

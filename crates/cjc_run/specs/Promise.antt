@@ -12,12 +12,13 @@ use Rattle.cjc_classfile.specs.ClassFile.{class_file}
 use Rattle.cjc_classfile.specs.declared.tree.ClassTree.{ClassTree}
 use Rattle.cjc_export.specs.declared.tree.ExportTree.{ExportTree}
 use Rattle.cjc_export.specs.ExportFile.{export_file}
-use Rattle.cjc_export.specs.Tokens.{HaveOwnTokens}
 use Rattle.cjc_capread.specs.declared.tree.CapTree.{CapTree}
 use Rattle.cjc_capwrite.specs.Writable.{IsSpelt}
-use Rattle.cjc_first.specs.Sentences.Consistent.{Consistent}
-use Rattle.cjc_convert.specs.declared.conversion.Converted.{Converted}
-use Rattle.cjc_first.specs.BehaveAlike.{BehaveAlike}
+use Rattle.cjc_alike.specs.Alike.{BehaveAlike}
+use Rattle.cjc_alike.specs.Fair.{ExportsAreFair}
+use Rattle.cjc_conversion.specs.declared.conversion.Converted.{Converted}
+use Rattle.cjc_judge.specs.Rules.{world_files}
+use Rattle.cjc_sentences.specs.Consistent.{Consistent}
 use Rattle.cjc_run.specs.Convert.{files_made, below}
 use Rattle.cjc_checking.specs.Check.{AreConsistent, check_breaks, ok_line, plan_of_check}
 use Rattle.cjc_command.specs.Plan.{complete, verdict}
@@ -50,26 +51,24 @@ abbrev pub SpellExports : Files → List FileLine → List ExportTree → Type 0
 SpellExports files [] trees = trees ≡ []
 SpellExports files (line ∷ lines) trees = ExportStep line.class_file (get files line.name) (SpellExports files lines) trees
 
--- The class files that the list of this name names before, and the components that stand in the folder after, behave
--- alike for every script, where both machines go by the export files that the list names. The components are
--- consistent with these export files.
+-- The class files and export files that the list of this name names before spell these, and the component files that stand in
+-- the folder after spell these components. Over export files that are what a platform has, the components are consistent with
+-- them, and class files and components behave alike for every script.
 pub record Converts (name dir : List ℕ) (before after : Files) : Type 0 where
   pub text : List ℕ
   pub list : ListTree
   pub classes : List ClassTree
+  pub exports : List ExportTree
   pub made : Converted
   pub cap : CapTree
   pub text_is : get before name ≡ Some text
   pub list_is : IsListSpelt name list text
   pub class_files : SpellClasses before list.lines classes
-  pub exports : List ExportTree
   pub export_files : SpellExports before list.lines exports
   pub stand : Stand after (map (below dir) (files_made list.package made))
   pub spelt : IsSpelt cap made.caps
-  pub alike : (exports : List ExportTree) → SpellExports before list.lines exports → BehaveAlike classes exports cap
-  pub consistent : (exports : List ExportTree) → SpellExports before list.lines exports → Consistent cap exports
-  -- They do so by other export files too, as long as in each of them the classes have tokens of their own.
-  pub alike_beyond : (exports : List ExportTree) → HaveOwnTokens exports → BehaveAlike classes exports cap
+  pub consistent : ExportsAreFair (world_files list classes exports) → Consistent cap exports
+  pub alike : ExportsAreFair (world_files list classes exports) → BehaveAlike list (world_files list classes exports) cap
 
 -- The list of this name, the export files that it names and the components in the folder were read, and none of them breaks a
 -- rule. What the components say is consistent with what the export files say.

@@ -1,14 +1,17 @@
 //! What `convert LIST DIR` reads and makes: the list, its files, and of these the components, the export file and the
 //! lines to print. `gather` calls it. Nothing here writes.
 
-ghost use Rattle.std.specs.Prelude.{◌≡◌, ◌<◌, ◌++◌, ◌∷◌, [], codes, IfOk, length};
-ghost use Rattle.cjc_judge.specs.Spelt.{IsRead, AreFiles};
+ghost use Rattle.std.specs.Prelude.{◌≡◌, ◌<◌, All, ◌++◌, ◌∷◌, [], codes, IfOk, length};
+ghost use Rattle.std.specs.List.{AllByRecursion};
+ghost use Rattle.cjc_command.specs.Gather.{AreShort};
+ghost use Rattle.cjc_judge.specs.Spelt.{IsRead};
 ghost use Rattle.cjc_command.specs.Gather.{Gathers, Judged};
 ghost use Rattle.cjc_run.specs.Convert.{plan_of_convert, plan_of_list, plan_of_files, names_of as names_lem, last_part as last_part_lem, files_made as files_lem, named, where_there, below, file_line, publication, Makes};
 
 use cjc_bytes::{Bytes, Fault, NoMemory, Out, Row};
 use cjc_command::{File, Status, Todo, fetch, fetch_each};
-use cjc_convert::{Converted, List, convert, read_list};
+use cjc_conversion::{Converted, convert};
+use cjc_list::{List, read_list};
 use cjc_shelf::Shelf;
 use itoa::Buffer;
 use std::alloc::Global;
@@ -71,13 +74,31 @@ fn names_of(alloc: Global, list: &List) -> Result<Row<Bytes>, NoMemory>
     Ok(names)
 }
 
+// Each byte is below 256, which is known of those that were read.
+fn read_bytes(files: &[Bytes])
+    ensures { All (λ file. AllByRecursion (λ b. b < 256) file) files.now }
+{
+    for file in files {
+        read_each(file.items());
+    }
+}
+
+fn read_each(bytes: &[u8])
+    ensures { AllByRecursion (λ b. b < 256) bytes.now }
+{
+    for byte in bytes {
+        let _read = *byte;
+    }
+}
+
 // All is computed here, the names and the lines too.
 fn judge(alloc: Global, dir: &[u8], list: &List, files: &Row<Bytes>) -> Result<Todo, Status>
     requires read { IsRead list.now }
     requires count { length files.now ≡ length list.now.lines }
-    requires files { AreFiles files.now }
+    requires files { AreShort files.now }
     ensures { Judged (Makes dir.now (list.now, files.now)) result }
 {
+    read_bytes(files.items());
     match convert(alloc, list, files) {
         Ok(made) => match todo_of(alloc, dir, list.package.items(), made) {
             Ok(todo) => Ok(todo),

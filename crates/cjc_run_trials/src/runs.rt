@@ -6,11 +6,12 @@
 //! - `words WORD WORD ..` are the words of the command, and `-` is none.
 //!
 //! Wanted are how many calls of the shelf are over when the run ends, how many bytes are printed, and the line at the
-//! end, without its line feed, or `-` where there is none.
+//! end, without its line feed, or `-` where there is none; or `done` alone, where all that is wanted is that it converts.
 
 use crate::packages::bytes_of;
 use crate::words::{cut, number, question_and_answer};
 use cjc_bytes::{Bytes, NoMemory, Row};
+use cjc_command::Status;
 use cjc_run::{run, status_line};
 use cjc_shelf::{MemShelf, MemSink};
 use std::alloc::Global;
@@ -70,17 +71,17 @@ T.class no-i2s = 0 0 refused 607 T.class p/T f(S)S 3 # the sum is not made a sho
 T.class sum 93:00 94:00 95:1a 96:74 = 0 0 refused 607 T.class p/T f(S)S 4 # -a
 T.class sum 51:42 = 0 0 refused 608 T.class p/T f(S)B 4
 T.class sum 51:42 93:00 94:00 95:00 96:1a = 0 0 refused 608 T.class p/T f(S)B 4 # a short as a byte
-T.class sum 51:42 93:00 94:00 95:1a 96:91 = 0 0 refused 801 list - - 0 # (byte) a
+T.class sum 51:42 93:00 94:00 95:1a 96:91 = done # (byte) a
 T.class sum 51:5a = 0 0 refused 609 T.class p/T f(S)Z 4
 T.class sum 51:5a 93:00 94:00 95:00 96:05 = 0 0 refused 609 T.class p/T f(S)Z 4 # 2
-T.class sum 51:5a 93:00 94:00 95:00 96:04 = 0 0 refused 801 list - - 0 # 1
+T.class sum 51:5a 93:00 94:00 95:00 96:04 = done # 1
 T.class sum 94:74 95:04 96:6c = 0 0 refused 602 T.class p/T f(S)S 3 # -a / 1, and 607 behind it
 T.class sum 94:74 95:04 96:70 = 0 0 refused 602 T.class p/T f(S)S 3
-T.class sum 93:00 94:1a 95:04 96:6c = 0 0 refused 801 list - - 0 # a / 1
+T.class sum 93:00 94:1a 95:04 96:6c = done # a / 1
 T.class sum 94:74 95:04 96:7a = 0 0 refused 603 T.class p/T f(S)S 3 # -a >> 1
 T.class sum 94:74 95:04 96:7c = 0 0 refused 603 T.class p/T f(S)S 3
-T.class sum 93:00 94:1a 95:04 96:7a = 0 0 refused 801 list - - 0 # a >> 1
-T.class sum 94:bc 95:08 96:be = 0 0 refused 801 list - - 0 # new byte[a].length
+T.class sum 93:00 94:1a 95:04 96:7a = done # a >> 1
+T.class sum 94:bc 95:08 96:be = done # new byte[a].length
 T.class sum 94:74 95:00 96:01 = 0 0 refused 502 T.class p/T f(S)S 4 # a reference is returned, before any number
 T.class sum 0:00 = 0 0 refused 101 T.class - - 0
 T.class sum ..103 = 0 0 refused 101 T.class - - 102
@@ -103,7 +104,7 @@ T.class sum 93:01 94:00 95:00 96:00 = 0 0 refused 502 T.class p/T f(S)S 4 # acon
 T.class sum 93:04 95:04 = 0 0 refused 503 T.class p/T f(S)S 2 # three constants
 T.class initialiser = 0 0 refused 308 T.class p/T <clinit>()V 0 # a nop
 T.class initialiser 78:28 = 0 0 refused 304 T.class p/T <clinit>()V 0 # and synchronized
-T.class of-methods 127 S = 0 0 refused 801 list - - 0 # equals of java/lang/Object has token 0
+T.class of-methods 127 S = done # equals of java/lang/Object has token 0
 T.class of-methods 128 S = 0 0 refused 413 T.class p/T - 0
 T.class of-methods 127 C = 0 0 refused 301 T.class p/T ah(C)V 0
 T.class of-methods 128 C = 0 0 refused 301 T.class p/T ah(C)V 0 # a char comes before a limit
@@ -114,41 +115,41 @@ words Convert list out = 0 0 usage
 list none ; lang.exp none ; T.class none = 0 0 absent list
 T.class none = 0 0 absent T.class";
 
-/// Rules 601 to 609, each where it is broken, and where an operand lies just inside: then the package is not of the form.
+/// Rules 601 to 609, each where it is broken, and where an operand lies just inside: then the package is converted.
 const RANGES: &str = "\
 T.class of-code (S)S 1A 04 60 10 0A A2 00 05 04 AC 03 AC = 0 0 refused 601 T.class p/T f(S)S 5 # a + 1 < 10
-T.class of-code (S)S 1A 10 0A A2 00 05 04 AC 03 AC = 0 0 refused 801 list - - 0 # a < 10
+T.class of-code (S)S 1A 10 0A A2 00 05 04 AC 03 AC = done # a < 10
 T.class of-code (S)S 1A 12 08 7E 08 A4 00 05 04 AC 03 AC = 0 0 refused 601 T.class p/T f(S)S 5 # (a & 0xFFFF) > 5
-T.class of-code (S)S 1A 12 08 7E 93 AC = 0 0 refused 801 list - - 0 # (short) (a & 0xFFFF)
-T.class of-code (B)S 1A 11 7F 80 60 99 00 05 04 AC 03 AC = 0 0 refused 801 list - - 0 # to 32,767
+T.class of-code (S)S 1A 12 08 7E 93 AC = done # (short) (a & 0xFFFF)
+T.class of-code (B)S 1A 11 7F 80 60 99 00 05 04 AC 03 AC = done # to 32,767
 T.class of-code (B)S 1A 11 7F 81 60 99 00 05 04 AC 03 AC = 0 0 refused 601 T.class p/T f(B)S 5
-T.class of-code (B)S 1A 11 80 80 60 99 00 05 04 AC 03 AC = 0 0 refused 801 list - - 0 # from -32,768
+T.class of-code (B)S 1A 11 80 80 60 99 00 05 04 AC 03 AC = done # from -32,768
 T.class of-code (B)S 1A 11 80 7F 60 99 00 05 04 AC 03 AC = 0 0 refused 601 T.class p/T f(B)S 5
-T.class of-code (S)S 1A 08 7E B2 00 1C 60 99 00 05 04 AC 03 AC = 0 0 refused 801 list - - 0 # (a & 5) + k, a constant
+T.class of-code (S)S 1A 08 7E B2 00 1C 60 99 00 05 04 AC 03 AC = done # (a & 5) + k, a constant
 T.class of-code (S)S 1A 08 7E B2 00 0C 60 99 00 05 04 AC 03 AC = 0 0 refused 601 T.class p/T f(S)S 7 # (a & 5) + s
 T.class of-code (SS)S 1A 1B 60 05 6C 93 AC = 0 0 refused 602 T.class p/T f(SS)S 4 # (a + b) / 2
 T.class of-code (SS)S 1A 1B 68 05 70 93 AC = 0 0 refused 602 T.class p/T f(SS)S 4 # (a * b) % 2
-T.class of-code (SS)S 1A 1B 6C 93 AC = 0 0 refused 801 list - - 0 # a / b
+T.class of-code (SS)S 1A 1B 6C 93 AC = done # a / b
 T.class of-code (S)S 1A 12 08 7E 04 7A 93 AC = 0 0 refused 603 T.class p/T f(S)S 5 # (a & 0xFFFF) >> 1
 T.class of-code (S)S 1A 12 08 7E 04 7C 93 AC = 0 0 refused 603 T.class p/T f(S)S 5 # (a & 0xFFFF) >>> 1
-T.class of-code (S)S 1A 10 14 7C 93 AC = 0 0 refused 801 list - - 0 # a >>> 20
+T.class of-code (S)S 1A 10 14 7C 93 AC = done # a >>> 20
 T.class of-code (S)S 1A 04 60 AB 00 00 00 09 00 00 00 00 03 AC = 0 0 refused 604 T.class p/T f(S)S 3
-T.class of-code (S)S 1A AB 00 00 00 00 00 0B 00 00 00 00 03 AC = 0 0 refused 801 list - - 0
+T.class of-code (S)S 1A AB 00 00 00 00 00 0B 00 00 00 00 03 AC = done
 T.class of-code (S)[B 1A 1A 60 BC 08 B0 = 0 0 refused 605 T.class p/T f(S)[B 3 # new byte[a + a]
-T.class of-code (S)[B 1A BC 08 B0 = 0 0 refused 801 list - - 0
+T.class of-code (S)[B 1A BC 08 B0 = done
 T.class of-code ([BS)B 2A 1B 05 64 33 AC = 0 0 refused 606 T.class p/T f([BS)B 4 # b[o - 2]
-T.class of-code ([BS)B 2A 1B 04 64 33 AC = 0 0 refused 801 list - - 0 # b[o - 1]
+T.class of-code ([BS)B 2A 1B 04 64 33 AC = done # b[o - 1]
 T.class of-code ([BS)B 2A 1B 12 08 7E 04 60 33 AC = 0 0 refused 606 T.class p/T f([BS)B 7 # to 65,536
-T.class of-code ([BS)B 2A 1B 12 08 7E 33 AC = 0 0 refused 801 list - - 0 # to 65,535
+T.class of-code ([BS)B 2A 1B 12 08 7E 33 AC = done # to 65,535
 T.class of-code (S)V 1A 04 60 B3 00 0C B1 = 0 0 refused 607 T.class p/T f(S)V 3 # s = a + 1
 T.class of-code (S)V 1A 04 60 11 00 80 05 B8 00 18 B1 = 0 0 refused 607 T.class p/T f(S)V 7 # g(a + 1, 128, 2)
 T.class of-code ()V 04 11 00 80 05 B8 00 18 B1 = 0 0 refused 608 T.class p/T f()V 5
 T.class of-code ()V 04 10 7F 05 B8 00 18 B1 = 0 0 refused 609 T.class p/T f()V 4
-T.class of-code ()V 04 10 7F 04 B8 00 18 B1 = 0 0 refused 801 list - - 0
+T.class of-code ()V 04 10 7F 04 B8 00 18 B1 = done
 T.class of-code (S)B 1A AC = 0 0 refused 608 T.class p/T f(S)B 1
 T.class of-code ()V 05 B3 00 14 B1 = 0 0 refused 609 T.class p/T f()V 1 # z = 2
 T.class of-code ([ZS)V 2A 1B 05 54 B1 = 0 0 refused 609 T.class p/T f([ZS)V 3 # z[o] = 2
-T.class of-code ([ZS)V 2A 1B 04 54 B1 = 0 0 refused 801 list - - 0
+T.class of-code ([ZS)V 2A 1B 04 54 B1 = done
 T.class of-code (S)S 1A 04 60 B3 00 0C 01 AC = 0 0 refused 502 T.class p/T f(S)S 7 # a wrong type comes before 607 at 3";
 
 /// Each call of the shelf fails, and each of the sink.
@@ -301,8 +302,19 @@ fn ends_so(
     Ok(is_printed(out.bytes(), length) && is_end(errors.bytes(), end))
 }
 
+/// Whether a run ends as one that converts.
+fn is_done(alloc: Global, case: &str) -> Result<bool, NoMemory> {
+    let mut shelf = shelf_of(alloc, case)?;
+    let words = words_of(alloc, "convert list out")?;
+    let mut out = sink_of(alloc, "")?;
+    Ok(matches!(run(alloc, words.items(), &mut shelf, &mut out), Status::Done))
+}
+
 /// Whether a run is as wanted.
 fn is_so(alloc: Global, case: &str, wanted: &str) -> Result<bool, NoMemory> {
+    if wanted == "done" {
+        return is_done(alloc, case);
+    }
     let (call, wanted) = cut(wanted, " ");
     let (length, end) = cut(wanted, " ");
     let call = number(call)?;
