@@ -13,7 +13,7 @@ use Rattle.cjc_classfile.specs.ClassFile.{class_file}
 use Rattle.cjc_classfile.specs.declared.tree.ClassTree.{ClassTree}
 use Rattle.cjc_alike.proofs.Alike.{behaves_alike, is_consistent}
 use Rattle.cjc_alike.specs.Alike.{BehaveAlike}
-use Rattle.cjc_alike.specs.Fair.{ExportsAreFair}
+use Rattle.cjc_fair_exports.specs.Fair.{ExportsAreFair}
 use Rattle.cjc_components.specs.Components.{components_of}
 use Rattle.cjc_judge.specs.Rules.{files_spelt}
 use Rattle.cjc_judge.specs.Spelt.{FileTree, SpellTrees, classes_of, exports_of, of_class, of_export}
@@ -181,9 +181,9 @@ keeps name dir files new todo ready written =
       export_files = exports_spelt files x.0.lines x.1 trees got.all spell;
       stand = subst (λ (fs : Files). Stand fs all) (sym after) (stand_made dir x.0.package files made);
       spelt = is.caps_spelt;
-      consistent = λ fair. is_consistent x.0 x.1 is.judged is.whole is.limits (is_read name got.text x.0 got.short list) is.sound is.is_package (subst ExportsAreFair (sym world) fair);
+      consistent = λ fair. is_consistent x.0 x.1 is.judged is.whole is.limits (is_read name got.text x.0 got.short list) is.sound is.is_package (subst (λ (w : World). ExportsAreFair w.exports) (sym world) fair);
       alike = λ fair. subst (λ (w : World). BehaveAlike x.0 w (components_of is.whole)) world
-          (behaves_alike x.0 x.1 is.judged is.whole is.limits (is_read name got.text x.0 got.short list) is.sound is.is_package (subst ExportsAreFair (sym world) fair));
+          (behaves_alike x.0 x.1 is.judged is.whole is.limits (is_read name got.text x.0 got.short list) is.sound is.is_package (subst (λ (w : World). ExportsAreFair w.exports) (sym world) fair));
     })
 
 keeps_told : (name dir : List ℕ) (told : Option Files) (new : Shelved) (todo : Todo) → IsReady (command_of (convert name dir)) told todo → IsWritten told todo new

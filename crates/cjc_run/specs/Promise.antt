@@ -12,10 +12,10 @@ use Rattle.cjc_classfile.specs.ClassFile.{class_file}
 use Rattle.cjc_classfile.specs.declared.tree.ClassTree.{ClassTree}
 use Rattle.cjc_export.specs.declared.tree.ExportTree.{ExportTree}
 use Rattle.cjc_export.specs.ExportFile.{export_file}
+use Rattle.cjc_fair_exports.specs.Fair.{ExportsAreFair}
 use Rattle.cjc_capread.specs.declared.tree.CapTree.{CapTree}
 use Rattle.cjc_capwrite.specs.Writable.{IsSpelt}
 use Rattle.cjc_alike.specs.Alike.{BehaveAlike}
-use Rattle.cjc_alike.specs.Fair.{ExportsAreFair}
 use Rattle.cjc_conversion.specs.declared.conversion.Converted.{Converted}
 use Rattle.cjc_judge.specs.Rules.{world_files}
 use Rattle.cjc_sentences.specs.Consistent.{Consistent}
@@ -52,8 +52,8 @@ SpellExports files [] trees = trees ≡ []
 SpellExports files (line ∷ lines) trees = ExportStep line.class_file (get files line.name) (SpellExports files lines) trees
 
 -- The class files and export files that the list of this name names before spell these, and the component files that stand in
--- the folder after spell these components. Over export files that are what a platform has, the components are consistent with
--- them, and class files and components behave alike for every script.
+-- the folder after spell these components. Over export files that are fair the components are consistent with them, and class
+-- files and components behave alike for every script.
 pub record Converts (name dir : List ℕ) (before after : Files) : Type 0 where
   pub text : List ℕ
   pub list : ListTree
@@ -67,8 +67,8 @@ pub record Converts (name dir : List ℕ) (before after : Files) : Type 0 where
   pub export_files : SpellExports before list.lines exports
   pub stand : Stand after (map (below dir) (files_made list.package made))
   pub spelt : IsSpelt cap made.caps
-  pub consistent : ExportsAreFair (world_files list classes exports) → Consistent cap exports
-  pub alike : ExportsAreFair (world_files list classes exports) → BehaveAlike list (world_files list classes exports) cap
+  pub consistent : ExportsAreFair exports → Consistent cap exports
+  pub alike : ExportsAreFair exports → BehaveAlike list (world_files list classes exports) cap
 
 -- The list of this name, the export files that it names and the components in the folder were read, and none of them breaks a
 -- rule. What the components say is consistent with what the export files say.
