@@ -9,7 +9,7 @@ use Rattle.std.proofs.lemmas.List.{length-map}
 use Rattle.cjc_bytes.specs.AccessFlags.{is_interface}
 use Rattle.cjc_export.specs.declared.tree.ExportClass.{ExportClass}
 use Rattle.cjc_export.specs.declared.tree.ExportMethod.{ExportMethod}
-use Rattle.cjc_export.specs.Members.{interface_token_taken, not_special}
+use Rattle.cjc_export.specs.Members.{interface_token_taken}
 use Rattle.cjc_export.specs.Writable.{ClassFits, EachAfter, MethodStands}
 use Rattle.cjc_subset.specs.Members.{imports}
 use Rattle.cjc_world.specs.Added.{by_token, own_methods, with_token, without_initialiser}
