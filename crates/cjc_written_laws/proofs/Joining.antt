@@ -1,5 +1,5 @@
 -- The run of a package's components is the run of its narrow code, from the first entry on.
-use Rattle.std.proofs.Common.{◌≡◌, ℕ, refl, sym, ap, subst, ◌∙◌, Bool, List, [], ◌∷◌, map}
+use Rattle.std.proofs.Common.{◌≡◌, ℕ, refl, sym, ap, subst, ◌∙◌, Bool, true, List, [], ◌∷◌, map}
 use Rattle.std.specs.Prelude.{◌≢◌, Option, Some, None}
 use Rattle.cjc_bytecode.specs.Alike.{IsFound, KnownKind, KnownState, no_frames, reached_as, start_as, state_as}
 use Rattle.cjc_bytecode.specs.Effects.{HeapObject, Memory, Numbers, Object, References, shape}
