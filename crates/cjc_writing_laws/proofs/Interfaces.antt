@@ -1,25 +1,22 @@
 -- The methods of an exported interface can stand in an export file: each has a token of its own below their number, and none is named as a constructor or an initialiser is.
 use Rattle.std.proofs.Common.{◌≡◌, ℕ, zero, suc, ◌+◌, ◌*◌, ◌-◌, ◌<◌, ◌≤◌, ◌^◌, refl, sym, ap, subst, ◌∙◌, arith, Bool, true, false, List, [], ◌∷◌, ◌++◌, length, map, append-nil, ⊎_elim, Option, Some, None}
-use Rattle.std.specs.Prelude.{not, ◌&&◌, ◌||◌, ◌/◌, ◌%◌, codes, count_by, nat_lt, option_and_then, option_map, position, slice_get, unwrap_or, if◌then◌else◌}
-use Rattle.std.specs.Str.{bytes_eq}
+use Rattle.std.specs.Prelude.{not, ◌&&◌, ◌||◌, ◌/◌, ◌%◌, count_by, nat_lt, option_and_then, option_map, position, slice_get, unwrap_or, if◌then◌else◌}
 use Rattle.std.proofs.lemmas.Bool.{ltb-false}
 use Rattle.std.proofs.lemmas.Bool.Decides.{nat_tests}
 use Rattle.std.proofs.lemmas.List.{length-map}
 use Rattle.std.proofs.lemmas.Nat.Bits.{and_pow}
 use Rattle.std.proofs.lemmas.Option.{slice_get-map, slice_get_cases, slice_get_within}
 use Rattle.cjc_bytes.specs.AccessFlags.{acc_shareable, acc_super, is_abstract, is_interface}
-use Rattle.cjc_class_laws.proofs.Exporting.{fields_long}
 use Rattle.cjc_classfile.specs.declared.tree.ClassTree.{ClassTree}
-use Rattle.cjc_classfile.specs.declared.tree.MethodTree.{MethodTree}
+use Rattle.cjc_classfile.specs.declared.tree.FieldTree.{FieldTree}
 use Rattle.cjc_components.specs.Class.{is_shareable}
 use Rattle.cjc_components.specs.Descriptor.{as_added, method_in, methods_with_added, no_member}
 use Rattle.cjc_components.specs.ExportFile.{added_from, declares, export_class, inherited, inherited_from, is_listed, method_entry, method_meant, methods_from, supers_from, without}
 use Rattle.cjc_components.specs.Exports.{exported_classes}
 use Rattle.cjc_components.specs.Names.{member_token}
 use Rattle.cjc_components.specs.Package.{Package, has_applets, world}
-use Rattle.cjc_export.specs.ExportFile.{method_count}
 use Rattle.cjc_export.specs.Members.{not_special}
-use Rattle.cjc_export.specs.Writable.{EachAfter, MethodFits, MethodStands}
+use Rattle.cjc_export.specs.Writable.{EachAfter, MethodStands}
 use Rattle.cjc_export.specs.declared.tree.ExportMethod.{ExportMethod}
 use Rattle.cjc_export_laws.proofs.Own.{IsOwn, own_class}
 use Rattle.cjc_export_laws.proofs.Tokens.{low_tokens}
@@ -35,7 +32,7 @@ use Rattle.cjc_tokens.specs.Lines.{line_at}
 use Rattle.cjc_tokens.specs.Members.{Signature, has as is_among, is_constructor, is_exposed, is_initialiser, same, signature_of, signatures}
 use Rattle.cjc_tokens.specs.Methods.{class_method_tokens, interface_methods, interface_row, interface_token, is_open_bound}
 use Rattle.cjc_tokens.specs.Rules.{has_high_method, has_high_token}
-use Rattle.cjc_tokens.specs.Slots.{hidden_slots, new_in, row, slots, token}
+use Rattle.cjc_tokens.specs.Slots.{hidden_slots, row, slots, token}
 use Rattle.cjc_tokens.specs.Tokens.{OfClass, assigned, joined, method_tokens, token_of_member}
 use Rattle.cjc_vtable.proofs.Filed.{Has, at-number, behind, get-has}
 use Rattle.cjc_vtable.proofs.Filed as filed
@@ -43,7 +40,7 @@ use Rattle.cjc_vtable.proofs.SlotNames.{get-behind, position-at}
 use Rattle.cjc_world.proofs.Cycles.{class_named-name}
 use Rattle.cjc_world.proofs.Settled.{kin-known}
 use Rattle.cjc_world.specs.Added.{added, asked_by, declares_open, has_open, lacking, own_methods, takes_added}
-use Rattle.cjc_world.specs.Classes.{Class, Member, class_at, class_named, declared, field_of_class, method_of_class}
+use Rattle.cjc_world.specs.Classes.{Class, Member, class_named, declared, field_of_class, method_of_class}
 use Rattle.cjc_world.specs.Exported.{is_exported}
 use Rattle.cjc_world.specs.Interfaces.{gathered, known}
 use Rattle.cjc_world.specs.Kin.{End, Kin, Known, kin}
@@ -56,9 +53,9 @@ use Rattle.cjc_fitting_laws.proofs.Limited.{acyclic, few_imports, is_kin, tokens
 use Rattle.cjc_fitting_laws.proofs.Lists.{mapped_at}
 use Rattle.cjc_fitting_laws.proofs.Meant.{IsMethodRead, named_method}
 use Rattle.cjc_fitting_laws.proofs.Order.{has_back, has_either, has_none}
-use Rattle.cjc_fitting_laws.proofs.Standing.{IsListedAt, listed_in}
+use Rattle.cjc_fitting_laws.proofs.Standing.{listed_in}
 use Rattle.cjc_fitting_laws.specs.LaidOut.{ExportedInterfacesStand, IsLaidOut, MethodsStand}
-use Rattle.cjc_writing_laws.proofs.Entries.{Differ, IsMet, IsSuperAt, as_many, differ_append, listed_differ, listed_has, stand, supers_differ, supers_has, supers_in}
+use Rattle.cjc_writing_laws.proofs.Entries.{Differ, IsMet, as_many, differ_append, listed_differ, listed_has, stand, supers_differ, supers_has, supers_in}
 use Rattle.cjc_writing_laws.proofs.Signatures.{asked_plain, mapped_has, new_has, new_once, own_kept_there}
 
 -- ---- flags
@@ -130,6 +127,11 @@ declared_there (x ∷ ms) (suc k) m e = last (same (signature_of x) (signature_o
     last false f = f
 
 -- ---- an interface
+
+fields_long : (exported : Bool) (fs : List FieldTree) (i : ℕ) (rest : List FieldTree) → length (field_tokens exported fs i rest) ≡ length rest
+unfolding field_tokens
+fields_long exported fs i [] = refl
+fields_long exported fs i (f ∷ rest) = ap suc (fields_long exported fs (i + 1) rest)
 
 module _ (list : ListTree) (files : List (List ℕ)) (judged : Judged) (p : Package) (is : IsLaidOut list files judged p) (place : ℕ) (owner : Class) (at : slice_get (exported_classes p) place ≡ Some owner)
     (interface : (let o = own_class p place owner at in let t = o.tree in is_interface t.flags ≡ true)) where

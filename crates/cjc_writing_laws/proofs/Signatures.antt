@@ -1,11 +1,11 @@
 -- The methods of an interface by their signatures: each stands once, and none is an initialiser.
-use Rattle.std.proofs.Common.{◌≡◌, ℕ, zero, suc, refl, sym, ap, subst, ◌∙◌, Bool, true, false, List, [], ◌∷◌, ◌++◌, map, Contains, ⊎_elim, Option, Some, None}
-use Rattle.std.specs.Prelude.{◌||◌, ◌==◌, codes, length, option_map, position, slice_get, if◌then◌else◌}
+use Rattle.std.proofs.Common.{◌≡◌, ℕ, zero, suc, refl, sym, ap, subst, ◌∙◌, Bool, true, false, List, [], ◌∷◌, ◌++◌, map, Contains, ⊎_elim, Some}
+use Rattle.std.specs.Prelude.{◌||◌, codes, length, option_map, position, slice_get, if◌then◌else◌}
 use Rattle.std.specs.Str.{bytes_eq}
 use Rattle.cjc_fixpoint.specs.Working.Edges.{contains_head, contains_tail}
 use Rattle.cjc_tokens.proofs.Facts.{position-cons, same-refl, same-true}
 use Rattle.cjc_tokens.proofs.Held.{new-fresh}
-use Rattle.cjc_tokens.specs.Members.{Signature, has, is_initialiser, same, signature_of}
+use Rattle.cjc_tokens.specs.Members.{Signature, is_initialiser, same}
 use Rattle.cjc_tokens.specs.Slots.{Slots, has_slot, new_in}
 use Rattle.cjc_vtable.proofs.Asked.{has-here}
 use Rattle.cjc_vtable.proofs.Filed.{Has, at_front, behind}

@@ -1,9 +1,9 @@
 -- What a package that breaks neither 411 nor 416 keeps, as it is measured.
-use Rattle.std.proofs.Common.{◌≡◌, ℕ, ◌≤◌, refl, ap, ◌∙◌, Bool, true, false, List, [], ◌++◌, Option, Some, None}
-use Rattle.std.specs.Prelude.{◌||◌, nat_lt, if◌then◌else◌}
+use Rattle.std.proofs.Common.{◌≡◌, ℕ, ◌≤◌, refl, Bool, true, false, [], ◌++◌, Option, Some, None}
+use Rattle.std.specs.Prelude.{nat_lt, if◌then◌else◌}
 use Rattle.std.proofs.lemmas.Bool.{ltb-false}
 use Rattle.cjc_bytes.specs.Breaks.{at}
-use Rattle.cjc_capwrite.specs.Files.{ends_too_far, infos_of, is_too_large, limit_of}
+use Rattle.cjc_capwrite.specs.Files.{infos_of, is_too_large, limit_of}
 use Rattle.cjc_components.specs.Components.{components_of}
 use Rattle.cjc_components.specs.Limits.{has_far_types, has_large_component, size_breaks, spot_of_list, widest_method}
 use Rattle.cjc_components.specs.Package.{Package}
