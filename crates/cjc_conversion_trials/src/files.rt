@@ -96,3 +96,8 @@ pub(crate) fn files_of(alloc: Global, words: &str) -> Result<Row<Bytes>, NoMemor
     }
     Ok(files)
 }
+
+/// The export file of java/lang.
+pub(crate) fn lang(alloc: Global) -> Result<Bytes, NoMemory> {
+    Bytes::copy_of(alloc, LANG)
+}

@@ -1,4 +1,4 @@
 mod Shapes
 mod Stops
 mod Handlers
-mod Listed
+mod Results
