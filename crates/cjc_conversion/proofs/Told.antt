@@ -106,7 +106,7 @@ module _ (p : Package) (counted : (let v = p.files in length v.classes ≡ class
   spot_told : (f : Found) (c : Class) → IsPlaced p.files f → class_at (world p) f.imported f.class ≡ Some c → (offset rule : ℕ) → Told (broken_at (method_spot p c f (method_in (world p) c f.member) offset) rule)
   spot_told f c placed e offset rule = by (nat_lt f.member (length c.fields + length c.methods)) refl
     where
-      abbrev w : List Class
+      w : List Class
       w = world p
 
       found : (t : ClassTree) × (let v = p.files in slice_get v.classes f.class ≡ Some t) × (c ≡ declared f.class t)
@@ -130,10 +130,10 @@ module _ (p : Package) (counted : (let v = p.files in length v.classes ≡ class
       methods_long : length c.methods ≡ length t.methods
       methods_long = ap (λ (d : Class). length d.methods) found.2 ∙ length-map t.methods method_of_class
 
-      abbrev m : Member
+      m : Member
       m = method_in w c f.member
 
-      abbrev spot_of : Bool → Break
+      spot_of : Bool → Break
       spot_of b = broken_at (let v = p.files in if b then member_spot (file_of v.lines c.number) 1 c.name (f.member + 1) (method_text m.name m.desc) offset else class_spot (file_of v.lines c.number) 1 c.name) rule
 
       own : nat_lt f.member (length c.fields + length c.methods) ≡ true → Told (spot_of true)
