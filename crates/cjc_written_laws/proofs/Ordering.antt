@@ -3,10 +3,10 @@ use Rattle.std.proofs.Common.{◌≡◌, ℕ, suc, ◌+◌, refl, ap, sym, subst
 use Rattle.std.specs.Prelude.{◌≢◌, Option, Some, None, nat_lt, option_map, slice_get, if◌then◌else◌}
 use Rattle.cjc_bytecode.proofs.Together.{runs_agree}
 use Rattle.cjc_bytecode.specs.Alike.{KnownState, Names, SettingsAlike, no_frames, reached_as, start_as}
-use Rattle.cjc_bytecode.specs.Effects.{Arm, Ask, Branch, Call, Cast, Do, Get, GetStatic, Memory, New, NewNumbers, NewReferences, Pick, Put, PutStatic, Touch, Undone}
+use Rattle.cjc_bytecode.specs.Effects.{Memory}
 use Rattle.cjc_bytecode.specs.Machine.{Nowhere, State, Within}
 use Rattle.cjc_bytecode.specs.Machine as machine
-use Rattle.cjc_bytecode.specs.Renaming.{AreAlike, KnownHeap, KnownOperation, KnownShape, arm_as, no_things, numbers_known, object_known, one_thing, operation_as, option_as, shape_as}
+use Rattle.cjc_bytecode.specs.Renaming.{AreAlike, KnownHeap, no_things, numbers_known, object_known, one_thing, option_as, shape_as}
 use Rattle.cjc_bytes.specs.Breaks.{Spot}
 use Rattle.cjc_bytes.specs.declared.fault.MemberId.{MemberId}
 use Rattle.cjc_by_name.specs.Linked.{Method}
@@ -20,6 +20,7 @@ use Rattle.cjc_components.specs.Package.{LaidMethod, Package, pool}
 use Rattle.cjc_layout.specs.Handlers.{table_order}
 use Rattle.cjc_layout.specs.Refusals.{least, overtaking}
 use Rattle.cjc_lower.specs.Agreement.{Cells, IsKnownCall, everything, known_by}
+use Rattle.cjc_lower.proofs.ByCode.{kind_stays, operation_known, operation_stays, option_stays, shape_stays}
 use Rattle.cjc_narrow.specs.Package.{code_of, first_memory, named, named_by, on_class, reached, reached_by, selected_on, start_of}
 use Rattle.cjc_narrow.specs.Package as narrow
 use Rattle.cjc_narrow.specs.Resolved.{resolution}
@@ -30,7 +31,7 @@ use Rattle.cjc_ncode.specs.Written.{catch_at, catches_at, place_in}
 use Rattle.cjc_ncode.specs.Written.{reached as reached_by_rows}
 use Rattle.cjc_ncode.specs.declared.narrow.NCatch.{NCatch}
 use Rattle.cjc_ncode.specs.declared.narrow.NMethod.{NMethod}
-use Rattle.cjc_script.specs.Sorts.{OfClass, OfNumbers, OfReferences, Shape, shape_name}
+use Rattle.cjc_script.specs.Sorts.{Shape, shape_name}
 use Rattle.cjc_script.specs.declared.report.Outcome.TheVariants.{Stuck}
 use Rattle.cjc_script.specs.declared.script.Script.{Script}
 use Rattle.cjc_world.specs.Classes.{Class, all_classes}
@@ -93,64 +94,6 @@ laid_ordered files near (m ∷ ms) x all = by (is_method_of x.id (method_at file
     by : (b : Bool) → IsOrdered (laid_from files near ms x) → IsOrdered (if b then m.code else laid_from files near ms x)
     by true rest = all 0 m refl
     by false rest = rest
-
--- ---- what stays
-
-option_stays : {A : Type 0} (o : Option A) → option_as (λ x. x) o ≡ o
-option_stays None = refl
-option_stays (Some x) = refl
-
-shape_stays : (kind : Shape (List ℕ)) → shape_as (λ c. c) kind ≡ kind
-shape_stays (OfClass c) = refl
-shape_stays (OfNumbers element) = refl
-shape_stays (OfReferences c) = refl
-
-arms_stay : (arms : List Arm) → map (arm_as (λ label. label)) arms ≡ arms
-arms_stay [] = refl
-arms_stay (arm ∷ arms) = ap (λ x. arm ∷ x) (arms_stay arms)
-
-operation_stays : (operation : ByLabel.Resolved) → operation_as (λ c. c) (λ f. f) (λ f. f) (λ m. m) (λ label. label) operation ≡ operation
-operation_stays (Do calculation) = refl
-operation_stays (Branch test to) = refl
-operation_stays (Pick is_int other arms) = ap (Pick is_int other) (arms_stay arms)
-operation_stays (Touch access) = refl
-operation_stays (Get this letter f) = refl
-operation_stays (Put this letter f) = refl
-operation_stays (GetStatic letter s) = refl
-operation_stays (PutStatic letter s) = refl
-operation_stays (Call m) = refl
-operation_stays (New c) = refl
-operation_stays (NewNumbers element) = refl
-operation_stays (NewReferences c) = refl
-operation_stays (Cast kind) = ap Cast (shape_stays kind)
-operation_stays (Ask kind) = ap Ask (shape_stays kind)
-operation_stays Undone = refl
-
-shape_known : (kind : Shape (List ℕ)) → KnownShape (known_by everything) kind
-shape_known (OfClass c) = refl
-shape_known (OfNumbers element) = tt
-shape_known (OfReferences c) = refl
-
-operation_known : (operation : ByLabel.Resolved) → KnownOperation (known_by everything) (IsKnownCall everything) operation
-operation_known (Do calculation) = tt
-operation_known (Branch test to) = tt
-operation_known (Pick is_int other arms) = tt
-operation_known (Touch access) = tt
-operation_known (Get this letter f) = refl
-operation_known (Put this letter f) = refl
-operation_known (GetStatic letter s) = refl
-operation_known (PutStatic letter s) = refl
-operation_known (Call m) = refl
-operation_known (New c) = refl
-operation_known (NewNumbers element) = tt
-operation_known (NewReferences c) = refl
-operation_known (Cast kind) = shape_known kind
-operation_known (Ask kind) = shape_known kind
-operation_known Undone = tt
-
-kind_stays : (o : Option (Shape (List ℕ))) → option_as (shape_as (λ c. c)) o ≡ o
-kind_stays None = refl
-kind_stays (Some kind) = ap (λ x. Some x) (shape_stays kind)
 
 -- ---- the settings
 
