@@ -1,5 +1,5 @@
 -- What a conversion answers of a list and its files is one.
-use Rattle.std.proofs.Common.{◌≡◌, ℕ, suc, refl, sym, ap, subst, ◌∙◌, Bool, true, false, List, [], ◌∷◌, length}
+use Rattle.std.proofs.Common.{◌≡◌, ℕ, suc, sym, ap, subst, ◌∙◌, Bool, List, [], ◌∷◌, length}
 use Rattle.std.specs.Prelude.{if◌then◌else◌}
 use Rattle.cjc_bytes.specs.Breaks.{Break}
 use Rattle.cjc_bytes.specs.Order.{Rank}
@@ -15,7 +15,7 @@ use Rattle.cjc_export.specs.Written.{written}
 use Rattle.cjc_judge.proofs.Firsts.{one_spelling}
 use Rattle.cjc_judge.proofs.OneRefusal.{one_first_of, one_on_levels, one_refusal}
 use Rattle.cjc_judge.proofs.Places.{IsTold, class_files, place_at}
-use Rattle.cjc_judge.specs.Rules.{files_spelt, on_first, on_second}
+use Rattle.cjc_judge.specs.Rules.{Breach, OnLevels, files_spelt, on_first, on_second}
 use Rattle.cjc_judge.specs.Spelt.{FileTree, SpellTrees, classes_of, of_class, of_export}
 use Rattle.cjc_list.specs.Listed.{ListTree}
 use Rattle.cjc_prepared.specs.Prepared.{tested}
@@ -24,7 +24,6 @@ use Rattle.cjc_whole.proofs.Second.{package_is_draft}
 use Rattle.cjc_whole.specs.Conversion.{BreaksWritten, IsDraft, IsRefused, of_form, of_size}
 use Rattle.cjc_world.specs.Files.{Files}
 use Rattle.cjc_converting.proofs.Stops.{none_written}
-use Rattle.cjc_conversion.proofs.Sizes.{small}
 use Rattle.cjc_conversion.proofs.Told.{sizes_told, written_told}
 use Rattle.cjc_conversion.specs.Conversion.{IsConverted}
 use Rattle.cjc_conversion.specs.declared.conversion.Converted.{Converted}
@@ -75,6 +74,6 @@ module _ (list : ListTree) (files : List (List ℕ)) where
   pub not_refused : (m : Converted) (r : Refusal) → IsConverted list files m → IsRefused list files r → ⊥
   not_refused m r f is = by is.first.breaks
     where
-      by : _ → ⊥
+      by : OnLevels (Breach list files tested) (BreaksWritten list files) (let b = is.broken in b) → ⊥
       by (on_first breach) = f.unbroken is.broken breach
       by (on_second none broken) = none_written list files f.judged f.sound f.whole f.is_package f.limits is.broken broken
