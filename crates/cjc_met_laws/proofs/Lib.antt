@@ -1,0 +1,11 @@
+pub mod PoolKeys
+pub mod Met
+pub mod Descs
+pub mod Clean
+pub mod LaidOut
+pub mod Access
+pub mod Cells
+pub mod Own
+pub mod Abroad
+pub mod Types
+pub mod There
