@@ -2,6 +2,7 @@ pub mod PoolKeys
 pub mod Met
 pub mod Descs
 pub mod Clean
+pub mod Aids
 pub mod LaidOut
 pub mod Access
 pub mod Cells

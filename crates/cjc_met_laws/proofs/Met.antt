@@ -54,8 +54,8 @@ pub data IsMet (files : Files) (codes : List MethodCode) : PoolKey → Type 0 wh
   of_call : (class : ClassTree) (id : MemberId) → IsInsnOf files codes class (jop.Call 0xB8 id) → IsMet files codes (keys.StaticMethod (resolved_method (all_classes files) id))
 
 -- the only key of an instruction
-only : {P : PoolKey → Type 0} (k key : PoolKey) → P k → Has key (k ∷ []) → P key
-only {P} k key is h = ⊎_elim (λ same. subst P (sym same) is) (λ none. has_none key none) (has_cons key k [] h)
+only : (P : PoolKey → Type 0) (k key : PoolKey) → P k → Has key (k ∷ []) → P key
+only P k key is h = ⊎_elim (λ same. subst P (sym same) is) (λ none. has_none key none) (has_cons key k [] h)
 
 -- what names nothing has no key
 no_key : (i : NInsn) → names_nothing i ≡ true → insn_keys i ≡ []
@@ -122,30 +122,30 @@ module _ (list : ListTree) (files : List (List ℕ)) (judged : Judged) (p : Pack
         → IsWrittenFor (resolution p.files near class.name) op i → (key : PoolKey) → Has key (insn_keys i) → IsMet p.files codes key
     unfolding resolution
     source_met near n class named plain op i of (sources.plain none) key h = has_none key (subst (λ ks. Has key ks) (no_key i none) h)
-    source_met near n class named plain op i of (sources.of_static {put = put} {f = id} none) key h = only {P = IsMet p.files codes} (keys.StaticField (resolved_field w id)) key (of_static class put id of none) h
-    source_met near n class named plain op i of (sources.of_field {put = put} {f = id}) key h = only {P = IsMet p.files codes} (keys.Field (resolved_field w id)) key (of_field class put id of) h
+    source_met near n class named plain op i of (sources.of_static {put = put} {f = id} none) key h = only (IsMet p.files codes) (keys.StaticField (resolved_field w id)) key (of_static class put id of none) h
+    source_met near n class named plain op i of (sources.of_field {put = put} {f = id}) key h = only (IsMet p.files codes) (keys.Field (resolved_field w id)) key (of_field class put id of) h
     source_met near n class named plain op i of (sources.virtual_call {op = opcode} {m = id} same) key h =
-        only {P = IsMet p.files codes} (keys.Virtual (virtual_by w id (class_named w id.class))) key (of_virtual class id (subst (λ o. IsInsnOf p.files codes class (jop.Call o id)) same of)) h
+        only (IsMet p.files codes) (keys.Virtual (virtual_by w id (class_named w id.class))) key (of_virtual class id (subst (λ o. IsInsnOf p.files codes class (jop.Call o id)) same of)) h
     source_met near n class named plain op i of (sources.special_call {op = opcode} {m = id} same) key h =
-        only {P = IsMet p.files codes} (special_by class.name id (method_found w id)) key (of_special n class id named plain (subst (λ o. IsInsnOf p.files codes class (jop.Call o id)) same of)) h
+        only (IsMet p.files codes) (special_by class.name id (method_found w id)) key (of_special n class id named plain (subst (λ o. IsInsnOf p.files codes class (jop.Call o id)) same of)) h
     source_met near n class named plain op i of (sources.static_call {op = opcode} {m = id} no_virtual no_special no_interface) key h =
         let same = opcodes of.code of.place of.insn opcode id of.listed of.is_insn of.is_op no_virtual no_special no_interface in
-        only {P = IsMet p.files codes} (keys.StaticMethod (resolved_method w id)) key (of_call class id (subst (λ o. IsInsnOf p.files codes class (jop.Call o id)) same of)) h
+        only (IsMet p.files codes) (keys.StaticMethod (resolved_method w id)) key (of_call class id (subst (λ o. IsInsnOf p.files codes class (jop.Call o id)) same of)) h
     source_met near n class named plain op i of (sources.interface_call {op = opcode} {m = id} same) key h =
         let c = called class opcode id of in
         let owner = c.owner in
         let known : class_named w (let q = resolved_method w id in q.class) ≡ Some owner = ap (λ (q : MemberId). class_named w q.class) c.resolved ∙ c.named in
-        only {P = IsMet p.files codes} (keys.Class (let q = resolved_method w id in q.class)) key (of_class owner known) h
-    source_met near n class named plain op i of (sources.of_class {class = name}) key h = (let c = class_of_new class name of in only {P = IsMet p.files codes} (keys.Class name) key (of_class c.0 c.1) h)
-    source_met near n class named plain op i of (sources.of_array {class = name}) key h = (let c = class_of_array class name of in only {P = IsMet p.files codes} (keys.Class name) key (of_class c.0 c.1) h)
+        only (IsMet p.files codes) (keys.Class (let q = resolved_method w id in q.class)) key (of_class owner known) h
+    source_met near n class named plain op i of (sources.of_class {class = name}) key h = (let c = class_of_new class name of in only (IsMet p.files codes) (keys.Class name) key (of_class c.0 c.1) h)
+    source_met near n class named plain op i of (sources.of_array {class = name}) key h = (let c = class_of_array class name of in only (IsMet p.files codes) (keys.Class name) key (of_class c.0 c.1) h)
     source_met near n class named plain op i of (sources.of_cast {name = name} {class = x} names) key h =
         let there = cast_there list.name p.files codes (settings_of list) u (are_spelt list files judged p is) class name of in
         let c = class_of_type x (shape_named name) there.0 there.1 there.2 names in
-        only {P = IsMet p.files codes} (keys.Class x) key (of_class c.0 c.1) h
+        only (IsMet p.files codes) (keys.Class x) key (of_class c.0 c.1) h
     source_met near n class named plain op i of (sources.of_test {name = name} {class = x} names) key h =
         let there = test_there list.name p.files codes (settings_of list) u (are_spelt list files judged p is) class name of in
         let c = class_of_type x (shape_named name) there.0 there.1 there.2 names in
-        only {P = IsMet p.files codes} (keys.Class x) key (of_class c.0 c.1) h
+        only (IsMet p.files codes) (keys.Class x) key (of_class c.0 c.1) h
 
     insn_met : (k : ℕ) (m : LaidMethod) (e : slice_get p.methods k ≡ Some m) (j : ℕ) (insn : NInsn) → (let code = m.code in slice_get code.insns j ≡ Some insn) → (key : PoolKey) → Has key (insn_keys insn) → IsMet p.files codes key
     insn_met k m e j insn f key h =
@@ -164,7 +164,7 @@ module _ (list : ListTree) (files : List (List ℕ)) (judged : Judged) (p : Pack
             let s = has_catch list files judged p is k m e j c f in
             let x = s.handler in
             let at = class_there w name (caught_there p.files codes u.names s.code _ s.method s.tree s.of s.listed x name s.there (s.same ∙ g)) in
-            only {P = IsMet p.files codes} (keys.Class name) key (of_class at.0 at.1) h
+            only (IsMet p.files codes) (keys.Class name) key (of_class at.0 at.1) h
 
     -- ---- all keys
 

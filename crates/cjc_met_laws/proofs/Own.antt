@@ -134,7 +134,7 @@ module _ (list : ListTree) (files : List (List ℕ)) (judged : Judged) (p : Pack
 
   -- the first of its name and descriptor, from the class that declares it
   declared_found : (id : MemberId) (d : Class) (f : Found) → class_named w d.name ≡ Some d → (at : IsFieldAt id.name id.desc d f) → find_field w d.name id.name id.desc ≡ Some (member_at d at.place)
-  unfolding own_field
+  unfolding own_field is_twice
   declared_found id d f named at =
       let rules = rules_of list.name p (files_sound list files judged p is) d.name d named in
       let m = at.member in
@@ -196,6 +196,14 @@ module _ (list : ListTree) (files : List (List ℕ)) (judged : Judged) (p : Pack
 
   -- ---- static fields
 
+  -- the value of a field of the package, where it is a constant
+  constant_by : (d : Class) (place : ℕ) (m : Member) → d.is_imported ≡ false → (t : IsDeclared d place m) → constant_at p.files (member_at d place) ≡ (let x = t.tree in if may_be_constant x.flags x.desc then x.constant else None)
+  constant_by d place m own t =
+      let v = p.files in
+      ap (λ b. if b then option_and_then (exported_constant place) (slice_get (flat_map (λ t. t.classes) v.exports) d.number) else option_and_then (constant_in place) (slice_get v.classes d.number)) own
+      ∙ ap (option_and_then (constant_in place)) t.is_file
+      ∙ ap (option_and_then (λ (q : FieldTree). if may_be_constant q.flags q.desc then q.constant else None)) t.in_file
+
   -- one whose value no constant gives is no constant
   no_value : (b : Bool) (o : Option ℤ) → (if b then o else None) ≡ None → (b && is_some o) ≡ false
   no_value true None e = refl
@@ -210,11 +218,9 @@ module _ (list : ListTree) (files : List (List ℕ)) (judged : Judged) (p : Pack
       let t = declared_by d n.named own at.place at.member at.is_member in
       let x = t.tree in
       let static : is_static x.flags ≡ true = sym (ap (λ (q : Member). is_static q.flags) t.same) ∙ n.is_static in
-      let value : constant_at p.files (member_at d at.place) ≡ None = ap (constant_at p.files) (sym at.is) ∙ sym (ap (option_and_then (constant_at p.files)) n.found) ∙ none in
-      let told_value : (if may_be_constant x.flags x.desc then x.constant else None) ≡ None =
-      sym (ap (λ b. if b then option_and_then (exported_constant at.place) (slice_get (flat_map (λ t. t.classes) (let v = p.files in v.exports)) d.number) else option_and_then (constant_in at.place) (slice_get (let v = p.files in v.classes) d.number)) own
-      ∙ ap (option_and_then (constant_in at.place)) t.is_file
-      ∙ ap (option_and_then (λ (q : FieldTree). if may_be_constant q.flags q.desc then q.constant else None)) t.in_file) ∙ value in
+      let its : constant_named p.files w id ≡ constant_at p.files n.place = ap (option_and_then (constant_at p.files)) n.found in
+      let value : constant_at p.files (member_at d at.place) ≡ None = ap (constant_at p.files) (sym at.is) ∙ (sym its ∙ none) in
+      let told_value : (if may_be_constant x.flags x.desc then x.constant else None) ≡ None = sym (constant_by d at.place at.member own t) ∙ value in
       let variable : is_constant x ≡ false = no_value (may_be_constant x.flags x.desc) x.constant told_value in
       let name : (let c = t.file in c.name) ≡ d.name = sym (ap (λ (v : Class). v.name) t.is_class) in
       let id_is : field_id d.name x ≡ of_class d.name id =

@@ -74,6 +74,7 @@ module _ (p : Package) (key : PoolKey) where
       let first = filter is_field seen in
       let others = filter (λ q. not (is_field q)) seen in
       let h = once_has [] (any_exception (codes p) ++ first ++ others) key (get-has key (pool p) k e) in
-      ⊎_elim any_named
-      (λ rest. ⊎_elim (λ g. seen_named (filter_has is_field seen key g)) (λ g. seen_named (filter_has (λ q. not (is_field q)) seen key g)) (has_either key first others rest))
-      (has_either key (any_exception (codes p)) (first ++ others) h)
+      ⊎_elim
+      (λ front. ⊎_elim any_named (λ g. seen_named (filter_has is_field seen key g)) (has_either key (any_exception (codes p)) first front))
+      (λ g. seen_named (filter_has (λ q. not (is_field q)) seen key g))
+      (has_either key (any_exception (codes p) ++ first) others h)
