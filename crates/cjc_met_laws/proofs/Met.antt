@@ -24,7 +24,6 @@ use Rattle.cjc_narrow_laws.specs.Unbroken.{IsInsnOf, IsUnbroken}
 use Rattle.cjc_narrow_laws.proofs.Casts.{cast_there, test_there}
 use Rattle.cjc_narrow_laws.proofs.Handlers.{caught_there, class_there}
 use Rattle.cjc_narrow_laws.proofs.Instructions.{array_of_class, new_fields, op_fit, op_there}
-
 use Rattle.cjc_narrow_runs.specs.Types as types
 use Rattle.cjc_narrow_runs.specs.Types.{IsThere}
 use Rattle.cjc_ncode.specs.PoolOrder.{class_key, insn_keys}

@@ -8,7 +8,9 @@ ghost use Rattle.cjc_component_laws.specs.Whole.{exports_of};
 ghost use Rattle.cjc_components.specs.Components.{components_of};
 ghost use Rattle.cjc_components.specs.Package.{Package, world};
 ghost use Rattle.cjc_converted_laws.specs.Left.{NamesAreMet};
+ghost use Rattle.cjc_fitting_laws.specs.LaidOut.{AidsAreShort};
 ghost use Rattle.cjc_flag_laws.specs.Exports.{ExportsHaveOneAccess};
+ghost use Rattle.cjc_judge.specs.Spelt.{IsRead};
 ghost use Rattle.cjc_judge.specs.declared.judged.Judged.{Judged};
 ghost use Rattle.cjc_list.specs.Listed.{ListTree};
 ghost use Rattle.cjc_sentences.specs.Consistent.{Consistent};
@@ -21,6 +23,11 @@ use cjc_converted_laws::converted_components_are_consistent;
 use cjc_fitting_laws::interfaces_and_applets_fit;
 use cjc_tables_by_token::static_fields_are_told;
 use cjc_written_laws::converted_files_are_sound;
+
+/// The AID of each applet of a list that was read has at most 16 bytes.
+pub fn lists_have_short_aids()
+    ensures { (list : ListTree) → IsRead list → AidsAreShort list }
+{}
 
 /// No method of an export file of a converted package is private beside public or protected, and the class of each of its
 /// applets is one with an install method and no interface.
