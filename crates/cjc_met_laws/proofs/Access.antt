@@ -1,5 +1,5 @@
 -- The access of methods in the export files of a converted package.
-use Rattle.std.proofs.Common.{◌≡◌, ℕ, suc, refl, ap, subst, ◌∙◌, true, false, List, [], ◌∷◌, map}
+use Rattle.std.proofs.Common.{◌≡◌, ℕ, suc, refl, ap, ◌∙◌, true, false, List, [], ◌∷◌}
 use Rattle.std.specs.Prelude.{Some, slice_get}
 use Rattle.cjc_bytes.specs.AccessFlags.{is_private}
 use Rattle.cjc_call_laws.proofs.Own.{mapped_at}

@@ -1,6 +1,6 @@
 -- The cells of a converted package's static image: each has the bytes of its group, and each static field that is no constant has one.
-use Rattle.std.proofs.Common.{◌≡◌, ◌≢◌, inl, inr, ⊎_elim, ℕ, zero, suc, ◌<◌, refl, sym, ap, subst, ◌∙◌, arith, Bool, true, false, List, [], ◌∷◌, ◌++◌, append_assoc, length, map, ℤ}
-use Rattle.std.specs.Prelude.{◌||◌, All, Option, Some, None, cond, filter, flat_map, slice_get, if◌then◌else◌}
+use Rattle.std.proofs.Common.{◌≡◌, ℕ, suc, ◌<◌, refl, sym, ap, ◌∙◌, arith, Bool, true, false, List, [], ◌∷◌, ◌++◌, append_assoc, length, map, ℤ}
+use Rattle.std.specs.Prelude.{◌||◌, All, Some, cond, filter, slice_get}
 use Rattle.std.specs.List.{AllByRecursion, list_any}
 use Rattle.cjc_bytecode.specs.Effects as letters
 use Rattle.cjc_bytes.specs.declared.fault.MemberId.{MemberId}

@@ -1,5 +1,5 @@
 pub mod PoolKeys
-pub mod Met
+pub mod KeySources
 pub mod Descs
 pub mod Clean
 pub mod Aids

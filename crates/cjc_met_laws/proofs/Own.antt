@@ -1,25 +1,25 @@
 -- Fields and methods of a converted package that its code names, as entries of its pool name them.
-use Rattle.std.proofs.Common.{◌≡◌, inl, inr, ⊎_elim, ℕ, zero, suc, ◌+◌, refl, sym, ap, subst, ◌∙◌, Bool, true, false, not, List, [], ◌∷◌, length}
-use Rattle.std.specs.Prelude.{◌&&◌, ◌||◌, ◌==◌, Option, Some, None, flat_map, is_some, option_and_then, option_map, position, slice_get, if◌then◌else◌, ℤ}
+use Rattle.std.proofs.Common.{◌≡◌, ℕ, suc, ◌+◌, refl, sym, ap, subst, ◌∙◌, Bool, true, false, not, List, [], ◌∷◌, length}
+use Rattle.std.specs.Prelude.{◌&&◌, ◌||◌, ◌==◌, Option, Some, None, flat_map, is_some, option_and_then, option_map, slice_get, if◌then◌else◌, ℤ}
 use Rattle.std.specs.List.{list_any}
 use Rattle.std.specs.Str.{bytes_eq}
 use Rattle.std.proofs.lemmas.Bool.{eqb-true}
+use Rattle.cjc_bytes.proofs.Inverse.{all_at}
 use Rattle.cjc_bytes.specs.AccessFlags.{is_final, is_interface, is_static}
 use Rattle.cjc_bytes.specs.declared.fault.MemberId.{MemberId}
 use Rattle.cjc_by_name.specs.OnePackage.{constant_at, constant_in, exported_constant, is_initialiser, of_class}
 use Rattle.cjc_by_token.specs.Cells.{HasCells, is_one_of}
-use Rattle.cjc_call_laws.proofs.Own.{IsAt, IsFieldAt, mapped_at}
+use Rattle.cjc_call_laws.proofs.Own.{IsFieldAt, mapped_at}
 use Rattle.cjc_call_laws.specs.Solid.{IsSolid}
 use Rattle.cjc_calls_by_token.specs.Reaching.{is_same}
 use Rattle.cjc_classfile.specs.declared.tree.ClassTree.{ClassTree}
 use Rattle.cjc_classfile.specs.declared.tree.FieldTree.{FieldTree}
 use Rattle.cjc_clinit.specs.Image.{field_id}
-use Rattle.cjc_code.specs.declared.method_code.MethodCode.{MethodCode}
 use Rattle.cjc_code_consistency.specs.Members.{CellsFit, IsOwnCell, IsOwnClass, IsOwnField, IsOwnMethod}
+use Rattle.cjc_component_laws.proofs.Apart.{IsOwn, order_own}
 use Rattle.cjc_components.specs.Class.{fields_in, fields_of}
 use Rattle.cjc_components.specs.Package.{Package, world}
 use Rattle.cjc_export.specs.Members.{is_constant_type, may_be_constant}
-use Rattle.cjc_export.specs.declared.tree.ExportClass.{ExportClass}
 use Rattle.cjc_judge.specs.Rules.{settings_of}
 use Rattle.cjc_judge.specs.declared.judged.Judged.{Judged}
 use Rattle.cjc_list.specs.Listed.{ListTree}
@@ -35,18 +35,17 @@ use Rattle.cjc_tables_by_token.specs.Known.{order_of, statics_of}
 use Rattle.cjc_tokens.specs.Fields.{is_constant}
 use Rattle.cjc_vtable.proofs.Filed.{IsFiled, filed, in_class_file, in_export_file}
 use Rattle.cjc_world.specs.Classes.{Class, Member, class_named, declared, field_of_class, field_of_export, imported}
-use Rattle.cjc_world.specs.Kin.{IsAcyclic, IsKin, Kin, Known, kin, known_here, unknown_here}
+use Rattle.cjc_world.specs.Kin.{IsAcyclic, IsKin, Kin, kin, known_here, unknown_here}
 use Rattle.cjc_world.specs.Lookup.{field_in, find_field, is_called, member_at, or_else, own_field}
 use Rattle.cjc_world.specs.Order.{method_order}
 use Rattle.cjc_world.specs.Rules.{is_twice}
 use Rattle.cjc_world.specs.declared.found.Found.{Found}
 use Rattle.cjc_world.proofs.Settled.{bytes-refl, kin-IsKin}
 use Rattle.cjc_written_calls.proofs.Found.{stands_in_method}
-use Rattle.cjc_written_calls.proofs.Orders.{method_own}
 use Rattle.cjc_written_laws.specs.Converted.{IsConverted}
 use Rattle.cjc_written_laws.proofs.Files.{files_sound, own_unbroken}
 use Rattle.cjc_written_laws.proofs.Worlds.{own_ordered, own_solid}
-use Rattle.cjc_met_laws.proofs.Cells.{cells_fit, has_cell, is_static_of}
+use Rattle.cjc_met_laws.proofs.Cells.{has_cell, is_static_of}
 
 -- ---- lists
 
@@ -250,7 +249,7 @@ module _ (list : ListTree) (files : List (List ℕ)) (judged : Judged) (p : Pack
       let m = at.member in
       let no_initialiser : is_initialiser m.name ≡ false = ap is_initialiser at.has_name ∙ (let g = n.fits in g.no_initialiser) in
       let stands = stands_in_method w c.place d c.there plain own at.place m at.is_member no_initialiser in
-      let place = same_there (member_at d (length d.fields + at.place)) (method_order w) (method_own w) stands own in
+      let place = same_there (member_at d (length d.fields + at.place)) (method_order w) (λ k f e. all_at IsOwn (method_order w) k f (order_own w) e) stands own in
       record {
         class = d;
         member = n.place;

@@ -1,5 +1,5 @@
 -- Where the keys of a package's pool come from: each is one that an instruction or a handler of its methods names, or that of any exception.
-use Rattle.std.proofs.Common.{◌≡◌, ◌⊎◌, inl, inr, ⊎_elim, ℕ, refl, sym, ap, subst, ◌∙◌, Bool, true, false, not, List, [], ◌∷◌, ◌++◌, map}
+use Rattle.std.proofs.Common.{◌≡◌, ⊎_elim, ℕ, sym, subst, Bool, true, false, not, List, [], ◌∷◌, ◌++◌}
 use Rattle.std.specs.Prelude.{Some, filter, flat_map, slice_get, if◌then◌else◌}
 use Rattle.std.specs.List.{list_any}
 use Rattle.cjc_class_laws.proofs.Lists.{has-mapped, has-other}

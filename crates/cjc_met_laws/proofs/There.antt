@@ -1,7 +1,6 @@
 -- Each key of a converted package's pool names a class that some file has, has a descriptor whose types are there, and names what is there.
-use Rattle.std.proofs.Common.{◌≡◌, ◌⊎◌, inl, inr, ⊎_elim, ℕ, ◌<◌, ◌^◌, refl, sym, ap, subst, ◌∙◌, arith, Bool, true, false, List, [], ◌∷◌, length}
-use Rattle.std.specs.Prelude.{◌||◌, Option, Some, None, is_some, option_and_then, slice_get, if◌then◌else◌}
-use Rattle.std.specs.List.{AllByRecursion}
+use Rattle.std.proofs.Common.{◌≡◌, ⊎_elim, ℕ, ◌<◌, ◌^◌, refl, sym, ap, subst, ◌∙◌, Bool, true, false, List, [], ◌∷◌, length}
+use Rattle.std.specs.Prelude.{◌||◌, is_some, option_and_then, if◌then◌else◌}
 use Rattle.cjc_bytes.specs.AccessFlags.{is_interface, is_private, is_static}
 use Rattle.cjc_bytes.specs.declared.fault.MemberId.{MemberId}
 use Rattle.cjc_by_name.specs.OnePackage.{is_constructor, method_hit, of_class}
@@ -12,7 +11,7 @@ use Rattle.cjc_code.specs.declared.insn.JOp.TheVariants as jop
 use Rattle.cjc_code.specs.declared.method_code.MethodCode.{MethodCode}
 use Rattle.cjc_code_consistency.specs.Members as members
 use Rattle.cjc_code_consistency.specs.Members.{CellsFit}
-use Rattle.cjc_components.specs.Package.{Package, pool, world}
+use Rattle.cjc_components.specs.Package.{Package, world}
 use Rattle.cjc_components.specs.Types.{desc_of_key}
 use Rattle.cjc_export.specs.Members.{is_unbound}
 use Rattle.cjc_fitting_laws.proofs.Order.{has_cons, has_none}
@@ -25,16 +24,14 @@ use Rattle.cjc_narrow_finds.proofs.Descs.{member_desc}
 use Rattle.cjc_narrow_laws.proofs.Instructions.{op_there}
 use Rattle.cjc_narrow_laws.specs.Unbroken.{IsInsnOf}
 use Rattle.cjc_subset.specs.Names.{is_name_missing, names_missing}
-use Rattle.cjc_narrow.specs.Resolved.{method_found, resolved_field, resolved_method, special_by, virtual_by}
-use Rattle.cjc_ncode.specs.ByLabel.{OnObject, OnSuper}
+use Rattle.cjc_narrow.specs.Resolved.{method_found, resolved_method, special_by, virtual_by}
 use Rattle.cjc_ncode.specs.declared.narrow.PoolKey.{PoolKey}
 use Rattle.cjc_ncode.specs.declared.narrow.PoolKey.TheVariants as keys
 use Rattle.cjc_tables_by_token.specs.Known.{order_of, statics_of}
 use Rattle.cjc_token_consistency.specs.Keys.{IsThere, called as called_object, called_above, member}
 use Rattle.cjc_vtable.proofs.Filed.{Has}
-use Rattle.cjc_world.specs.Classes.{Class, class_named, declared}
+use Rattle.cjc_world.specs.Classes.{Class, class_named}
 use Rattle.cjc_world.specs.Rules.{is_desc_missing}
-use Rattle.cjc_written_calls.specs.Calls.{IsNamed}
 use Rattle.cjc_written_laws.specs.Converted.{IsConverted}
 use Rattle.cjc_written_laws.proofs.Files.{own_unbroken, read_files}
 use Rattle.cjc_written_laws.proofs.Worlds.{own_solid}
@@ -42,8 +39,8 @@ use Rattle.cjc_met_laws.specs.Named.{VirtualCallsAreNamed}
 use Rattle.cjc_met_laws.proofs.Abroad.{abroad_named}
 use Rattle.cjc_met_laws.proofs.Access.{visible}
 use Rattle.cjc_met_laws.proofs.Descs.{desc_known}
-use Rattle.cjc_met_laws.proofs.Met as met
-use Rattle.cjc_met_laws.proofs.Met.{IsMet}
+use Rattle.cjc_met_laws.proofs.KeySources as sources
+use Rattle.cjc_met_laws.proofs.KeySources.{IsMet}
 use Rattle.cjc_met_laws.proofs.Own.{Names_method, field_own, own_cell_named, own_field_named, own_method_named}
 use Rattle.cjc_met_laws.proofs.Types.{IsKnownDesc, field_desc}
 
@@ -97,17 +94,17 @@ module _ (list : ListTree) (files : List (List ℕ)) (judged : Judged) (p : Pack
   -- ---- classes
 
   pub key_known : (key : PoolKey) → IsMet p.files codes key → names_known w key ≡ true
-  key_known _ (met.of_class c e) = ap is_some e
-  key_known _ (met.of_field class put id of) =
+  key_known _ (sources.of_class c e) = ap is_some e
+  key_known _ (sources.of_field class put id of) =
       let n = field_named list.name p.files codes (settings_of list) (own_unbroken list files judged p is) (own_solid list files judged p is) class put id of in
       ap (λ (q : MemberId). is_some (class_named w q.class)) n.resolved ∙ ap is_some n.named
-  key_known _ (met.of_static class put id of none) = refl
-  key_known _ (met.of_virtual class id of) =
+  key_known _ (sources.of_static class put id of none) = refl
+  key_known _ (sources.of_virtual class id of) =
       let n = called list files judged p is class 0xB6 id of in
       virtual_key (λ m. names_known w (keys.Virtual m) ≡ true) class id n (ap is_some n.named) (λ own. ap is_some n.names_class)
-  key_known _ (met.of_special k class id named plain of) =
+  key_known _ (sources.of_special k class id named plain of) =
       special_key (λ key. names_known w key ≡ true) class.name class id (called list files judged p is class 0xB7 id of) (λ e. refl) (λ e. refl) (λ e. ap is_some named)
-  key_known _ (met.of_call class id of) = refl
+  key_known _ (sources.of_call class id of) = refl
 
   -- ---- descriptors
 
@@ -124,21 +121,21 @@ module _ (list : ListTree) (files : List (List ℕ)) (judged : Judged) (p : Pack
   only_desc desc known is_known h = ⊎_elim (λ same. subst (IsKnownDesc list files judged p is) (sym same) is_known) (λ none. has_none desc none) (has_cons desc known [] h)
 
   pub key_desc : (key : PoolKey) → IsMet p.files codes key → (desc : List ℕ) → Has desc (desc_of_key key) → IsKnownDesc list files judged p is desc
-  key_desc _ (met.of_class c e) desc h = has_none desc h
-  key_desc _ (met.of_field class put id of) desc h =
+  key_desc _ (sources.of_class c e) desc h = has_none desc h
+  key_desc _ (sources.of_field class put id of) desc h =
       let n = field_named list.name p.files codes (settings_of list) (own_unbroken list files judged p is) (own_solid list files judged p is) class put id of in
       only_desc desc id.desc (field_desc list files judged p is id false n (field_own list files judged p is id n)) (subst (λ (q : MemberId). Has desc (q.desc ∷ [])) n.resolved h)
-  key_desc _ (met.of_static class put id of none) desc h =
+  key_desc _ (sources.of_static class put id of none) desc h =
       let n = static_named list.name p.files codes (settings_of list) (own_unbroken list files judged p is) (own_solid list files judged p is) class put id of in
       let own = static_own list.name p.files codes (settings_of list) (own_unbroken list files judged p is) (own_solid list files judged p is) id n none in
       only_desc desc id.desc (field_desc list files judged p is id true n own) (subst (λ (q : MemberId). Has desc (q.desc ∷ [])) n.resolved h)
-  key_desc _ (met.of_virtual class id of) desc h =
+  key_desc _ (sources.of_virtual class id of) desc h =
       virtual_key (λ m. Has desc (m.desc ∷ []) → IsKnownDesc list files judged p is desc) class id (called list files judged p is class 0xB6 id of)
       (only_desc desc id.desc (call_desc class 0xB6 id of)) (λ own. only_desc desc id.desc (call_desc class 0xB6 id of)) h
-  key_desc _ (met.of_special k class id named plain of) desc h =
+  key_desc _ (sources.of_special k class id named plain of) desc h =
       special_key (λ key. Has desc (desc_of_key key) → IsKnownDesc list files judged p is desc) class.name class id (called list files judged p is class 0xB7 id of)
       (λ e. only_desc desc id.desc (call_desc class 0xB7 id of)) (λ e. only_desc desc id.desc (call_desc class 0xB7 id of)) (λ e. only_desc desc id.desc (call_desc class 0xB7 id of)) h
-  key_desc _ (met.of_call class id of) desc h =
+  key_desc _ (sources.of_call class id of) desc h =
       let n = called list files judged p is class 0xB8 id of in
       only_desc desc id.desc (call_desc class 0xB8 id of) (subst (λ (q : MemberId). Has desc (q.desc ∷ [])) n.resolved h)
 
@@ -155,15 +152,15 @@ module _ (list : ListTree) (files : List (List ℕ)) (judged : Judged) (p : Pack
 
   module _ (told : HasCells (order_of p.image) (statics_of (let v = p.files in v.classes))) (fit : CellsFit p.image) (calls : VirtualCallsAreNamed p codes) where
     pub key_there : (key : PoolKey) → IsMet p.files codes key → IsThere p key
-    key_there _ (met.of_class c e) = member members.of_class
-    key_there _ (met.of_field class put id of) =
+    key_there _ (sources.of_class c e) = member members.of_class
+    key_there _ (sources.of_field class put id of) =
         let n = field_named list.name p.files codes (settings_of list) (own_unbroken list files judged p is) (own_solid list files judged p is) class put id of in
         subst (λ q. IsThere p (keys.Field q)) (sym n.resolved) (member (members.of_field (own_field_named list files judged p is id n)))
-    key_there _ (met.of_static class put id of none) =
+    key_there _ (sources.of_static class put id of none) =
         let n = static_named list.name p.files codes (settings_of list) (own_unbroken list files judged p is) (own_solid list files judged p is) class put id of in
         subst (λ q. IsThere p (keys.StaticField q)) (sym n.resolved) (member (members.of_cell (own_cell_named list files judged p is told fit id n none)))
-    key_there _ (met.of_virtual class id of) = called_object (calls.virtual class id of)
-    key_there _ (met.of_special k class id named plain of) = special_key (IsThere p) class.name class id n
+    key_there _ (sources.of_virtual class id of) = called_object (calls.virtual class id of)
+    key_there _ (sources.of_special k class id named plain of) = special_key (IsThere p) class.name class id n
         (λ e. fixed_there class 0xB7 id n (fixed_in_class list files judged p is class 0xB7 id n (third (is_static flags) (is_private flags) (is_constructor id.name) e)) (λ import. bound e))
         (λ e. fixed_there class 0xB7 id n (fixed_in_class list files judged p is class 0xB7 id n (second (is_static flags) (is_private flags) (is_constructor id.name) e)) (λ import. not_abroad import e))
         (λ e. called_above (calls.above class id (of_class class.name id) of e))
@@ -195,7 +192,7 @@ module _ (list : ListTree) (files : List (List ℕ)) (judged : Judged) (p : Pack
         not_abroad import e =
             let open_one = visible list files judged p is (let d = n.owner in d.name) n.owner n.named import (let a = n.at in a.place) (let a = n.at in a.member) (let a = n.at in a.is_member) in
             true_not_false (is_private flags) e open_one
-    key_there _ (met.of_call class id of) =
+    key_there _ (sources.of_call class id of) =
         let n = called list files judged p is class 0xB8 id of in
         let flags = (let a = n.at in let m = a.member in m.flags) in
         let static : is_static flags ≡ true = (let g = n.fits in g.of_class) refl in

@@ -1,6 +1,6 @@
 -- The descriptors of a converted package, those of its pool and of its classes, name classes that some file has.
-use Rattle.std.proofs.Common.{◌≡◌, inl, inr, ⊎_elim, ℕ, ◌<◌, ◌^◌, refl, sym, ap, subst, ◌∙◌, arith, Bool, true, false, List, [], ◌∷◌, ◌++◌, length, map}
-use Rattle.std.specs.Prelude.{◌||◌, Option, Some, None, flat_map, option_and_then, slice_get, if◌then◌else◌}
+use Rattle.std.proofs.Common.{◌≡◌, ⊎_elim, ℕ, sym, ap, subst, ◌∙◌, arith, Bool, true, false, List, [], ◌∷◌, ◌++◌, map}
+use Rattle.std.specs.Prelude.{Some, flat_map, slice_get, if◌then◌else◌}
 use Rattle.std.specs.Str.{bytes_eq}
 use Rattle.std.specs.Prelude.{codes as bytes_of}
 use Rattle.std.proofs.lemmas.Option.{slice_get_within}
@@ -16,7 +16,6 @@ use Rattle.cjc_fitting_laws.proofs.Lists.{mapped_at}
 use Rattle.cjc_fitting_laws.proofs.Meant.{added_method}
 use Rattle.cjc_fitting_laws.proofs.Order.{has_cons, has_either, has_none, order_filed}
 use Rattle.cjc_fitting_laws.specs.LaidOut.{IsLaidOut}
-use Rattle.cjc_judge.specs.Rules.{settings_of}
 use Rattle.cjc_judge.specs.declared.judged.Judged.{Judged}
 use Rattle.cjc_list.specs.Listed.{ListTree}
 use Rattle.cjc_narrow_finds.proofs.Descs.{member_desc}

@@ -20,7 +20,7 @@ ghost use Rattle.cjc_met_laws.specs.Named.{VirtualCallsAreNamed};
 
 use cjc_call_opcodes::calls_have_opcodes;
 use cjc_converted_laws::converted_components_are_consistent;
-use cjc_fitting_laws::interfaces_and_applets_fit;
+use cjc_fitting_laws::{interfaces_and_applets_fit, static_images_fit};
 use cjc_tables_by_token::static_fields_are_told;
 use cjc_written_laws::converted_files_are_sound;
 
@@ -68,6 +68,7 @@ pub fn members_are_there()
     calls_have_opcodes();
     converted_files_are_sound();
     static_fields_are_told();
+    static_images_fit();
 }
 
 /// So its names are met, and its components are consistent with the export files that it imports.

@@ -1,4 +1,4 @@
-use Rattle.cjc_met_laws.proofs.Met.{key_met}
+use Rattle.cjc_met_laws.proofs.KeySources.{key_met}
 use Rattle.cjc_met_laws.proofs.There.{key_known}
 use Rattle.cjc_met_laws.proofs.keys_are_known.Goals as goal
 

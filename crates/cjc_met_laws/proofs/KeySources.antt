@@ -1,6 +1,6 @@
 -- What each key of a converted package's pool names, by the instruction of a class file that names it.
-use Rattle.std.proofs.Common.{◌≡◌, inl, inr, ⊎_elim, ℕ, refl, sym, ap, subst, ◌∙◌, Bool, true, false, List, [], ◌∷◌}
-use Rattle.std.specs.Prelude.{◌==◌, Option, Some, None, option_and_then, slice_get, if◌then◌else◌}
+use Rattle.std.proofs.Common.{◌≡◌, ⊎_elim, ℕ, refl, sym, ap, subst, ◌∙◌, Bool, true, false, List, [], ◌∷◌}
+use Rattle.std.specs.Prelude.{Option, Some, None, option_and_then, slice_get, if◌then◌else◌}
 use Rattle.cjc_bytes.specs.AccessFlags.{is_interface}
 use Rattle.cjc_bytes.specs.declared.fault.MemberId.{MemberId}
 use Rattle.cjc_by_name.specs.OnePackage.{is_made, object_fields}
@@ -36,7 +36,6 @@ use Rattle.cjc_script.specs.Sorts.{OfClass, OfReferences, Shape, shape_named}
 use Rattle.cjc_vtable.proofs.Filed.{Has}
 use Rattle.cjc_world.specs.Classes.{Class, all_classes, class_named, declared}
 use Rattle.cjc_world.specs.Files.{Files}
-use Rattle.cjc_world.specs.Lookup.{object}
 use Rattle.cjc_written_laws.specs.Converted.{IsConverted}
 use Rattle.cjc_written_laws.proofs.Files.{are_spelt, own_unbroken}
 use Rattle.cjc_written_laws.proofs.Worlds.{own_solid}
