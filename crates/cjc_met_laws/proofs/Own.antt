@@ -225,7 +225,7 @@ module _ (list : ListTree) (files : List (List ℕ)) (judged : Judged) (p : Pack
       let id_is : field_id d.name x ≡ of_class d.name id =
       ap (λ v. record { class = d.name; name = v; desc = x.desc }) (sym (ap (λ (q : Member). q.name) t.same) ∙ at.has_name)
       ∙ ap (λ v. record { class = d.name; name = id.name; desc = v }) (sym (ap (λ (q : Member). q.desc) t.same) ∙ at.has_desc) in
-      let among = is_static_of (let v = p.files in v.classes) d.number t.file at.place x t.is_file t.in_file (ap (λ b. b && not (is_constant x)) static ∙ ap not variable) in
+      let among = is_static_of (let v = p.files in v.classes) d.number t.file at.place x t.is_file t.in_file (both_true (is_static x.flags) (not (is_constant x)) static (ap not variable)) in
       record {
         class = d;
         place = at.place;
