@@ -100,9 +100,12 @@ module _ {P C F S M X Q D G T N Y : Type 0} (n : Names P C F S M X Q D G T N Y) 
 
   -- ---- exceptions
 
-  caught_together : (from from' : ℕ) (frames : List (Frame P)) (object : ℕ) (kind : Shape C) (s : State P C F X) → KnownShape known kind → Frames frames → KnownMemory known s.memory → Together (Machine.caught set from frames object kind s) (Machine.caught set' from' (map there frames) object (shape_as n.class kind) (moved s))
+  receiver_of : (t : HeapObject C F) → KnownHeapObject known t → KnownThing n known KnownCode KnownMethod (shape t)
+  receiver_of t kt = record { thing = t; is_known = kt; is_of = refl }
+
+  caught_together : (from from' : ℕ) (frames : List (Frame P)) (object : ℕ) (kind : Shape C) (s : State P C F X) → KnownThing n known KnownCode KnownMethod kind → Frames frames → KnownMemory known s.memory → Together (Machine.caught set from frames object kind s) (Machine.caught set' from' (map there frames) object (shape_as n.class kind) (moved s))
   caught_together from from' [] object kind s kk no_frames km =
-      subst (λ k. Together (Next (record s { frames = []; notes = s.notes ++ Thrown (Machine.type_name set kind) object ∷ [] })) (Next (record (moved s) { frames = []; notes = s.notes ++ Thrown k object ∷ [] }))) (sym (named_there kind kk))
+      subst (λ k. Together (Next (record s { frames = []; notes = s.notes ++ Thrown (Machine.type_name set kind) object ∷ [] })) (Next (record (moved s) { frames = []; notes = s.notes ++ Thrown k object ∷ [] }))) (sym (named_there kind (subst (KnownShape known) kk.is_of (shape_known known kk.is_known))))
       (onward (record s { frames = []; notes = s.notes ++ Thrown (Machine.type_name set kind) object ∷ [] }) (record { frames = no_frames; memory = km }))
   caught_together from from' (f ∷ outer) object kind s kk (one_frame kc ks) km =
       subst (λ o. Together (Machine.caught set from (f ∷ outer) object kind s) (Machine.caught_at set' o from' (there f) (map there outer) object (moved s) (Machine.caught set' from' (map there outer) object (shape_as n.class kind) (moved s)))) (sym (alike.handler f.code f.at kind kc kk))
@@ -132,7 +135,7 @@ module _ {P C F S M X Q D G T N Y : Type 0} (n : Names P C F S M X Q D G T N Y) 
       subst (λ t. Together one (two (length (things s.memory.heap)) (things s.memory.heap ++ t ∷ []))) (bare_there c kt)
       (subst (λ k. Together one (two k (things s.memory.heap ++ thing (Object c []) ∷ []))) (sym (length_as thing s.memory.heap))
       (subst (λ h. Together one (two (length s.memory.heap) h)) (sym (map_last thing s.memory.heap (Object c [])))
-      (caught_together f.at (n.to f.code f.at) (f ∷ outer) (length s.memory.heap) (OfClass c) new (shape_known known kt) kf (grown_known s (Object c []) km kt))))
+      (caught_together f.at (n.to f.code f.at) (f ∷ outer) (length s.memory.heap) (OfClass c) new (receiver_of (Object c []) kt) kf (grown_known s (Object c []) km kt))))
 
   failed_together : (fault : Fault) (f : Frame P) (outer : List (Frame P)) (s : State P C F X) → Frames (f ∷ outer) → KnownMemory known s.memory → Together (Machine.failed set fault f outer s) (Machine.failed set' fault (there f) (map there outer) (moved s))
   failed_together fault f outer s kf km =
@@ -143,7 +146,7 @@ module _ {P C F S M X Q D G T N Y : Type 0} (n : Names P C F S M X Q D G T N Y) 
   tossed_together None f outer object s kt kf km = stuck
   tossed_together (Some t) f outer object s kt kf km =
       subst (λ k. Together (Machine.caught set f.at (f ∷ outer) object (shape t) s) (Machine.caught set' (n.to f.code f.at) (map there (f ∷ outer)) object k (moved s))) (sym (shape_there t))
-      (caught_together f.at (n.to f.code f.at) (f ∷ outer) object (shape t) s (shape_known known (kt t refl)) kf km)
+      (caught_together f.at (n.to f.code f.at) (f ∷ outer) object (shape t) s (receiver_of t (kt t refl)) kf km)
 
   returned_together : (from from' : ℕ) (words : List Value) (f : Frame P) (outer : List (Frame P)) (s : State P C F X) → Frames (f ∷ outer) → KnownMemory known s.memory → Together (Machine.returned set from words f outer s) (Machine.returned set' from' words (there f) (map there outer) (moved s))
   returned_together from from' words f outer s (one_frame kc ks) km =
@@ -164,9 +167,6 @@ module _ {P C F S M X Q D G T N Y : Type 0} (n : Names P C F S M X Q D G T N Y) 
   -- what calls are made on is known
   abbrev Receiver : (o : Option (Shape C)) → Type 0
   Receiver o = KnownKind n known KnownCode KnownMethod o
-
-  receiver_of : (t : HeapObject C F) → KnownHeapObject known t → KnownThing n known KnownCode KnownMethod (shape t)
-  receiver_of t kt = record { thing = t; is_known = kt; is_of = refl }
 
   test_same : (t : HeapObject C F) (kind : Shape C) → KnownHeapObject known t → KnownShape known kind → set'.classes.is_of (shape (thing t)) (shape_as n.class kind) ≡ set.classes.is_of (shape t) kind
   test_same t kind kt kk =

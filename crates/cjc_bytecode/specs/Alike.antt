@@ -6,7 +6,7 @@ use Rattle.cjc_script.specs.declared.report.Report.{Report}
 use Rattle.cjc_script.specs.Sorts.{Shape}
 use Rattle.cjc_bytecode.specs.Calculations.{Fault}
 use Rattle.cjc_bytecode.specs.Effects.{Slot, HeapObject, Object, shape}
-use Rattle.cjc_bytecode.specs.Renaming.{option_as, shape_as, memory_as, operation_as, Knows, KnownShape, KnownHeapObject, KnownMemory, KnownOperation, UnmadeAlike, AreAlike}
+use Rattle.cjc_bytecode.specs.Renaming.{option_as, shape_as, memory_as, operation_as, Knows, KnownHeapObject, KnownMemory, KnownOperation, UnmadeAlike, AreAlike}
 use Rattle.cjc_bytecode.specs.Machine.{Start, Reached, Nowhere, Within, Abroad, Fetched, Setting, Frame, State, run}
 
 -- a call that reaches something
@@ -86,7 +86,7 @@ module _ {P C F S M X Q D G T N Y : Type 0} (n : Names P C F S M X Q D G T N Y) 
       pub room : (p : P) → KnownCode p → set'.room (n.code p) ≡ set.room p
       pub fetch : (p : P) (at : ℕ) (i : Fetched C F S M) → KnownCode p → set.fetch p at ≡ Some i → set'.fetch (n.code p) (n.to p at) ≡ Some (fetched_as p i)
       pub fetch_known : (p : P) (at : ℕ) (i : Fetched C F S M) → KnownCode p → set.fetch p at ≡ Some i → KnownOperation known KnownMethod i.operation
-      pub handler : (p : P) (at : ℕ) (kind : Shape C) → KnownCode p → KnownShape known kind → set'.handler (n.code p) (n.to p at) (shape_as n.class kind) ≡ option_as (n.to p) (set.handler p at kind)
+      pub handler : (p : P) (at : ℕ) (kind : Shape C) → KnownCode p → KnownThing kind → set'.handler (n.code p) (n.to p at) (shape_as n.class kind) ≡ option_as (n.to p) (set.handler p at kind)
       pub on_object : (m : M) → KnownMethod m → set'.on_object (n.method m) ≡ set.on_object m
       pub words : (m : M) (w : ℕ) → KnownMethod m → set.words m ≡ Some w → set'.words (n.method m) ≡ Some w
       -- where the first reaches something

@@ -13,7 +13,7 @@ use Rattle.cjc_calls_by_token.specs.Dispatching.{selection_of, DispatchAgrees}
 use Rattle.cjc_calls_by_token.specs.Selecting.{signature, SaysToken, open_method, package_method, got, SaysInterface, SelectionsAgree}
 
 module _ (w : List Class) (n : Naming) (offset : Found → ℕ) (x z : List ℕ) (virtual_calls : VirtualCallsAgree w) (interface_calls : InterfaceCallsAgree w) (agrees : DispatchAgrees w n offset x z) where
-  virtual_same : (m : MemberId) (d : Class) (f : Found) → class_named w m.class ≡ Some d → Under w x m.class → SaysToken w n m → selection w x (signature m) ≡ Some f → named w f ≡ Some (signature m)
+  virtual_same : (m : MemberId) (d : Class) (f : Found) → class_named w m.class ≡ Some d → Under w x m.class → SaysToken w n x m → selection w x (signature m) ≡ Some f → named w f ≡ Some (signature m)
       → dispatched (tower n.loaded (n.class x)) (n.dispatch_token m) ≡ selection_of n offset z (signature m) f
   virtual_same m d f known under (open_method finds is_token) selects is =
       let calls = virtual_calls x m.class d known under in
@@ -26,7 +26,7 @@ module _ (w : List Class) (n : Naming) (offset : Found → ℕ) (x z : List ℕ)
   virtual_same m d f known under (got t token_there is_token shown) selects is =
       let calls = virtual_calls x m.class d known under in
       ap (dispatched (tower n.loaded (n.class x))) is_token
-      ∙ agrees.open_method t f (signature m) (calls.by_token (signature m) t token_there (shown x f under selects) ∙ selects) is
+      ∙ agrees.open_method t f (signature m) (calls.by_token (signature m) t token_there (shown f under selects) ∙ selects) is
 
   interface_same : (m : MemberId) (c : Class) (f : Found) → class_named w x ≡ Some c → c.is_imported ≡ false → is_abstract c.flags ≡ false → SaysInterface w n m c → selection w x (signature m) ≡ Some f → named w f ≡ Some (signature m)
       → dispatched_interface n.loaded (Some (n.class x)) (n.class m.class) (n.interface_token m) ≡ selection_of n offset z (signature m) f

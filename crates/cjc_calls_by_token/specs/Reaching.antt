@@ -91,7 +91,7 @@ pub record SaysReceiver (w : List Class) (x z : List ℕ) : Type 0 where
 -- A virtual call of a method of a class, on an object of a class, reaches by token the method that it reaches by name, or makes the same event.
 abbrev pub VirtualCallsReach : Files → List Class → Naming → (place : Method → Placed) → (x : List ℕ) → Type 0
 VirtualCallsReach files w n place x =
-    (m : MemberId) (d : Class) (r : Reached Placed) → class_named w m.class ≡ Some d → is_interface d.flags ≡ false → is_initialiser m.name ≡ false → SaysToken w n m → reached_at files w place (OnObject m) (Some (OfClass x)) ≡ r → IsFound r
+    (m : MemberId) (d : Class) (r : Reached Placed) → class_named w m.class ≡ Some d → is_interface d.flags ≡ false → is_initialiser m.name ≡ false → SaysToken w n x m → reached_at files w place (OnObject m) (Some (OfClass x)) ≡ r → IsFound r
     → Calls.reached n.loaded (callee n (OnObject m)) (Some (OfClass (n.class x))) ≡ reached_as (code_of n) (offset_of n) r
 
 -- ---- other calls
@@ -114,7 +114,7 @@ pub record SaysSuper (w : List Class) (n : Naming) (m : MemberId) (super z : Lis
   pub first_one : first_super (class_named w m.class) ≡ Some super
   pub tables : above (tower n.loaded (n.class m.class)) ≡ tower n.loaded (n.class super)
   pub same_token : n.dispatch_token m ≡ n.dispatch_token (of_class super m)
-  pub token : SaysToken w n (of_class super m)
+  pub token : SaysToken w n super (of_class super m)
   pub imported : first_imported (line w (receiver super)) ≡ z
   pub itself : receiver super ≡ super
   pub found : (f : Found) → selection w super (signature m) ≡ Some f → named w f ≡ Some (signature m)

@@ -22,12 +22,12 @@ use Rattle.cjc_calls_by_token.specs.Dispatching.{selection_of}
 abbrev pub signature : MemberId → Signature
 signature m = record { name = m.name; desc = m.desc }
 
--- A virtual method that code names through a class has a token there: a public or protected method that is found from the class, a package-visible
--- one, or one that the class got, with the high bit for a package-visible one.
-pub data SaysToken (w : List Class) (n : Naming) (m : MemberId) : Type 0 where
-  open_method : finds_shown (line_of w m.class) (signature m) ≡ true → ((t : ℕ) → token (slots (line_of w m.class)) (signature m) ≡ Some t → n.dispatch_token m ≡ Open t) → SaysToken w n m
-  package_method : finds_hidden (line_of w m.class) (signature m) ≡ true → ((t : ℕ) → token (hidden_slots (line_of w m.class)) (signature m) ≡ Some t → n.dispatch_token m ≡ Hidden n.part t) → SaysToken w n m
-  got : (t : ℕ) → token (slots (line_of w m.class)) (signature m) ≡ Some t → n.dispatch_token m ≡ Open t → ((x : List ℕ) (f : Found) → Under w x m.class → selection w x (signature m) ≡ Some f → selects_shown (line_of w x) (signature m) ≡ true) → SaysToken w n m
+-- A virtual method that code names through a class has a token there, by which it is called on objects of class x: a public or protected method that is
+-- found from the named class, a package-visible one, or one that the class got, with the high bit for a package-visible one.
+pub data SaysToken (w : List Class) (n : Naming) (x : List ℕ) (m : MemberId) : Type 0 where
+  open_method : finds_shown (line_of w m.class) (signature m) ≡ true → ((t : ℕ) → token (slots (line_of w m.class)) (signature m) ≡ Some t → n.dispatch_token m ≡ Open t) → SaysToken w n x m
+  package_method : finds_hidden (line_of w m.class) (signature m) ≡ true → ((t : ℕ) → token (hidden_slots (line_of w m.class)) (signature m) ≡ Some t → n.dispatch_token m ≡ Hidden n.part t) → SaysToken w n x m
+  got : (t : ℕ) → token (slots (line_of w m.class)) (signature m) ≡ Some t → n.dispatch_token m ≡ Open t → ((f : Found) → Under w x m.class → selection w x (signature m) ≡ Some f → selects_shown (line_of w x) (signature m) ≡ true) → SaysToken w n x m
 
 -- A method of an interface has the token of its place among the interface's methods, and the interface is one of the class's.
 pub record SaysInterface (w : List Class) (n : Naming) (m : MemberId) (c : Class) : Type 0 where
@@ -40,7 +40,7 @@ pub record SaysInterface (w : List Class) (n : Naming) (m : MemberId) (c : Class
 -- Where a call by name selects a method on an object of a class, the call by token selects it: by its offset, or as the event of
 -- the first imported class at or above the object's class.
 pub record SelectionsAgree (w : List Class) (n : Naming) (offset : Found → ℕ) (x z : List ℕ) : Type 0 where
-  pub virtual_call : (m : MemberId) (d : Class) (f : Found) → class_named w m.class ≡ Some d → Under w x m.class → SaysToken w n m → selection w x (signature m) ≡ Some f → named w f ≡ Some (signature m)
+  pub virtual_call : (m : MemberId) (d : Class) (f : Found) → class_named w m.class ≡ Some d → Under w x m.class → SaysToken w n x m → selection w x (signature m) ≡ Some f → named w f ≡ Some (signature m)
       → dispatched (tower n.loaded (n.class x)) (n.dispatch_token m) ≡ selection_of n offset z (signature m) f
   pub interface_call : (m : MemberId) (c : Class) (f : Found) → class_named w x ≡ Some c → c.is_imported ≡ false → is_abstract c.flags ≡ false → SaysInterface w n m c → selection w x (signature m) ≡ Some f → named w f ≡ Some (signature m)
       → dispatched_interface n.loaded (Some (n.class x)) (n.class m.class) (n.interface_token m) ≡ selection_of n offset z (signature m) f

@@ -9,7 +9,7 @@ use Rattle.std.proofs.lemmas.List.{length-map}
 use Rattle.cjc_bytes.specs.AccessFlags.{is_interface}
 use Rattle.cjc_export.specs.declared.tree.ExportClass.{ExportClass}
 use Rattle.cjc_export.specs.declared.tree.ExportMethod.{ExportMethod}
-use Rattle.cjc_export.specs.Members.{interface_token_taken, not_special}
+use Rattle.cjc_export.specs.Members.{interface_token_taken}
 use Rattle.cjc_export.specs.Writable.{ClassFits, EachAfter, MethodStands}
 use Rattle.cjc_subset.specs.Members.{imports}
 use Rattle.cjc_world.specs.Added.{by_token, own_methods, with_token, without_initialiser}
@@ -195,15 +195,12 @@ tokens_low count before (x ∷ ms) each m (behind h) = tokens_low count (before 
 
 names_plain : (count : ℕ) (before ms : List ExportMethod) → EachAfter (Stands count) before ms → (m : Member) → Has m (map method_of_export ms) → bytes_eq m.name (codes "<clinit>") ≡ false
 names_plain count before [] each m h = elim h [ ]
-names_plain count before (x ∷ ms) each m at_front = by x.name each.0.2
+names_plain count before (x ∷ ms) each m at_front = by (bytes_eq x.name (codes "<init>")) (bytes_eq x.name (codes "<clinit>")) each.0.2
   where
-    by : (name : List ℕ) → not_special name ≡ Some name → bytes_eq name (codes "<clinit>") ≡ false
-    by [] e = refl
-    by (b ∷ bs) e = first (b == 60) refl e
-      where
-        first : (q : Bool) → (b == 60) ≡ q → (if q then None else Some (b ∷ bs)) ≡ Some (b ∷ bs) → bytes_eq (b ∷ bs) (codes "<clinit>") ≡ false
-        first true f g = absurd (cc)
-        first false f g = ap (λ q. q && bytes_eq bs (codes "clinit>")) f
+    by : (a b : Bool) → (if a || b then None else Some x.name) ≡ Some x.name → b ≡ false
+    by true b e = absurd (cc)
+    by false true e = absurd (cc)
+    by false false e = refl
 names_plain count before (x ∷ ms) each m (behind h) = names_plain count (before ++ x ∷ []) ms each.1 m h
 
 any_both : (test : ExportMethod → Bool) (xs ys : List ExportMethod) → list_any test (xs ++ ys) ≡ (list_any test xs || list_any test ys)

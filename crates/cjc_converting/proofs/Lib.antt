@@ -1,4 +1,4 @@
-mod Shapes
-mod Stops
+pub mod Shapes
+pub mod Stops
 mod Handlers
-mod Listed
+mod Results

@@ -1,5 +1,5 @@
 -- Which rule is answered for a list and its files.
-use Rattle.std.proofs.Common.{◌≡◌, ◌∙◌, ℕ, List, [], refl, sym, ap, subst, inl, inr}
+use Rattle.std.proofs.Common.{◌≡◌, ◌∙◌, ℕ, List, [], ◌∷◌, refl, sym, ap, subst, inl, inr}
 use Rattle.cjc_bytes.specs.Breaks.{Among, Break, IsFirst, IsFirstRefusal}
 use Rattle.cjc_bytes.specs.Order.{NotAfter}
 use Rattle.cjc_bytes.specs.declared.fault.Fault.{Fault}
@@ -15,7 +15,7 @@ use Rattle.cjc_whole.specs.Conversion.{BreaksWritten, IsDraft, IsPackageOf, IsRe
 use Rattle.cjc_whole.specs.Working.Shaped.{Stopped}
 use Rattle.cjc_whole.proofs.Drafts.{narrow_codes}
 use Rattle.cjc_whole.proofs.One.{one_package}
-use Rattle.cjc_whole.proofs.Second.{forms_are, fs, is_base, words_are}
+use Rattle.cjc_whole.proofs.Second.{forms_are, fs, is_base, package_is_draft, words_are}
 
 no_among : (b : Break) → Among b [] → ⊥
 no_among b among = elim among [ ]
@@ -66,3 +66,16 @@ module _ (list : ListTree) (files : List (List ℕ)) where
 
     pub keeps_limits : size_breaks p ≡ [] → limit_breaks p ≡ []
     keeps_limits small = ap (λ bs. else_of bs (else_of (form_breaks p) (size_breaks p))) none ∙ ap (λ bs. else_of bs (size_breaks p)) fine ∙ small
+
+-- ---- nothing of what is written
+
+both_none : (xs ys : List Break) → else_of xs ys ≡ [] → (xs ≡ []) × (ys ≡ [])
+both_none [] ys e = (refl, e)
+both_none (x ∷ xs) ys e = cc
+
+-- a package that breaks no limit breaks nothing of the second level
+pub none_written : (list : ListTree) (files : List (List ℕ)) (judged : Judged) → IsSound list files judged → (p : Package) → IsPackageOf list files p → limit_breaks p ≡ [] → (a : Break) → BreaksWritten list files a → ⊥
+none_written list files judged is p whole none a broken =
+    let one = both_none (of_methods p (word_breaks p)) (else_of (form_breaks p) (size_breaks p)) none in
+    let two = both_none (form_breaks p) (size_breaks p) one.1 in
+    no_among a (subst (λ bs. Among a bs) two.1 (of_sizes list files judged is p whole (package_is_draft list files p whole) one.0 two.0 a broken))

@@ -1,9 +1,10 @@
-//! The components of the package of a list, whose files these are, or the first broken rule.
+//! What a package is made of on the way from its list and its files to its components, or the first broken rule: its files judged,
+//! and the components of a package that is laid out.
 
-ghost use Rattle.std.specs.Prelude.{◌≡◌, ℕ, List as Items, length, IfOk, IfErr};
+ghost use Rattle.std.specs.Prelude.{◌≡◌, ℕ, [], List as Items, length, IfOk, IfErr};
+ghost use Rattle.cjc_components.specs.Components.{components_of};
+ghost use Rattle.cjc_components.specs.Limits.{size_breaks};
 ghost use Rattle.cjc_components.specs.Package.{Package};
-ghost use Rattle.cjc_descriptor.specs.Fits.{AreFit};
-ghost use Rattle.cjc_fitting_laws.specs.LaidOut.{AidsAreShort};
 ghost use Rattle.cjc_judge.specs.Spelt.{IsRead, AreFiles};
 ghost use Rattle.cjc_judge_laws.specs.Tested as small;
 ghost use Rattle.cjc_prepared.specs.Prepared.{IsSound};
@@ -18,19 +19,55 @@ use cjc_fitting_laws::static_images_fit;
 use cjc_judge::{Group, Judged, judge};
 use cjc_list::List;
 use cjc_whole::{Shaped, shape};
+use cjc_writing_laws::aids_are_short;
 use std::alloc::Global;
 
-/// The components of a package that is laid out, where they keep the limits of sizes.
-fn caps_within(
+/// What the files of a list say, which these are in list order, where they break no rule of files.
+///
+/// # Errors
+///
+/// The first rule that they break: 101 to 104, else one of 201 to 208, 301 to 310, 401 to 409 and 413, 501 to 503, 601 to 609.
+pub fn judge_files<'a>(
+    alloc: Global,
+    list: &List,
+    files: &'a Row<Bytes>,
+) -> Result<Judged<'a>, Fault>
+    requires read { IsRead list.now }
+    requires count { length files.now ≡ length list.now.lines }
+    requires files { AreFiles files.now }
+    requires bytes { small.AreFiles files.now }
+    ensures sound { IfOk result (IsSound list.now files.now) }
+    ensures refused { IfErr result (Stopped list.now files.now) }
+{
+    let groups = [
+        Group::Unsupported,
+        Group::Initialisers,
+        Group::Limits,
+        Group::Tokens,
+        Group::Ranges,
+    ];
+    judge(alloc, list, files, &groups)
+}
+
+/// The components of a package whose methods are laid out.
+///
+/// # Errors
+///
+/// 411 or 416, whichever is the first broken one.
+pub fn shaped_components(
     alloc: Global,
     list: &List,
     judged: &Judged<'_>,
     shaped: &Shaped,
 ) -> Result<CapTree, Fault>
-    requires { (files : Items (Items ℕ)) × (p : Package) × IsSound list.now files judged.now × IsShaped list.now files shaped.now p × AreFit p.image }
-    ensures made { (files : Items (Items ℕ)) (p : Package) → IsSound list.now files judged.now → IsShaped list.now files shaped.now p → IfOk result (AreCaps list.now files) }
+    requires read { IsRead list.now }
+    requires shaped { (files : Items (Items ℕ)) × (p : Package) × IsSound list.now files judged.now × IsShaped list.now files shaped.now p }
+    ensures made { (files : Items (Items ℕ)) (p : Package) → IsSound list.now files judged.now → IsShaped list.now files shaped.now p → IfOk result (λ t. t ≡ components_of p) }
+    ensures sizes { (files : Items (Items ℕ)) (p : Package) → IsSound list.now files judged.now → IsShaped list.now files shaped.now p → IfOk result (λ _. size_breaks p ≡ []) }
     ensures refused { (files : Items (Items ℕ)) (p : Package) → IsSound list.now files judged.now → IsShaped list.now files shaped.now p → IfErr result (Stopped list.now files) }
 {
+    aids_are_short();
+    static_images_fit();
     let caps = caps_of(alloc, list, judged, shaped)?;
     test_sizes(
         alloc,
@@ -42,16 +79,14 @@ fn caps_within(
 }
 
 /// The components of a package that breaks no rule of its files.
-fn caps_judged(alloc: Global, list: &List, judged: &Judged<'_>) -> Result<CapTree, Fault>
+fn judged_components(alloc: Global, list: &List, judged: &Judged<'_>) -> Result<CapTree, Fault>
     requires read { IsRead list.now }
-    requires aids { AidsAreShort list.now }
     requires sound { (files : Items (Items ℕ)) × IsSound list.now files judged.now }
     ensures made { (files : Items (Items ℕ)) → IsSound list.now files judged.now → IfOk result (AreCaps list.now files) }
     ensures refused { (files : Items (Items ℕ)) → IsSound list.now files judged.now → IfErr result (Stopped list.now files) }
 {
-    static_images_fit();
     let shaped = shape(alloc, list, judged)?;
-    caps_within(alloc, list, judged, &shaped)
+    shaped_components(alloc, list, judged, &shaped)
 }
 
 /// The components of the package of a list, whose files these are in list order.
@@ -62,20 +97,12 @@ fn caps_judged(alloc: Global, list: &List, judged: &Judged<'_>) -> Result<CapTre
 /// 609; where they break none, 417; else 311, 414 or 415; else 411 or 416.
 pub fn components_of_files(alloc: Global, list: &List, files: &Row<Bytes>) -> Result<CapTree, Fault>
     requires read { IsRead list.now }
-    requires aids { AidsAreShort list.now }
     requires count { length files.now ≡ length list.now.lines }
     requires files { AreFiles files.now }
     requires bytes { small.AreFiles files.now }
     ensures made { IfOk result (AreCaps list.now files.now) }
     ensures refused { IfErr result (Stopped list.now files.now) }
 {
-    let groups = [
-        Group::Unsupported,
-        Group::Initialisers,
-        Group::Limits,
-        Group::Tokens,
-        Group::Ranges,
-    ];
-    let judged = judge(alloc, list, files, &groups)?;
-    caps_judged(alloc, list, &judged)
+    let judged = judge_files(alloc, list, files)?;
+    judged_components(alloc, list, &judged)
 }

@@ -1,10 +1,10 @@
 //! The conversion of a package, whatever package that is: of its list and the files that it names into all of its components as
-//! trees, or the first broken rule. It puts together what the crates below make, and knows no format. The program does not
-//! call it yet.
+//! trees, or the first broken rule. It puts together what the crates below make, and knows no format. The crate that writes
+//! the bytes calls it step by step.
 #![tactic(auto)]
 
 mod caps;
 mod conversion;
 mod sizes;
 
-pub use conversion::components_of_files;
+pub use conversion::{components_of_files, judge_files, shaped_components};

@@ -13,8 +13,9 @@ ghost use Rattle.cjc_narrow.specs.Package.{run as run_by_label};
 ghost use Rattle.cjc_script.specs.declared.report.Outcome.TheVariants.{Stuck};
 ghost use Rattle.cjc_script.specs.declared.script.Script.{Script};
 ghost use Rattle.cjc_tables_by_token.specs.Loading.{loaded};
+ghost use Rattle.cjc_written_calls.specs.Standing.{laid_code};
 ghost use Rattle.cjc_written_laws.specs.Converted.{IsConverted};
-ghost use Rattle.cjc_written_laws.specs.Joined.{IsJoined, laid_code};
+ghost use Rattle.cjc_written_laws.specs.Joined.{IsJoined};
 ghost use Rattle.cjc_written_sends.specs.Named.{is_called};
 
 use cjc_call_opcodes::calls_have_opcodes;

@@ -2,5 +2,4 @@ mod Kept
 mod Lines
 mod Walked
 mod Here
-mod Listed
 mod Next

@@ -1,39 +1,15 @@
 //! The methods of one class by name and descriptor. Called by whoever walks up a class and its superclasses. It knows no token.
 
-ghost use Rattle.std.specs.Prelude.{◌≡◌, ◌<◌, ◌&&◌, ◌||◌, length, map, not, position, IfSome};
+ghost use Rattle.std.specs.Prelude.{◌≡◌, ◌<◌, ◌&&◌, length, map, not, position, IfSome};
 ghost use Rattle.std.specs.Str.{bytes_eq};
 ghost use Rattle.cjc_world.specs.Classes.{method_of_class};
 ghost use Rattle.cjc_world.specs.Lookup.{is_called};
 ghost use Rattle.cjc_tokens.specs.Members.{is_exposed, is_shown, is_virtual_by};
 ghost use Rattle.cjc_tokens.specs.Working.{member_of};
 
-use cjc_bytes::{MemberId, is_private, is_protected, is_public, is_static};
+use cjc_bytes::MemberId;
 use cjc_classfile::MethodTree;
-
-const CONSTRUCTOR: &[u8] = b"<init>";
-
-const INITIALISER: &[u8] = b"<clinit>";
-
-/// Whether a member is public or protected.
-pub(crate) fn is_exposed(flags: u16) -> bool
-    ensures { result ≡ is_exposed flags }
-{
-    is_public(flags) || is_protected(flags)
-}
-
-/// Whether a method is a constructor or an initialiser.
-fn is_special(name: &[u8]) -> bool
-    ensures { result ≡ (bytes_eq name.now CONSTRUCTOR.now || bytes_eq name.now INITIALISER.now) }
-{
-    name == CONSTRUCTOR || name == INITIALISER
-}
-
-/// Whether a method is neither static nor private nor a constructor.
-pub(crate) fn is_virtual(flags: u16, name: &[u8]) -> bool
-    ensures { result ≡ is_virtual_by flags name.now }
-{
-    !is_private(flags) && !is_static(flags) && !is_special(name)
-}
+use cjc_tokens::{is_exposed, is_virtual};
 
 /// Whether a method is virtual and package-visible.
 pub(crate) fn is_hidden(method: &MethodTree<'_>) -> bool

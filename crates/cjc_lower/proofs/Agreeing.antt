@@ -5,7 +5,8 @@ use Rattle.cjc_bytes.specs.declared.fault.MemberId.{MemberId}
 use Rattle.cjc_script.specs.Sorts.{Shape, OfClass}
 use Rattle.cjc_bytecode.specs.Renaming.{option_as, shape_as, Knows, KnownShape, KnownOperation}
 use Rattle.cjc_bytecode.specs.Machine.{Fetched}
-use Rattle.cjc_bytecode.specs.Alike.{SettingsAlike, RunsAgree}
+use Rattle.cjc_bytecode.specs.Alike.{KnownThing, SettingsAlike, RunsAgree}
+use Rattle.cjc_bytecode.proofs.Natural.{shape_known}
 use Rattle.cjc_bytecode.proofs.Together.{runs_agree}
 use Rattle.cjc_card.specs.Loaded.{Part}
 use Rattle.cjc_card.specs.Methods as card
@@ -14,6 +15,7 @@ use Rattle.cjc_ncode.specs.declared.narrow.NInsn.{NInsn}
 use Rattle.cjc_ncode.specs.ByLabel.{Named}
 use Rattle.cjc_ncode.specs.ByLabel
 use Rattle.cjc_lower.specs.Naming.{Naming}
+use Rattle.cjc_lower.specs.Handlers.{IsObject}
 use Rattle.cjc_lower.specs.Placed.{Placed, offset_of, code_of, fetched_on_card}
 use Rattle.cjc_lower.specs.Package.{HoldsMethods}
 use Rattle.cjc_lower.specs.ByPlace.{Methods, by_place}
@@ -38,10 +40,11 @@ module _ (n : Naming) (part : Part) (placed : List Placed) (memories : Memories)
           let same : record { operation = ByLabel.operation insn; next = at + 1 } ≡ i = cc in
           subst (λ x. KnownOperation known KnownMethod x.operation) same (tables.operation_known p at insn among h)
 
-  handler_there : (p : Placed) (at : ℕ) (kind : Shape (List ℕ)) → IsAmong placed p → KnownShape known kind → card.handler n.loaded (code_of n p) (offset_of n p at) (shape_as n.class kind) ≡ option_as (offset_of n p) (ByLabel.handler l p.method.catches at kind)
-  handler_there p at kind among is_known =
+  handler_there : (p : Placed) (at : ℕ) (kind : Shape (List ℕ)) → IsAmong placed p → KnownThing (names n memories) known (IsAmong placed) KnownMethod kind → card.handler n.loaded (code_of n p) (offset_of n p at) (shape_as n.class kind) ≡ option_as (offset_of n p) (ByLabel.handler l p.method.catches at kind)
+  handler_there p at kind among thing =
+      let is_known : KnownShape known kind = subst (KnownShape known) thing.is_of (shape_known known thing.is_known) in
       let whole = holds.whole among.place p among.there in
-      handler_found n l p part kind whole.code (bytes_stand n part placed holds among.place p among.there) (handlers_stand n part placed holds among.place p among.there) (λ c is. let classes = tables.classes in classes.is_of kind (OfClass c) is_known (tables.class_known c is)) whole.handlers at
+      handler_found n l p part kind whole.code (bytes_stand n part placed holds among.place p among.there) (handlers_stand n part placed holds among.place p among.there) (λ c is. let classes = tables.classes in classes.is_of kind (OfClass c) is_known (tables.class_known c is)) (subst (IsObject l) thing.is_of (tables.is_object thing.thing thing.is_known)) whole.handlers at
 
   pub settings_alike : SettingsAlike (names n memories) known (IsAmong placed) KnownMethod (by_place l methods) (by_token n.loaded)
   unfolding by_place by_token

@@ -14,25 +14,29 @@ use Rattle.cjc_lower.specs.Placed.{Placed}
 use Rattle.cjc_lower.specs.ByPlace.{Methods, by_place}
 use Rattle.cjc_lower.specs.Agreement.{everything, known_by, IsKnownCall, code_alone, MethodsAgree}
 
-abbrev Name : Type 0
+abbrev pub Name : Type 0
 Name = List ℕ
 
 -- ---- what stays
 
-option_stays : {A : Type 0} (o : Option A) → option_as (λ x. x) o ≡ o
+pub option_stays : {A : Type 0} (o : Option A) → option_as (λ x. x) o ≡ o
 option_stays None = refl
 option_stays (Some x) = refl
 
-shape_stays : (kind : Shape Name) → shape_as (λ c. c) kind ≡ kind
+pub shape_stays : (kind : Shape Name) → shape_as (λ c. c) kind ≡ kind
 shape_stays (OfClass c) = refl
 shape_stays (OfNumbers element) = refl
 shape_stays (OfReferences c) = refl
+
+pub kind_stays : (o : Option (Shape Name)) → option_as (shape_as (λ c. c)) o ≡ o
+kind_stays None = refl
+kind_stays (Some kind) = ap (λ x. Some x) (shape_stays kind)
 
 arms_stay : (arms : List Arm) → map (arm_as (λ label. label)) arms ≡ arms
 arms_stay [] = refl
 arms_stay (arm ∷ arms) = ap (λ x. arm ∷ x) (arms_stay arms)
 
-operation_stays : (operation : ByLabel.Resolved) → operation_as (λ c. c) (λ f. f) (λ f. f) (λ m. m) (λ label. label) operation ≡ operation
+pub operation_stays : (operation : ByLabel.Resolved) → operation_as (λ c. c) (λ f. f) (λ f. f) (λ m. m) (λ label. label) operation ≡ operation
 operation_stays (Do calculation) = refl
 operation_stays (Branch test to) = refl
 operation_stays (Pick is_int other arms) = ap (Pick is_int other) (arms_stay arms)
@@ -56,7 +60,7 @@ shape_known (OfClass c) = refl
 shape_known (OfNumbers element) = tt
 shape_known (OfReferences c) = refl
 
-operation_known : (operation : ByLabel.Resolved) → KnownOperation (known_by everything) (IsKnownCall everything) operation
+pub operation_known : (operation : ByLabel.Resolved) → KnownOperation (known_by everything) (IsKnownCall everything) operation
 operation_known (Do calculation) = tt
 operation_known (Branch test to) = tt
 operation_known (Pick is_int other arms) = tt
@@ -98,10 +102,6 @@ module _ (l : Named) (methods : Methods) (agree : MethodsAgree l methods) where
 
   handler_stays : (p : Placed) (at : ℕ) (kind : Shape Name) → ByLabel.handler l p.method.catches at (shape_as (λ c. c) kind) ≡ option_as (λ label. label) (ByLabel.handler l p.method.catches at kind)
   handler_stays p at kind = ap (ByLabel.handler l p.method.catches at) (shape_stays kind) ∙ sym (option_stays (ByLabel.handler l p.method.catches at kind))
-
-  kind_stays : (o : Option (Shape Name)) → option_as (shape_as (λ c. c)) o ≡ o
-  kind_stays None = refl
-  kind_stays (Some kind) = ap (λ x. Some x) (shape_stays kind)
 
   reached_stays : (m : ByLabel.Callee) (o : Option (Shape Name)) (r : Reached Placed) → methods.reached m o ≡ r → l.reached m (option_as (shape_as (λ c. c)) o) ≡ reached_as (λ p. p.method) (λ p label. label) r
   reached_stays m o r e = ap (l.reached m) (kind_stays o) ∙ agree.reached m o ∙ ap (reached_as (λ p. p.method) (λ p label. label)) e

@@ -9,13 +9,13 @@ use Rattle.cjc_card.specs.Methods.{handler, handler_in, handler_among}
 use Rattle.cjc_ncode.specs.ByLabel.{Named}
 use Rattle.cjc_ncode.specs.ByLabel
 use Rattle.cjc_lower.specs.Naming.{Naming}
-use Rattle.cjc_lower.specs.Handlers.{handlers_of, AllLie, SubtypesAgree}
+use Rattle.cjc_lower.specs.Handlers.{handlers_of, AllLie, IsObject, SubtypesAgree}
 use Rattle.cjc_lower.specs.Placed.{Placed, first, offset_of, code_of, IsLaidOut, Stands, HandlersStand}
 use Rattle.cjc_lower.proofs.Places.{before_grows, before_over}
 use Rattle.cjc_lower.proofs.Search.{handler_same, elsewhere_misses, skipped, cut_off, none_behind}
 use Rattle.cjc_lower.proofs.Fetching.{labels_ascend}
 
-module _ (n : Naming) (l : Named) (p : Placed) (part : Part) (kind : Shape (List ℕ)) (whole : IsLaidOut n p) (stands : Stands n p part) (table : HandlersStand n p part) (agree : SubtypesAgree n l kind) (lie : AllLie n (length p.method.insns) p.method.catches) where
+module _ (n : Naming) (l : Named) (p : Placed) (part : Part) (kind : Shape (List ℕ)) (whole : IsLaidOut n p) (stands : Stands n p part) (table : HandlersStand n p part) (agree : SubtypesAgree n l kind) (root : IsObject l kind) (lie : AllLie n (length p.method.insns) p.method.catches) where
   -- the method's own handlers alone count, at offsets of its code and at its end
   own_alone : (k : ℕ) → k ≤ length p.method.insns → handler n.loaded (code_of n p) (offset_of n p k) (shape_as n.class kind) ≡ handler_among n.loaded n.part n.pool (handlers_of n (offset_of n p) p.method.catches) (offset_of n p k) (shape_as n.class kind)
   own_alone k le =
@@ -31,7 +31,7 @@ module _ (n : Naming) (l : Named) (p : Placed) (part : Part) (kind : Shape (List
       ∙ cut_off n.loaded n.part n.pool at on_card own table.later (elsewhere_misses (first p) end at table.later (omega arith) (omega arith) table.later_elsewhere)
 
   inside : (k : ℕ) → k ≤ length p.method.insns → handler n.loaded (code_of n p) (offset_of n p k) (shape_as n.class kind) ≡ option_as (offset_of n p) (ByLabel.handler l p.method.catches k kind)
-  inside k le = own_alone k le ∙ handler_same n l (offset_of n p) (length p.method.insns) k kind le (labels_ascend n p whole) agree p.method.catches lie
+  inside k le = own_alone k le ∙ handler_same n l (offset_of n p) (length p.method.insns) k kind le (labels_ascend n p whole) agree root p.method.catches lie
 
   pub handler_found : (k : ℕ) → handler n.loaded (code_of n p) (offset_of n p k) (shape_as n.class kind) ≡ option_as (offset_of n p) (ByLabel.handler l p.method.catches k kind)
   handler_found k = ⊎_elim past (inside k) (cases_lt (length p.method.insns) k)

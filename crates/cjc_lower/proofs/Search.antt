@@ -5,7 +5,7 @@ use Rattle.std.proofs.lemmas.Bool.{cases_lt}
 use Rattle.std.proofs.lemmas.Bool.Decides.{nat_tests}
 use Rattle.cjc_capread.specs.declared.tree.Handler.{Handler}
 use Rattle.cjc_capread.specs.declared.tree.PoolEntry.{PoolEntry}
-use Rattle.cjc_script.specs.Sorts.{Shape}
+use Rattle.cjc_script.specs.Sorts.{Shape, OfClass}
 use Rattle.cjc_bytecode.specs.Renaming.{option_as, shape_as}
 use Rattle.cjc_card.specs.Loaded.{Loaded}
 use Rattle.cjc_card.specs.Classes.{Class}
@@ -17,14 +17,14 @@ use Rattle.cjc_ncode.specs.ByLabel
 use Rattle.cjc_lower.specs.Naming.{Naming}
 use Rattle.cjc_lower.specs.Laid.{class_index}
 use Rattle.cjc_lower.specs.Handlers
-use Rattle.cjc_lower.specs.Handlers.{meets, meets_any, handler_of, handlers_of, IsAscending, Catches, any, one, AllLie, none, more, SubtypesAgree, AllElsewhere, before, behind}
+use Rattle.cjc_lower.specs.Handlers.{meets, meets_any, handler_of, handlers_of, IsAscending, Catches, any, one, every, IsObject, AllLie, none, more, SubtypesAgree, AllElsewhere, before, behind}
 
 -- handlers that do not cover a place
 pub data AllMiss (at : ℕ) : List Handler → Type 0 where
   miss_none : AllMiss at []
   miss_one : {h : Handler} {handlers : List Handler} → Methods.covers h at ≡ false → AllMiss at handlers → AllMiss at (h ∷ handlers)
 
-module _ (n : Naming) (l : Named) (to : ℕ → ℕ) (count k : ℕ) (kind : Shape (List ℕ)) (inside : k ≤ count) (ascends : IsAscending count to) (agree : SubtypesAgree n l kind) where
+module _ (n : Naming) (l : Named) (to : ℕ → ℕ) (count k : ℕ) (kind : Shape (List ℕ)) (inside : k ≤ count) (ascends : IsAscending count to) (agree : SubtypesAgree n l kind) (root : IsObject l kind) where
   takes_same : (o : Option (List ℕ)) → Catches n o → Methods.takes n.loaded n.part n.pool (class_index n o) (shape_as n.class kind) ≡ ByLabel.takes l o kind
   takes_same None any = refl
   takes_same (Some c) (one {k = j} is_suc holds is) =
@@ -33,6 +33,9 @@ module _ (n : Naming) (l : Named) (to : ℕ → ℕ) (count k : ℕ) (kind : Sha
       ∙ ap (λ o. Methods.is_caught n.loaded (shape_as n.class kind) (class_at n.loaded n.part o)) there
       ∙ ap (λ o. Methods.is_caught n.loaded (shape_as n.class kind) o) is
       ∙ agree c is
+  takes_same (Some c) (every is at) =
+      ap (λ i. Methods.takes n.loaded n.part n.pool i (shape_as n.class kind)) at
+      ∙ sym (ap (λ d. l.is_of kind (OfClass d)) is ∙ root)
 
   -- ---- ranges
 

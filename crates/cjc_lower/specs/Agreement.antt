@@ -3,7 +3,7 @@ use Rattle.std.specs.Prelude.{◌≡◌, ℕ, List, [], map, Option, Some, Bool,
 use Rattle.cjc_bytes.specs.declared.fault.MemberId.{MemberId}
 use Rattle.cjc_script.specs.Sorts.{Shape}
 use Rattle.cjc_bytecode.specs.Calculations.{Fault}
-use Rattle.cjc_bytecode.specs.Effects.{Letter, Slot, Object}
+use Rattle.cjc_bytecode.specs.Effects.{Letter, Slot, HeapObject, Object, shape}
 use Rattle.cjc_bytecode.specs.Renaming.{option_as, shape_as, Knows, KnownHeapObject, KnownOperation, AreAlike}
 use Rattle.cjc_bytecode.specs.Machine.{Start, Reached, Within}
 use Rattle.cjc_bytecode.specs.Alike.{Names, KnownThing, KnownKind, IsFound, start_as, reached_as}
@@ -19,6 +19,7 @@ use Rattle.cjc_ncode.specs.declared.narrow.NMethod.{NMethod}
 use Rattle.cjc_ncode.specs.ByLabel.{Named, operation, shown_slot}
 use Rattle.cjc_ncode.specs.ByLabel
 use Rattle.cjc_lower.specs.Naming.{Naming, IsClass, field, callee}
+use Rattle.cjc_lower.specs.Handlers.{IsObject}
 use Rattle.cjc_lower.specs.Placed.{Placed, offset_of, code_of}
 use Rattle.cjc_lower.specs.ByPlace.{Methods}
 
@@ -82,6 +83,8 @@ module _ (n : Naming) (placed : List Placed) (memories : Memories) (l : Named) (
     pub words : (m : ByLabel.Callee) (w : ℕ) → KnownMethod m → l.words m ≡ Some w → Calls.words n.loaded (callee n m) ≡ Some w
     pub reached : (m : ByLabel.Callee) (o : Option (Shape (List ℕ))) (r : Reached Placed) → KnownMethod m → KnownKind (names n memories) known (IsAmong placed) KnownMethod o → methods.reached m o ≡ r → IsFound r → Calls.reached n.loaded (callee n m) (option_as (shape_as n.class) o) ≡ reached_as (code_of n) (offset_of n) r
     pub reached_known : (m : ByLabel.Callee) (o : Option (Shape (List ℕ))) (start : Start Placed) → KnownMethod m → KnownKind (names n memories) known (IsAmong placed) KnownMethod o → methods.reached m o ≡ Within start → IsAmong placed start.code
+    -- whatever is there is of java/lang/Object by name
+    pub is_object : (t : HeapObject (List ℕ) MemberId) → KnownHeapObject known t → IsObject l (shape t)
     pub fault : (f : Fault) → fault_class n.loaded f ≡ option_as n.class (l.fault f)
     pub fault_known : (f : Fault) (c : List ℕ) → l.fault f ≡ Some c → KnownHeapObject known (Object c [])
     pub class_named : (name : List ℕ) → Classes.class_named n.loaded name ≡ option_as n.class (l.class_named name)

@@ -1,5 +1,5 @@
 -- The exception handlers of a method as they stand in the handler table of Method (Java Card Virtual Machine Specification 2.2.2, section 6.9.2).
-use Rattle.std.specs.Prelude.{◌≡◌, ℕ, suc, ◌+◌, ◌-◌, ◌<◌, ◌≤◌, List, [], ◌∷◌, Option, Some, None, Bool, false, not, nat_lt, ◌&&◌, ◌||◌}
+use Rattle.std.specs.Prelude.{◌≡◌, ℕ, suc, ◌+◌, ◌-◌, ◌<◌, ◌≤◌, List, [], ◌∷◌, Option, Some, None, Bool, true, false, not, nat_lt, ◌&&◌, ◌||◌, codes}
 use Rattle.cjc_capread.specs.declared.tree.Handler.{Handler}
 use Rattle.cjc_script.specs.Sorts.{Shape, OfClass}
 use Rattle.cjc_bytecode.specs.Renaming.{shape_as}
@@ -32,10 +32,15 @@ handlers_of n to (c ∷ catches) = handler_of n to c catches ∷ handlers_of n t
 abbrev pub IsAscending : (count : ℕ) → (to : ℕ → ℕ) → Type 0
 IsAscending count to = (a b : ℕ) → a < b → b ≤ count → to a < to b
 
--- a catch type stands in the pool, at another index than 0
+-- java/lang/Object
+abbrev pub object : List ℕ
+object = codes "java/lang/Object"
+
+-- a catch type stands in the pool, at another index than 0; or it is java/lang/Object, and entry 0 serves it
 pub data Catches (n : Naming) : Option (List ℕ) → Type 0 where
   any : Catches n None
   one : {c : List ℕ} {k : ℕ} → n.index (keys.Class c) ≡ suc k → Holds n (keys.Class c) → IsClass n c → Catches n (Some c)
+  every : {c : List ℕ} → c ≡ object → n.index (keys.Class c) ≡ 0 → Catches n (Some c)
 
 -- each range has a place and lies in code of so many instructions
 pub data AllLie (n : Naming) (count : ℕ) : List NCatch → Type 0 where
@@ -45,6 +50,10 @@ pub data AllLie (n : Naming) (count : ℕ) : List NCatch → Type 0 where
 -- whether an exception of a type is of a class that the pool names is the same by name and by token
 abbrev pub SubtypesAgree : Naming → Named → Shape (List ℕ) → Type 0
 SubtypesAgree n l kind = (c : List ℕ) → IsClass n c → is_of n.loaded (shape_as n.class kind) (OfClass (n.class c)) ≡ l.is_of kind (OfClass c)
+
+-- by name, a type is of java/lang/Object
+abbrev pub IsObject : Named → Shape (List ℕ) → Type 0
+IsObject l kind = l.is_of kind (OfClass object) ≡ true
 
 -- each range ends before a method's code or begins behind it
 pub data AllElsewhere (first end : ℕ) : List Handler → Type 0 where

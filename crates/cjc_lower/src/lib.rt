@@ -22,7 +22,7 @@ ghost use Rattle.cjc_ncode.specs.ByLabel as ByLabel;
 ghost use Rattle.cjc_ncode.specs.ByLabel.{Named, by_label};
 ghost use Rattle.cjc_lower.specs.Naming.{Naming, on_card};
 ghost use Rattle.cjc_lower.specs.Laid.{laid, IsFormed};
-ghost use Rattle.cjc_lower.specs.Handlers.{handlers_of, IsAscending, AllLie, SubtypesAgree};
+ghost use Rattle.cjc_lower.specs.Handlers.{handlers_of, IsAscending, AllLie, SubtypesAgree, IsObject};
 ghost use Rattle.cjc_lower.specs.Placed.{Placed, offset_of, code_of, fetched_on_card, short_header, extended_header, start_on_card, IsLaidOut, Stands, HandlersStand, IsHeader, IsListed};
 ghost use Rattle.cjc_lower.specs.Opcodes.{HoldsOfAll, pushes, locals, increases, copies, jumps, switches, element_types};
 ghost use Rattle.cjc_lower.specs.Package.{AreConsecutive, HoldsMethods, all_bytes, all_handlers};
@@ -41,9 +41,10 @@ pub fn laid_instructions_do_the_same()
 {}
 
 /// The search through a method's handlers at an offset, which stop bits may end, finds the place of the
-/// handler that the search by label finds, or none where that finds none.
+/// handler that the search by label finds, or none where that finds none, for what is of java/lang/Object by name:
+/// entry 0 serves a handler of that class and takes whatever is thrown.
 pub fn handlers_are_found()
-    ensures { (n : Naming) (l : Named) (to : ℕ → ℕ) (count k : ℕ) (kind : Shape (List ℕ)) → k ≤ count → IsAscending count to → SubtypesAgree n l kind → (catches : List NCatch) → AllLie n count catches → handler_among n.loaded n.part n.pool (handlers_of n to catches) (to k) (shape_as n.class kind) ≡ option_as to (ByLabel.handler l catches k kind) }
+    ensures { (n : Naming) (l : Named) (to : ℕ → ℕ) (count k : ℕ) (kind : Shape (List ℕ)) → k ≤ count → IsAscending count to → SubtypesAgree n l kind → IsObject l kind → (catches : List NCatch) → AllLie n count catches → handler_among n.loaded n.part n.pool (handlers_of n to catches) (to k) (shape_as n.class kind) ≡ option_as to (ByLabel.handler l catches k kind) }
 {}
 
 /// What narrow code fetches at a label, the card fetches at the label's offset, for each method whose bytes
@@ -57,11 +58,11 @@ pub fn labels_ascend()
     ensures { (n : Naming) (p : Placed) → IsLaidOut n p → let m = p.method in IsAscending (length m.insns) (offset_of n p) }
 {}
 
-/// An exception at a label's offset goes on at the offset of the handler that takes it at the label, or leaves the
-/// method where none does, for each method whose bytes and handlers stand in Method: other methods' handlers
-/// take none of its exceptions.
+/// An exception at a label's offset, of java/lang/Object by name, goes on at the offset of the handler that takes it
+/// at the label, or leaves the method where none does, for each method whose bytes and handlers stand in Method:
+/// other methods' handlers take none of its exceptions.
 pub fn exceptions_are_caught()
-    ensures { (n : Naming) (l : Named) (p : Placed) (part : Part) (kind : Shape (List ℕ)) → IsLaidOut n p → Stands n p part → HandlersStand n p part → SubtypesAgree n l kind → (let m = p.method in AllLie n (length m.insns) m.catches → (k : ℕ) → handler n.loaded (code_of n p) (offset_of n p k) (shape_as n.class kind) ≡ option_as (offset_of n p) (ByLabel.handler l m.catches k kind)) }
+    ensures { (n : Naming) (l : Named) (p : Placed) (part : Part) (kind : Shape (List ℕ)) → IsLaidOut n p → Stands n p part → HandlersStand n p part → SubtypesAgree n l kind → IsObject l kind → (let m = p.method in AllLie n (length m.insns) m.catches → (k : ℕ) → handler n.loaded (code_of n p) (offset_of n p k) (shape_as n.class kind) ≡ option_as (offset_of n p) (ByLabel.handler l m.catches k kind)) }
 {}
 
 /// Where a package holds its methods one behind the other, with their handlers in the same order, the bytes and

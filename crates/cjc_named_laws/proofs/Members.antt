@@ -169,6 +169,8 @@ module _ (list : List ℕ) (files : Files) (codes : List MethodCode) (settings :
     pub resolved : resolved_method w id ≡ of_class owner.name id
     pub fits : CallFits op id.name (let m = at.member in m.flags)
     pub fits_class : is_unfit_class w class op id (record { owner = owner; flags = (let m = at.member in m.flags) }) ≡ false
+    -- the code may use it
+    pub seen : is_hidden w class id (record { owner = owner; flags = (let m = at.member in m.flags) }) ≡ false
 
   abbrev tested_hit : Class → Member → subset.Hit
   tested_hit c m = record { owner = c; flags = m.flags }
@@ -218,4 +220,5 @@ module _ (list : List ℕ) (files : Files) (codes : List MethodCode) (settings :
         resolved = ap (λ o. by_owner id (option_and_then (method_hit w) o)) found ∙ ap (by_owner id) hit;
         fits = called_fits list files codes settings is class op id at f (named_hit d m) found hit;
         fits_class = or_right (is_hidden w class id (tested_hit d m) || is_unfit_call op id.name m.flags) (is_unfit_class w class op id (tested_hit d m)) fine;
+        seen = or_left (is_hidden w class id (tested_hit d m)) (is_unfit_call op id.name m.flags) (or_left (is_hidden w class id (tested_hit d m) || is_unfit_call op id.name m.flags) (is_unfit_class w class op id (tested_hit d m)) fine);
       }

@@ -11,7 +11,6 @@ ghost use Rattle.cjc_code.specs.declared.insn.JOp.TheVariants as jop;
 ghost use Rattle.cjc_components.specs.Package.{LaidMethod, Package, world};
 ghost use Rattle.cjc_judge.specs.declared.judged.Judged.{Judged};
 ghost use Rattle.cjc_list.specs.Listed.{ListTree};
-ghost use Rattle.cjc_named_laws.specs.Handlers.{CatchThrowables};
 ghost use Rattle.cjc_named_laws.specs.Opcodes.{CallsHaveOpcodes};
 ghost use Rattle.cjc_narrow.specs.Resolved.{resolved_method};
 ghost use Rattle.cjc_narrow_laws.specs.Unbroken.{IsInsnOf};
@@ -33,12 +32,12 @@ pub fn export_files_are_kept()
 {}
 
 /// What each instruction of its methods names stands in its pool and means what the opcode uses: classes, fields, static fields
-/// of the package, and methods by how they are called, imported ones too. So does what each handler catches, where none names
-/// java/lang/Object.
+/// of the package, and methods by how they are called, imported ones too. So does what each handler catches; entry 0
+/// serves one that names java/lang/Object.
 pub fn names_are_there()
     ensures instructions { (list : ListTree) (files : List (List ℕ)) (judged : Judged) (p : Package) → IsConverted list files judged p → CallsHaveOpcodes judged.codes
         → (k : ℕ) (m : LaidMethod) → slice_get p.methods k ≡ Some m → (j : ℕ) (insn : Narrow) → (let code = m.code in slice_get code.insns j ≡ Some insn) → NamesFit (naming p) insn }
-    ensures all { (list : ListTree) (files : List (List ℕ)) (judged : Judged) (p : Package) → IsConverted list files judged p → CallsHaveOpcodes judged.codes → CatchThrowables p.files → NamesAreThere p }
+    ensures all { (list : ListTree) (files : List (List ℕ)) (judged : Judged) (p : Package) → IsConverted list files judged p → CallsHaveOpcodes judged.codes → NamesAreThere p }
 {
     calls_fit_their_keys();
     converted_classes_keep_rules();

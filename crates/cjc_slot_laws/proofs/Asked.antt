@@ -18,13 +18,13 @@ use Rattle.cjc_tokens.proofs.Held.{has_slot-append, here-has_slot, offered-has_s
 use Rattle.cjc_vtable.specs.Calls.{IsOneToOne, is_special, selects}
 use Rattle.cjc_vtable.specs.Laws.{KeepsInterfaces, KeepsRules}
 use Rattle.cjc_vtable.proofs.Asked.{Among, among-split, at_head, further, has-here, method-asked, public-shown}
-use Rattle.cjc_vtable.proofs.Calls.{token-some}
+use Rattle.cjc_vtable.proofs.Calls.{In-behind, In-front, token-some}
 use Rattle.cjc_vtable.proofs.Given.{In-split}
 use Rattle.cjc_vtable.proofs.Once.{listed_token}
 use Rattle.cjc_vtable.proofs.Stood.{gathered-interface, gathered-named, in-interface}
-use Rattle.cjc_vtable.proofs.Worlds.{line_of-declared}
+use Rattle.cjc_vtable.proofs.SlotNames.{In-has}
+use Rattle.cjc_vtable.proofs.Worlds.{line_of-declared, methods-behind, methods-front}
 use Rattle.cjc_slot_laws.specs.Meant.{HaveOneAccess}
-use Rattle.cjc_slot_laws.proofs.Meant.{In-has}
 
 -- ---- members of lists
 
@@ -44,23 +44,6 @@ any-one test (n ∷ ms) e = by (test n) refl e (any-one test ms)
     by : (b : Bool) → test n ≡ b → (b || list_any test ms) ≡ true → (list_any test ms ≡ true → (m : Member) × In m ms × (test m ≡ true)) → (m : Member) × In m (n ∷ ms) × (test m ≡ true)
     by true f g rest = (n, first_of, f)
     by false f g rest = let r = rest g in (r.0, later r.1, r.2)
-
-In-front : (m : Member) (a b : List Member) → In m a → In m (a ++ b)
-In-front m [] b i = elim i [ ]
-In-front m (n ∷ a) b first_of = first_of
-In-front m (n ∷ a) b (later i) = later (In-front m a b i)
-
-In-back : (m : Member) (a b : List Member) → In m b → In m (a ++ b)
-In-back m [] b i = i
-In-back m (n ∷ a) b i = later (In-back m a b i)
-
-methods-front : (m : Member) (cs ds : List Class) → In m (all_methods cs) → In m (all_methods (cs ++ ds))
-methods-front m [] ds i = elim i [ ]
-methods-front m (c ∷ cs) ds i = ⊎_elim (λ j. In-front m c.methods (all_methods (cs ++ ds)) j) (λ j. In-back m c.methods (all_methods (cs ++ ds)) (methods-front m cs ds j)) (In-split m c.methods (all_methods cs) i)
-
-methods-back : (m : Member) (cs ds : List Class) → In m (all_methods ds) → In m (all_methods (cs ++ ds))
-methods-back m [] ds i = i
-methods-back m (c ∷ cs) ds i = In-back m c.methods (all_methods (cs ++ ds)) (methods-back m cs ds i)
 
 among-at : (is : List Class) (j : ℕ) (i : Class) → slice_get is j ≡ Some i → Among i is
 among-at [] j i e = absurd (cc)
@@ -182,10 +165,10 @@ module _ (w : List Class) (is_kin : (xs : List (List ℕ)) → IsKin w xs (kin w
         (λ f. let m = declares x c s e plain f in (m.0, In-front m.0 c.methods (all_methods (upwards p ++ upwards r)) m.1, m.2, m.3))
         (λ g. ⊎_elim
         (λ f. let m = far c.supers p s sp (λ y d l n. rules.apart x y c d e (all x c foremost e) l n) plain f in
-        (m.0, In-back m.0 c.methods (all_methods (upwards p ++ upwards r)) (methods-front m.0 (upwards p) (upwards r) m.1), m.2, m.3))
+        (m.0, In-behind m.0 c.methods (all_methods (upwards p ++ upwards r)) (methods-front (upwards p) (upwards r) m.0 m.1), m.2, m.3))
         (λ g. ⊎_elim
         (λ f. absurd (imported_gets_none c.is_imported (is_abstract c.flags) (not (is_interface c.flags)) (is_one_of (asked_by p q) s.name s.desc) (all x c foremost e) f))
-        (λ f. let m = far xs r s b (λ y d l n. all y d (after l) n) plain f in (m.0, In-back m.0 c.methods (all_methods (upwards p ++ upwards r)) (methods-back m.0 (upwards p) (upwards r) m.1), m.2, m.3))
+        (λ f. let m = far xs r s b (λ y d l n. all y d (after l) n) plain f in (m.0, In-behind m.0 c.methods (all_methods (upwards p ++ upwards r)) (methods-behind (upwards p) (upwards r) m.0 m.1), m.2, m.3))
         g)
         g)
         (four (declares_open s.name s.desc c) (has_open s.name s.desc p) (takes_added c && is_one_of (asked_by p q) s.name s.desc) (has_open s.name s.desc r) h)
@@ -248,7 +231,7 @@ module _ (w : List Class) (is_kin : (xs : List (List ℕ)) → IsKin w xs (kin w
         by true f rest (inl d) = let m = declares y c s g plain d in listed-slot y c p g f sp m.0 s (In-front m.0 c.methods (all_methods (upwards p)) m.1) m.2 m.3
         by true f rest (inr (inl d)) =
             let m = far c.supers p s sp (λ z k l n. rules.apart y z c k g f l n) plain d in
-            listed-slot y c p g f sp m.0 s (In-back m.0 c.methods (all_methods (upwards p)) m.1) m.2 m.3
+            listed-slot y c p g f sp m.0 s (In-behind m.0 c.methods (all_methods (upwards p)) m.1) m.2 m.3
         by true f rest (inr (inr (inl d))) = let no = taken c.is_imported (is_abstract c.flags) (not (is_interface c.flags)) (both (takes_added c) (is_one_of (asked_by p q) s.name s.desc) d).0 in absurd (cc)
         by b f rest (inr (inr (inr d))) = absurd (cc)
         by false f rest (inl d) = let m = declares y c s g plain d in declared-slot c (line_in w p) m.0 s m.1 m.2 m.3

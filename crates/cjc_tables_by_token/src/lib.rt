@@ -104,12 +104,13 @@ pub fn memories_begin_alike()
 
 /// All that the run of narrow code by label and the run of components by token ask of classes, objects, static
 /// fields, names and reports is the same, for the names that a package may have: of what `TablesAgree` asks only
-/// operations and calls are left.
+/// operations and calls are left, and that whatever is there is of java/lang/Object.
 pub fn class_tables_agree()
     ensures { (list : List ℕ) (p : Package) (codes : List MethodCode) (call : Callee → Bool) (code : Method → NMethod) → IsSound list p.files → AreTyped p.files → IsImage p.files codes p.image → StandOnce p.files codes → ClassTablesAgree (naming p) (memories (naming p) (known_names call p)) (named p.files p.image code) (known_by (tests (known_names call p))) }
 {}
 
-/// Whoever shows the rest, of operations and calls, has all that the law of whole runs asks of tables.
+/// Whoever shows the rest, of operations, of calls and of java/lang/Object, has all that the law of whole runs asks of
+/// tables.
 pub fn tables_agree_by_parts()
     ensures { (n : Naming) (placed : List Placed) (memories : Memories) (l : Named) (methods : Methods) (known : KnownNames) → ClassTablesAgree n memories l (known_by known) → CallTablesAgree n placed memories l methods (known_by known) (IsKnownCall known) → TablesAgree n placed memories l methods (known_by known) (IsKnownCall known) }
 {}

@@ -231,6 +231,13 @@ meant-same f g [] e = refl
 meant-same f g (None ∷ all) e = ap (λ q. None ∷ q) (meant-same f g all e)
 meant-same f g (Some s ∷ all) e = ap (λ o. o ∷ map (meant_by f) all) (e s) ∙ ap (λ q. g s ∷ q) (meant-same f g all e)
 
+-- the slots of a class and its supers are those of each once
+pub slots-once : (w : List Class) (c : Class) (xs : List (List ℕ)) (k : Kin) → IsKin w xs k → listed_slots (all_methods (c ∷ once [] (upwards k))) ≡ listed_slots (all_methods (c ∷ upwards k))
+slots-once w c xs k is =
+    listed_slots-append c.methods (all_methods (once [] (upwards k)))
+    ∙ ap (overlay (listed_slots c.methods)) (listed-once w (upwards k) (named-upwards w xs k is))
+    ∙ sym (listed_slots-append c.methods (all_methods (upwards k)))
+
 pub rows-once : (w : List Class) (c : Class) (xs : List (List ℕ)) (k : Kin) (r : Rows) → IsKin w xs k → AreRowsOf (Imported (c ∷ once [] (upwards k))) r → AreRowsOf (Imported (c ∷ upwards k)) r
 unfolding first
 rows-once w c xs k r is a = record {
@@ -246,10 +253,7 @@ rows-once w c xs k r is a = record {
     named = named-upwards w xs k is
 
     slots_same : listed_slots (all_methods (c ∷ once [] (upwards k))) ≡ listed_slots (all_methods (c ∷ upwards k))
-    slots_same =
-        listed_slots-append c.methods (all_methods (once [] (upwards k)))
-        ∙ ap (overlay (listed_slots c.methods)) (listed-once w (upwards k) named)
-        ∙ sym (listed_slots-append c.methods (all_methods (upwards k)))
+    slots_same = slots-once w c xs k is
 
 -- ---- the methods of interfaces
 

@@ -16,5 +16,6 @@ mod tokens;
 pub use assigning::{assign, few, first_high};
 pub use interfaces::interface_methods;
 pub use laws::interface_laws;
-pub use slot::{Slot, token};
+pub use listed::imported_slots;
+pub use slot::{Slot, is_exposed, is_virtual, token};
 pub use tokens::Tokens;

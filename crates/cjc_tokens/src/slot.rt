@@ -35,7 +35,7 @@ pub(crate) struct Rows<'w> {
 }
 
 /// Whether a member is public or protected.
-pub(crate) fn is_exposed(flags: u16) -> bool
+pub fn is_exposed(flags: u16) -> bool
     ensures { result ≡ is_exposed flags }
 {
     is_public(flags) || is_protected(flags)
@@ -54,7 +54,7 @@ pub(crate) fn is_initialiser(name: &[u8]) -> bool
 }
 
 /// Whether a method is neither static nor private nor a constructor.
-pub(crate) fn is_virtual(flags: u16, name: &[u8]) -> bool
+pub fn is_virtual(flags: u16, name: &[u8]) -> bool
     ensures { result ≡ is_virtual_by flags name.now }
 {
     !is_private(flags) && !is_static(flags) && !(is_constructor(name) || is_initialiser(name))

@@ -87,11 +87,11 @@ module _ (w : List Class) where
 
   -- ---- along a line whose classes are those of their numbers
 
-  abbrev AreSeen : List Class → Type 0
+  abbrev pub AreSeen : List Class → Type 0
   AreSeen [] = Unit {0}
   AreSeen (c ∷ cs) = Numbered w c × AreSeen cs
 
-  abbrev IsSeen : Line → Type 0
+  abbrev pub IsSeen : Line → Type 0
   IsSeen Nowhere = Unit {0}
   IsSeen (Imported classes) = AreSeen classes
   IsSeen (Declared c given above) = Numbered w c × (given ≡ added w c) × IsSeen above
@@ -105,7 +105,7 @@ module _ (w : List Class) where
       by None g e rest = rest e
       by (Some h) g e rest = own-named test s c f seen.0 (g ∙ e)
 
-  implementing-named : (line : Line) (s : Signature) (f : Found) → IsSeen line → implementing line s ≡ Some f → named w f ≡ Some s
+  pub implementing-named : (line : Line) (s : Signature) (f : Found) → IsSeen line → implementing line s ≡ Some f → named w f ≡ Some s
   implementing-named Nowhere s f seen e = cc
   implementing-named (Imported classes) s f seen e = first-named is_virtual s classes f seen e
   implementing-named (Declared c given above) s f seen e = by (own is_shown s c) refl (got given s c) refl e (implementing-named above s f seen.2)
@@ -117,7 +117,7 @@ module _ (w : List Class) where
 
 -- ---- each slot has a method
 
-In-has : (test : Member → Bool) (ms : List Member) (m : Member) (s : Signature) → In m ms → test m ≡ true → signature_of m ≡ s → has (signatures test ms) s ≡ true
+pub In-has : (test : Member → Bool) (ms : List Member) (m : Member) (s : Signature) → In m ms → test m ≡ true → signature_of m ≡ s → has (signatures test ms) s ≡ true
 In-has test [] m s i e is = elim i [ ]
 In-has test (n ∷ ms) m s first_of e is = ap (λ b. has (if b then signature_of n ∷ signatures test ms else signatures test ms) s) e ∙ ap (λ q. same q s || has (signatures test ms) s) is ∙ ap (λ b. b || has (signatures test ms) s) (same-refl s)
 In-has test (n ∷ ms) m s (later i) e is = by (test n) (same (signature_of n) s) refl (In-has test ms m s i e is)
@@ -143,7 +143,7 @@ first-there s (c ∷ classes) m i v is e = by (own is_virtual s c) refl e (first
 split-slot : (front : Slots) (ss : List Signature) (t : ℕ) (s : Signature) → slice_get (with_new front ss) t ≡ Some (Some s) → (slice_get front t ≡ Some (Some s)) ⊎ (has ss s ≡ true)
 split-slot front ss t s e = ⊎_elim (λ h. inl h) (λ h. inr (new-offered front ss s h)) (at_either front (new_in front ss) t s e)
 
-slot-there : (line : Line) (t : ℕ) (s : Signature) → slice_get (slots line) t ≡ Some (Some s) → implementing line s ≡ None → ⊥
+pub slot-there : (line : Line) (t : ℕ) (s : Signature) → slice_get (slots line) t ≡ Some (Some s) → implementing line s ≡ None → ⊥
 slot-there Nowhere t s e none = cc
 slot-there (Imported classes) t s e none =
     let m = listed_slot (all_methods classes) t s e in
@@ -190,7 +190,7 @@ module _ (w : List Class) (numbered_ones : (x : List ℕ) (d : Class) → class_
   seen-upwards (x ∷ xs) k (unknown_here {next = r} e b) = seen-upwards xs r b
   seen-upwards (x ∷ xs) k (known_here {c = c} {supers = p} {interfaces = q} {next = r} e s t b) = (numbered_ones x c e, seen-append (upwards p) (upwards r) (seen-upwards c.supers p s) (seen-upwards xs r b))
 
-  seen-line : (xs : List (List ℕ)) (k : Kin) → IsKin w xs k → IsSeen w (line_in w k)
+  pub seen-line : (xs : List (List ℕ)) (k : Kin) → IsKin w xs k → IsSeen w (line_in w k)
   seen-line [] k ends = tt
   seen-line (x ∷ xs) k (unknown_here e b) = tt
   seen-line (x ∷ xs) k (known_here {c = c} {supers = p} {interfaces = q} {next = r} e s t b) = by c.is_imported (seen-line c.supers p s)

@@ -24,7 +24,7 @@ use Rattle.cjc_vtable.proofs.Once.{inherited_token, inherited_hidden_token, one_
 use Rattle.cjc_vtable.proofs.Sent.{imported_calls}
 use Rattle.cjc_vtable.proofs.Asked.{named-among, map-found, has-here, chosen-front, chosen-behind, public-shown, index_at, method-asked, of-split}
 
-methods-front : (a b : List Class) (m : Member) → In m (all_methods a) → In m (all_methods (a ++ b))
+pub methods-front : (a b : List Class) (m : Member) → In m (all_methods a) → In m (all_methods (a ++ b))
 methods-front [] b m i = elim i [ ]
 methods-front (c ∷ a) b m i = by c.methods i (λ j. methods-front a b m j)
   where
@@ -33,7 +33,7 @@ methods-front (c ∷ a) b m i = by c.methods i (λ j. methods-front a b m j)
     by (n ∷ ms) first_of rest = first_of
     by (n ∷ ms) (later i) rest = later (by ms i rest)
 
-methods-behind : (a b : List Class) (m : Member) → In m (all_methods b) → In m (all_methods (a ++ b))
+pub methods-behind : (a b : List Class) (m : Member) → In m (all_methods b) → In m (all_methods (a ++ b))
 methods-behind [] b m i = i
 methods-behind (c ∷ a) b m i = In-behind m c.methods (all_methods (a ++ b)) (methods-behind a b m i)
 
@@ -74,7 +74,7 @@ module _ (w : List Class) (is_kin : (xs : List (List ℕ)) → IsKin w xs (kin w
   kin-known : (x : List ℕ) (c : Class) → class_named w x ≡ Some c → kin w (x ∷ []) ≡ Known c (kin w c.supers) (kin w c.interfaces) End
   kin-known x c e = one_kin (x ∷ []) (kin w (x ∷ [])) (Known c (kin w c.supers) (kin w c.interfaces) End) (is_kin (x ∷ [])) (known_here e (is_kin c.supers) (is_kin c.interfaces) ends)
 
-  told-line : (xs : List (List ℕ)) (k : Kin) → IsKin w xs k → IsTold (line_in w k)
+  pub told-line : (xs : List (List ℕ)) (k : Kin) → IsKin w xs k → IsTold (line_in w k)
   told-line xs k ends = tt
   told-line xs k (unknown_here e a) = tt
   told-line (x ∷ xs) k (known_here {c = c} {supers = p} {interfaces = q} e s i a) = by c.is_imported refl (told-line c.supers p s)

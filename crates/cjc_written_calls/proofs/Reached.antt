@@ -1,5 +1,5 @@
 -- Each call reaches by token what it reaches by name.
-use Rattle.std.proofs.Common.{◌≡◌, ℕ, zero, suc, refl, sym, ap, subst, ◌∙◌, Bool, true, false, List, [], ◌∷◌}
+use Rattle.std.proofs.Common.{◌≡◌, ℕ, zero, suc, refl, sym, ap, subst, ◌∙◌, Bool, true, false, List, [], ◌∷◌, inl, inr}
 use Rattle.std.specs.Prelude.{Option, Some, slice_get, map, position, is_some, not, ◌&&◌, option_and_then, if◌then◌else◌}
 use Rattle.cjc_bytes.specs.AccessFlags.{is_abstract, is_interface}
 use Rattle.cjc_bytes.specs.declared.fault.MemberId.{MemberId}
@@ -86,12 +86,12 @@ module _ (p : Package) (facts : Facts p) (subtypes : KeepsSubtypes (world p)) (t
       by false is = let i = facts.own x c e is in (i.offset, sym (ap (card_class p) (name_is w x c e)) ∙ i.on_card)
 
   virtual_on : (m : MemberId) (d : Class) → class_named w m.class ≡ Some d → is_interface d.flags ≡ false → is_initialiser m.name ≡ false → Rattle.cjc_written_calls.specs.Calls.IsSought w m
-      → (x : List ℕ) (c : Class) → class_named w x ≡ Some c → is_interface c.flags ≡ false → (r : Reached Placed) → reached_at p.files w place (OnObject m) (Some (OfClass x)) ≡ r → IsFound r
+      → (x : List ℕ) (c : Class) → class_named w x ≡ Some c → is_interface c.flags ≡ false → (c.is_imported ≡ false → is_abstract c.flags ≡ false) → (r : Reached Placed) → reached_at p.files w place (OnObject m) (Some (OfClass x)) ≡ r → IsFound r
       → Calls.reached n.loaded (callee n (OnObject m)) (Some (OfClass (n.class x))) ≡ reached_as (code_of n) (offset_of n) r
-  virtual_on m d known class_here plain sought x c e not_interface r h is =
+  virtual_on m d known class_here plain sought x c e not_interface made r h is =
       let s = class_stands p facts x c e not_interface in
       reaching.virtual_calls_reach p.files w n (method_offset p) place begins x s.foot (receiver_says p facts subtypes.climbs kinds x c e not_interface) (agrees x c e not_interface) m d r known class_here plain
-      (token_says p tokens m d known class_here (hidden_own m.class d (signature m) known) sought) h is
+      (token_says p tokens m d known class_here (hidden_own m.class d (signature m) known) x c e not_interface (inr made) sought) h is
 
   -- ---- arrays are receivers as java/lang/Object is
 
@@ -132,16 +132,20 @@ module _ (p : Package) (facts : Facts p) (subtypes : KeepsSubtypes (world p)) (t
       ∙ on r (sym (ap (λ t. if t then reached_placed place (selected_from p.files w (select_in w) (shape_name kind) m) else Nowhere) (array_subtype (shape_name kind) m.class array no_array)
       ∙ ap (λ c. if is_subtype w object m.class then reached_placed place c else Nowhere) (array_virtual (shape_name kind) m array)) ∙ h) is
 
+  -- no imported class is asked whether it is abstract
+  foreign : (c : Class) → c.is_imported ≡ true → c.is_imported ≡ false → is_abstract c.flags ≡ false
+  foreign c import own = (let clash : false ≡ true = sym own ∙ import in absurd (cc))
+
   pub virtual_reached : (m : MemberId) (d : Class) → class_named w m.class ≡ Some d → is_interface d.flags ≡ false → is_initialiser m.name ≡ false → Rattle.cjc_written_calls.specs.Calls.IsSought w m
       → (o : Option (Shape (List ℕ))) → Receives w o → (r : Reached Placed) → reached_at p.files w place (OnObject m) o ≡ r → IsFound r → Calls.reached n.loaded (callee n (OnObject m)) (option_as (shape_as n.class) o) ≡ reached_as (code_of n) (offset_of n) r
   virtual_reached m d known class_here plain sought o none r h is = absurd (subst IsFound (sym h) is)
-  virtual_reached m d known class_here plain sought o (one_of {x = x} c e not_interface made) r h is = virtual_on m d known class_here plain sought x c e not_interface r h is
+  virtual_reached m d known class_here plain sought o (one_of {x = x} c e not_interface made) r h is = virtual_on m d known class_here plain sought x c e not_interface made r h is
   virtual_reached m d known class_here plain sought o (numbers {element = element}) r h is =
       let c = facts.object_class in
-      array_virtual_on m (OfNumbers element) (numbers_array element) refl (kinds.no_array m.class (ap is_some known)) (virtual_on m d known class_here plain sought object c.0 c.1 c.3) r h is
+      array_virtual_on m (OfNumbers element) (numbers_array element) refl (kinds.no_array m.class (ap is_some known)) (virtual_on m d known class_here plain sought object c.0 c.1 c.3 (foreign c.0 c.2)) r h is
   virtual_reached m d known class_here plain sought o (references {x = x}) r h is =
       let c = facts.object_class in
-      array_virtual_on m (OfReferences x) (references_array x) refl (kinds.no_array m.class (ap is_some known)) (virtual_on m d known class_here plain sought object c.0 c.1 c.3) r h is
+      array_virtual_on m (OfReferences x) (references_array x) refl (kinds.no_array m.class (ap is_some known)) (virtual_on m d known class_here plain sought object c.0 c.1 c.3 (foreign c.0 c.2)) r h is
 
   -- ---- calls of methods of interfaces
 
@@ -323,7 +327,7 @@ module _ (p : Package) (facts : Facts p) (subtypes : KeepsSubtypes (world p)) (t
           first_one = ap first_super known ∙ ap (λ ss. slice_get ss 0) supers;
           tables = card_towers.superclass_above w n (method_offset p) m.class super s.foot c (tables p facts m.class super c known own class_here supers) s.tower (super_fits p facts m.class super c d known own class_here supers super_is s);
           same_token = token_same;
-          token = token_says p tokens (of_class super m) d super_is super_class (hidden_own super d (signature m) super_is) sought;
+          token = token_says p tokens (of_class super m) d super_is super_class (hidden_own super d (signature m) super_is) super d super_is super_class (inl refl) sought;
           imported = ap (λ y. first_imported (line w y)) itself_there ∙ s.imported;
           itself = itself_there;
           found = λ f h. line_found p facts true m.name m.desc super f h;

@@ -1,8 +1,8 @@
 -- Tokens that components give virtual methods are those by which they are called.
 use Rattle.std.proofs.Common.{◌≡◌, ℕ, ◌+◌, ◌-◌, ◌<◌, ap, ◌∙◌, arith, Bool, true, false, List}
-use Rattle.std.specs.Prelude.{Some, None, unwrap_or, nat_lt, if◌then◌else◌}
+use Rattle.std.specs.Prelude.{◌⊎◌, Some, None, unwrap_or, nat_lt, if◌then◌else◌}
 use Rattle.std.proofs.lemmas.Bool.Decides.{nat_tests}
-use Rattle.cjc_bytes.specs.AccessFlags.{is_interface}
+use Rattle.cjc_bytes.specs.AccessFlags.{is_abstract, is_interface}
 use Rattle.cjc_bytes.specs.declared.fault.MemberId.{MemberId}
 use Rattle.cjc_calls_by_token.specs.Selecting.{SaysToken, got, open_method, package_method, signature}
 use Rattle.cjc_card.specs.Classes.{Class as CardClass, Own, Foreign}
@@ -50,7 +50,8 @@ module _ (p : Package) (tokens : KeepsTokens (world p)) where
       ∙ hidden_token 0 offset t
 
   -- a virtual method that is sought has its token, where the class is of the package if the method is package-visible
-  pub token_says : (m : MemberId) (d : Class) → class_named w m.class ≡ Some d → is_interface d.flags ≡ false → (finds_hidden (line_of w m.class) (signature m) ≡ true → (offset : ℕ) × (class_at p m.class ≡ Own 0 offset)) → IsSought w m → SaysToken w (naming p) m
-  token_says m d known class_here own (shown finds no_hidden) = open_method finds (λ t is. dispatched_shown m d known class_here no_hidden t is)
-  token_says m d known class_here own (hidden finds) = let at = own finds in package_method finds (λ t is. dispatched_hidden m at.0 at.1 finds t is)
-  token_says m d known class_here own (calls.got t is no_hidden selects) = got t is (dispatched_shown m d known class_here no_hidden t is) selects
+  pub token_says : (m : MemberId) (d : Class) → class_named w m.class ≡ Some d → is_interface d.flags ≡ false → (finds_hidden (line_of w m.class) (signature m) ≡ true → (offset : ℕ) × (class_at p m.class ≡ Own 0 offset))
+      → (x : List ℕ) (c : Class) → class_named w x ≡ Some c → is_interface c.flags ≡ false → (x ≡ m.class) ⊎ (c.is_imported ≡ false → is_abstract c.flags ≡ false) → IsSought w m → SaysToken w (naming p) x m
+  token_says m d known class_here own x c e plain may (shown finds no_hidden) = open_method finds (λ t is. dispatched_shown m d known class_here no_hidden t is)
+  token_says m d known class_here own x c e plain may (hidden finds) = let at = own finds in package_method finds (λ t is. dispatched_hidden m at.0 at.1 finds t is)
+  token_says m d known class_here own x c e plain may (calls.got t is no_hidden selects) = got t is (dispatched_shown m d known class_here no_hidden t is) (λ f under sel. selects x c f e plain may under sel)

@@ -1,5 +1,5 @@
 -- Calls take as many words by token as by name.
-use Rattle.std.proofs.Common.{◌≡◌, ℕ, ◌+◌, ◌-◌, refl, sym, ap, ◌∙◌, arith, Bool, true, false, List, [], ◌∷◌, length, ⊎_elim}
+use Rattle.std.proofs.Common.{◌≡◌, ℕ, ◌+◌, ◌-◌, refl, sym, ap, ◌∙◌, arith, Bool, true, false, List, [], ◌∷◌, length, inl, ⊎_elim}
 use Rattle.std.specs.Prelude.{Option, Some, None, slice_get, option_map, option_and_then, not, if◌then◌else◌}
 use Rattle.cjc_bytes.specs.AccessFlags.{is_interface, is_private, is_static}
 use Rattle.cjc_bytes.specs.declared.fault.MemberId.{MemberId}
@@ -186,7 +186,7 @@ module _ (p : Package) (facts : Facts p) (subtypes : KeepsSubtypes (world p)) (t
   selected_virtual m d known class_here plain sought s sig f sel =
       let stands = class_stands p facts m.class d known class_here in
       let calls = agrees p facts subtypes tokens keep kinds at begins m.class d known class_here in
-      ap (card.words_of (loaded p) true) (calls.virtual_call m d f known itself (token_says p tokens m d known class_here (hidden_own p facts subtypes tokens keep kinds at begins m.class d (signature m) known) sought) sel (line_found p facts true m.name m.desc m.class f sel))
+      ap (card.words_of (loaded p) true) (calls.virtual_call m d f known itself (token_says p tokens m d known class_here (hidden_own p facts subtypes tokens keep kinds at begins m.class d (signature m) known) m.class d known class_here (inl refl) sought) sel (line_found p facts true m.name m.desc m.class f sel))
       ∙ selected_taken m.class m d known class_here plain s sig stands.foot f sel
 
   -- the method of a token: one that a class declares, or got

@@ -1,5 +1,5 @@
 -- What the rules of names promise of calls in narrow code, and of the classes and tokens that calls rest on (Java Card Virtual Machine Specification 2.2.2, sections 4.3.7 and 7.5).
-use Rattle.std.specs.Prelude.{◌≡◌, ℕ, ◌<◌, List, [], ◌∷◌, Option, Some, None, Bool, true, false, not, position, slice_get}
+use Rattle.std.specs.Prelude.{◌≡◌, ◌⊎◌, ℕ, ◌<◌, List, [], ◌∷◌, Option, Some, None, Bool, true, false, not, position, slice_get}
 use Rattle.cjc_bytes.specs.AccessFlags.{is_abstract, is_interface, is_static}
 use Rattle.cjc_bytes.specs.declared.fault.MemberId.{MemberId}
 use Rattle.cjc_by_name.specs.OnePackage.{is_initialiser, of_class}
@@ -57,12 +57,14 @@ pub data Receives (w : List Class) : Option (Shape (List ℕ)) → Type 0 where
 
 -- ---- calls
 
--- A virtual method that is sought from a class: a public or protected one that is found there, a package-visible one, or one that the class got from an interface.
+-- A virtual method that is sought from a class: a public or protected one that is found there, a package-visible one, or one that the class got from an interface,
+-- for which selection on the class itself, and on each class below it whose objects are there, gives a public or protected one.
 pub data IsSought (w : List Class) (m : MemberId) : Type 0 where
   shown : finds_shown (line_of w m.class) (signature m) ≡ true → finds_hidden (line_of w m.class) (signature m) ≡ false → IsSought w m
   hidden : finds_hidden (line_of w m.class) (signature m) ≡ true → IsSought w m
   got : (t : ℕ) → token (slots (line_of w m.class)) (signature m) ≡ Some t → finds_hidden (line_of w m.class) (signature m) ≡ false
-      → ((x : List ℕ) (f : Found) → Under w x m.class → selection w x (signature m) ≡ Some f → selects_shown (line_of w x) (signature m) ≡ true) → IsSought w m
+      → ((x : List ℕ) (c : Class) (f : Found) → class_named w x ≡ Some c → is_interface c.flags ≡ false → (x ≡ m.class) ⊎ (c.is_imported ≡ false → is_abstract c.flags ≡ false)
+      → Under w x m.class → selection w x (signature m) ≡ Some f → selects_shown (line_of w x) (signature m) ≡ true) → IsSought w m
 
 -- What a call of narrow code names.
 pub data IsNamed (w : List Class) : Callee → Type 0 where

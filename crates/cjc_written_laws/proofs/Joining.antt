@@ -1,8 +1,8 @@
 -- The run of a package's components is the run of its narrow code, from the first entry on.
-use Rattle.std.proofs.Common.{◌≡◌, ℕ, refl, sym, ap, subst, ◌∙◌, Bool, List, [], ◌∷◌, map}
+use Rattle.std.proofs.Common.{◌≡◌, ℕ, refl, sym, ap, subst, ◌∙◌, Bool, true, List, [], ◌∷◌, map}
 use Rattle.std.specs.Prelude.{◌≢◌, Option, Some, None}
 use Rattle.cjc_bytecode.specs.Alike.{IsFound, KnownKind, KnownState, no_frames, reached_as, start_as, state_as}
-use Rattle.cjc_bytecode.specs.Effects.{HeapObject, Memory, Numbers, Object, References}
+use Rattle.cjc_bytecode.specs.Effects.{HeapObject, Memory, Numbers, Object, References, shape}
 use Rattle.cjc_bytecode.specs.Machine.{Reached, Start, State, Within}
 use Rattle.cjc_bytecode.specs.Machine as machine
 use Rattle.cjc_bytecode.specs.Renaming.{KnownHeap, heap_object_as, memory_as, no_things, numbers_known, one_thing, option_as, shape_as}
@@ -25,13 +25,15 @@ use Rattle.cjc_narrow.specs.Package.{first_memory, named}
 use Rattle.cjc_narrow.specs.Package as narrow
 use Rattle.cjc_ncode.specs.ByLabel.{Callee, by_label}
 use Rattle.cjc_ncode.specs.ByLabel as labels
-use Rattle.cjc_script.specs.Sorts.{Shape}
+use Rattle.cjc_script.specs.Sorts.{Shape, shape_name}
 use Rattle.cjc_script.specs.declared.report.Outcome.TheVariants.{Stuck}
 use Rattle.cjc_script.specs.declared.report.Report.{Report}
 use Rattle.cjc_script.specs.declared.script.Script.{Script}
 use Rattle.cjc_tables_by_token.specs.Known.{known_names, order_of}
 use Rattle.cjc_tables_by_token.specs.Loading.{loaded, naming}
 use Rattle.cjc_tables_by_token.specs.Tables.{CallTablesAgree}
+use Rattle.cjc_world.specs.Lookup.{object}
+use Rattle.cjc_world.specs.Subtype.{is_subtype}
 use Rattle.cjc_world.specs.declared.image.ArrayCell.{ArrayCell}
 use Rattle.cjc_written_calls.specs.Calls.{IsNamed, Receives, none}
 use Rattle.cjc_written_calls.specs.Standing.{place}
@@ -89,7 +91,7 @@ module _ (p : Package) (call : Callee → Bool) where
       ∙ law n (begins script) (begins_known joined script) not_stuck
       ∙ label
 
-  -- what the tables say of operations and calls
+  -- what the tables say of operations, calls and java/lang/Object
   pub calls_agree : IsJoined p call
       → ((m : Callee) → Calls.on_object (callee (naming p) m) ≡ labels.on_object m)
       → ((m : Callee) → IsNamed (world p) m → (o : Option (Shape (List ℕ))) → Receives (world p) o → (r : Reached Placed) → reaching.reached_at p.files (world p) (place p) m o ≡ r → IsFound r
@@ -98,14 +100,16 @@ module _ (p : Package) (call : Callee → Bool) where
       → ((id : MemberId) → (let n = naming p in let methods = reaching.placed_methods p.files (place p) in Calls.called n.loaded id ≡ option_as (start_as (code_of n) (offset_of n)) (methods.called id)))
       → ((id : MemberId) (start : Start Placed) → (let methods = reaching.placed_methods p.files (place p) in methods.called id ≡ Some start → IsAmong (placed_methods p) start.code))
       → ((kind : Shape (List ℕ)) → Receives (world p) (Some kind) → (id : MemberId) (start : Start Placed) → (let methods = reaching.placed_methods p.files (place p) in methods.sent kind id ≡ Some start → IsAmong (placed_methods p) start.code))
+      → ((kind : Shape (List ℕ)) → Receives (world p) (Some kind) → is_subtype (world p) (shape_name kind) object ≡ true)
       → CallTablesAgree (naming p) (placed_methods p) (memories (naming p) (known_names call p)) (named p.files p.image (placed_code p)) (reaching.placed_methods p.files (place p)) (known_by (tests (known_names call p))) (IsKnownCall (tests (known_names call p)))
   unfolding named
-  calls_agree joined objects alike there called called_there sent_there = record {
+  calls_agree joined objects alike there called called_there sent_there is_object = record {
     operation_known = joined.operations;
     on_object = λ m known. objects m;
     words = λ m w known e. joined.takes m w known e;
     reached = λ m o r known kind e found. alike m (joined.calls m known) o (kinds_receive joined o kind) r e found;
     reached_known = λ m o start known kind e. there m (joined.calls m known) o (kinds_receive joined o kind) start e;
+    is_object = λ t known. is_object (shape t) (joined.receives (shape t) (record { thing = t; is_known = known; is_of = refl }));
     called = called;
     called_known = called_there;
     sent = λ kind id thing. joined.sent kind id thing;

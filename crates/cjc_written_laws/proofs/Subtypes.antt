@@ -1,13 +1,14 @@
--- A class is of another one over superclasses, and of an interface that is one of its interfaces.
+-- A class is of another one over superclasses, and of an interface that is one of its interfaces. What receives calls is of java/lang/Object.
 use Rattle.std.proofs.Common.{◌≡◌, ◌⊎◌, inl, inr, ℕ, refl, sym, ap, subst, ◌∙◌, Bool, true, false, List, [], ◌∷◌, ◌++◌, append-nil}
 use Rattle.std.specs.Prelude.{◌||◌, Option, Some, None, option_to_list, if◌then◌else◌}
 use Rattle.std.specs.List.{AllByRecursion}
 use Rattle.std.specs.Str.{bytes_eq}
 use Rattle.cjc_bytes.specs.AccessFlags.{is_interface}
 use Rattle.cjc_call_laws.proofs.Selects.{receiver_plain}
-use Rattle.cjc_call_laws.proofs.Types.{type_below}
+use Rattle.cjc_call_laws.proofs.Types.{below_type, type_below}
+use Rattle.cjc_script.specs.Sorts.{Booleans, Bytes, Element, Ints, OfNumbers, OfReferences, Shape, Shorts, shape_name}
 use Rattle.cjc_tokens.specs.Methods.{interfaces_at}
-use Rattle.cjc_upward_laws.proofs.Lines.{gathered_has, on_line}
+use Rattle.cjc_upward_laws.proofs.Lines.{gathered_has, line_below, on_line}
 use Rattle.cjc_upward_laws.specs.Upwards.{Below, Has, IsOrdered, OnLine, after, foremost, here, up}
 use Rattle.cjc_vtable.specs.Laws.{Under, below, interface_named, itself}
 use Rattle.cjc_world.proofs.Cycles.{class_named-name}
@@ -16,8 +17,9 @@ use Rattle.cjc_world.specs.Classes.{Class, class_named}
 use Rattle.cjc_world.specs.Interfaces.{Interface, each_once, gathered, is_among, known, where_listed}
 use Rattle.cjc_world.specs.Kin.{End, IsKin, Kin, Known, ends, kin, known_here, unknown_here}
 use Rattle.cjc_world.specs.Kin as kins
+use Rattle.cjc_world.specs.Lookup.{object}
 use Rattle.cjc_world.specs.Subtype.{is_subtype, starts}
-use Rattle.cjc_written_calls.specs.Calls.{KeepsSubtypes}
+use Rattle.cjc_written_calls.specs.Calls.{KeepsSubtypes, Receives, numbers, one_of, references}
 
 -- ---- superclasses
 
@@ -144,3 +146,24 @@ module _ (w : List Class) (ordered : IsOrdered w) (plain : (x : List ℕ) (c : C
     climbs = λ x y c d e concrete f other sub. line_under w x y d (on_line w ordered x y c d (below_by x y c d e f sub) e concrete f other) f;
     implements = implements;
   }
+
+  -- ---- java/lang/Object
+
+  -- a class that is no interface has it above itself
+  class_is_object : (x : List ℕ) (c : Class) → class_named w x ≡ Some c → is_interface c.flags ≡ false → is_subtype w x object ≡ true
+  class_is_object x c e concrete =
+      let r = ordered.rooted x c e concrete in
+      let name : r.0.name ≡ object = class_named-name w object r.0 r.1 in
+      below_type w x object refl (subst (λ z. Below w z object) (sym (receiver_plain x (plain x c e))) (subst (Below w x) name (line_below w x r.0 r.2)))
+
+  numbers_are_objects : (element : Element) → is_subtype w (shape_name (OfNumbers element)) object ≡ true
+  numbers_are_objects Booleans = below_type w (shape_name (OfNumbers Booleans)) object refl (inl refl)
+  numbers_are_objects Bytes = below_type w (shape_name (OfNumbers Bytes)) object refl (inl refl)
+  numbers_are_objects Shorts = below_type w (shape_name (OfNumbers Shorts)) object refl (inl refl)
+  numbers_are_objects Ints = below_type w (shape_name (OfNumbers Ints)) object refl (inl refl)
+
+  -- arrays are of it
+  pub receivers_are_objects : (kind : Shape (List ℕ)) → Receives w (Some kind) → is_subtype w (shape_name kind) object ≡ true
+  receivers_are_objects kind (numbers {element = element}) = numbers_are_objects element
+  receivers_are_objects kind (references {x = x}) = below_type w (shape_name (OfReferences x)) object refl (inl refl)
+  receivers_are_objects kind (one_of {x = x} c e concrete own) = class_is_object x c e concrete

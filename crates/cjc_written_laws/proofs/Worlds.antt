@@ -15,6 +15,7 @@ use Rattle.cjc_judge.specs.declared.judged.Judged.{Judged}
 use Rattle.cjc_list.specs.Listed.{ListTree}
 use Rattle.cjc_narrow_laws.proofs.ClassNames.{each_name}
 use Rattle.cjc_prepared.proofs.Sound.{has_tokens}
+use Rattle.cjc_script.specs.Sorts.{Shape, shape_name}
 use Rattle.cjc_solid_laws.proofs.Rules.{method_kept}
 use Rattle.cjc_solid_laws.proofs.Solid.{solid as solid_of}
 use Rattle.cjc_solid_laws.specs.Files.{IsClean}
@@ -24,12 +25,13 @@ use Rattle.cjc_table_rules.proofs.Spelt.{class_read}
 use Rattle.cjc_upward_laws.specs.Upwards.{IsOrdered}
 use Rattle.cjc_world.specs.Classes.{Class, Member, all_classes, class_named, method_of_class}
 use Rattle.cjc_world.specs.Files.{Files}
-use Rattle.cjc_world.specs.Subtype.{starts}
+use Rattle.cjc_world.specs.Lookup.{object}
+use Rattle.cjc_world.specs.Subtype.{is_subtype, starts}
 use Rattle.cjc_tokens.specs.Rules.{token_breaks}
-use Rattle.cjc_written_calls.specs.Calls.{KeepsSubtypes, KeepsTokens, NoStaticMethods}
+use Rattle.cjc_written_calls.specs.Calls.{KeepsSubtypes, KeepsTokens, NoStaticMethods, Receives}
 use Rattle.cjc_written_laws.specs.Converted.{IsConverted}
 use Rattle.cjc_written_laws.proofs.Files.{are_spelt, own_unbroken, read_files, same_files}
-use Rattle.cjc_written_laws.proofs.Subtypes.{keeps_subtypes}
+use Rattle.cjc_written_laws.proofs.Subtypes.{keeps_subtypes, receivers_are_objects}
 use Rattle.cjc_written_laws.proofs.Tokens.{keeps_tokens}
 
 last_of : (a b c d : Bool) → (a || b || c || d) ≡ false → d ≡ false
@@ -90,6 +92,9 @@ module _ (list : ListTree) (files : List (List ℕ)) (judged : Judged) (p : Pack
 
   pub own_subtypes : KeepsSubtypes (world p)
   own_subtypes = keeps_subtypes (world p) own_ordered plain_names
+
+  pub own_objects : (kind : Shape (List ℕ)) → Receives (world p) (Some kind) → is_subtype (world p) (shape_name kind) object ≡ true
+  own_objects = receivers_are_objects (world p) own_ordered plain_names
 
   pub own_tokens : KeepsTokens (world p)
   own_tokens =

@@ -2,4 +2,4 @@ use Rattle.cjc_lower.proofs.Search.{handler_same}
 use Rattle.cjc_lower.proofs.handlers_are_found.Goals as goal
 
 pub returns : goal.returns
-returns c = λ n l to count k kind inside ascends agree catches lie. handler_same n l to count k kind inside ascends agree catches lie
+returns c = λ n l to count k kind inside ascends agree root catches lie. handler_same n l to count k kind inside ascends agree root catches lie

@@ -21,12 +21,12 @@ returns-clause-instructions c = λ list files judged p is opcodes k m e j insn f
     k m e j insn f (c.converted_methods_are_consistent.ensures.kinds list files judged p is k m e j insn f) opcodes
 
 pub returns-clause-all : goal.returns-clause-all
-returns-clause-all c = λ list files judged p is opcodes throwables.
+returns-clause-all c = λ list files judged p is opcodes.
     let sound = files_sound list files judged p is in
     let small = c.converted_methods_are_consistent.ensures.small list files judged p is in
     let keeps = c.converted_classes_keep_rules.ensures.keeps list files judged p is in
     let keep = exports_keep list.name p sound is.exports is.plain in
     record {
       names = λ k m e j insn f. returns-clause-instructions c list files judged p is opcodes k m e j insn f;
-      catches = catches_fit list files judged p is throwables (λ x d known. c.calls_fit_their_keys.ensures.classes list.name p sound small keeps keep x d known);
+      catches = catches_fit list files judged p is (λ x d known. c.calls_fit_their_keys.ensures.classes list.name p sound small keeps keep x d known);
     }

@@ -9,6 +9,7 @@ returns c = λ n placed memories l methods known class_tables call_tables. recor
   words = call_tables.words;
   reached = call_tables.reached;
   reached_known = call_tables.reached_known;
+  is_object = call_tables.is_object;
   fault = class_tables.fault;
   fault_known = class_tables.fault_known;
   class_named = class_tables.class_named;

@@ -16,7 +16,7 @@ use Rattle.cjc_written_laws.proofs.Files.{field_descs, files_sound, is_kept, own
 use Rattle.cjc_written_laws.proofs.Joining.{calls_agree, runs_by_token}
 use Rattle.cjc_written_laws.proofs.Made.{is_small, ordered_at}
 use Rattle.cjc_written_laws.proofs.Ordering.{laid_runs}
-use Rattle.cjc_written_laws.proofs.Worlds.{no_static_methods, own_subtypes, own_tokens}
+use Rattle.cjc_written_laws.proofs.Worlds.{no_static_methods, own_objects, own_subtypes, own_tokens}
 use Rattle.cjc_written_laws.proofs.converted_packages_run_by_token.Goals as goal
 
 pub returns : goal.returns
@@ -42,7 +42,8 @@ returns c = λ list files judged p is call joined script n free.
     (λ m is_named o receives start e. c.calls_reach.ensures.there list.name p sound ready methods small keeps joined.exports m is_named o receives start e)
     (c.entries_are_called.ensures.alike list.name p sound ready methods small keeps joined.exports interfaces)
     (c.entries_are_called.ensures.there list.name p sound ready methods small keeps joined.exports interfaces)
-    (λ kind receives id start e. c.sent_methods_stand.ensures list.name p sound ready methods small keeps joined.exports kind receives id start e) in
+    (λ kind receives id start e. c.sent_methods_stand.ensures list.name p sound ready methods small keeps joined.exports kind receives id start e)
+    (own_objects list files judged p is) in
     let tables = c.tables_agree_by_parts.ensures (naming p) (placed_methods p) (memories (naming p) names) (named p.files p.image (placed_code p)) placed (tests names) classes rest in
     let sorted = laid_runs p (ordered_at list files judged p is) c.order_changes_no_search.ensures script n free in
     let not_stuck = subst (λ (r : Report). (at : ℕ) → r.outcome ≢ Stuck at) (sym sorted) free in

@@ -1,0 +1,4 @@
+mod Types
+mod Fields
+mod Sources
+mod Named

@@ -1,0 +1,5 @@
+mod Aids
+mod Sizes
+mod Signatures
+mod Entries
+mod Interfaces
