@@ -89,6 +89,10 @@ field_found w acyclic d name desc f named e = by (kin w (d.name ∷ [])) (kin-Is
         let same : d ≡ c = cc in
         ap (λ o. or_else (or_else o (or_else (field_in own i) (field_in own s))) (field_in own next)) (subst (λ (v : Class). own v ≡ Some f) same e)
 
+-- a member by its name and descriptor
+same_id : (class name desc : List ℕ) (id : MemberId) → name ≡ id.name → desc ≡ id.desc → record { class = class; name = name; desc = desc } ≡ of_class class id
+same_id class name desc id e f = ap (λ v. record { class = class; name = v; desc = desc }) e ∙ ap (λ v. record { class = class; name = id.name; desc = v }) f
+
 -- ---- tests
 
 both_true : (a b : Bool) → a ≡ true → b ≡ true → (a && b) ≡ true
@@ -222,9 +226,9 @@ module _ (list : ListTree) (files : List (List ℕ)) (judged : Judged) (p : Pack
       let told_value : (if may_be_constant x.flags x.desc then x.constant else None) ≡ None = sym (constant_by d at.place at.member own t) ∙ value in
       let variable : is_constant x ≡ false = no_value (may_be_constant x.flags x.desc) x.constant told_value in
       let name : (let c = t.file in c.name) ≡ d.name = sym (ap (λ (v : Class). v.name) t.is_class) in
-      let id_is : field_id d.name x ≡ of_class d.name id =
-      ap (λ v. record { class = d.name; name = v; desc = x.desc }) (sym (ap (λ (q : Member). q.name) t.same) ∙ at.has_name)
-      ∙ ap (λ v. record { class = d.name; name = id.name; desc = v }) (sym (ap (λ (q : Member). q.desc) t.same) ∙ at.has_desc) in
+      let x_name : x.name ≡ id.name = sym (ap (λ (q : Member). q.name) t.same) ∙ at.has_name in
+      let x_desc : x.desc ≡ id.desc = sym (ap (λ (q : Member). q.desc) t.same) ∙ at.has_desc in
+      let id_is : field_id d.name x ≡ of_class d.name id = same_id d.name x.name x.desc id x_name x_desc in
       let among = is_static_of (let v = p.files in v.classes) d.number t.file at.place x t.is_file t.in_file (both_true (is_static x.flags) (not (is_constant x)) static (ap not variable)) in
       record {
         class = d;

@@ -1,9 +1,9 @@
 -- Each key of a converted package's pool names a class that some file has, has a descriptor whose types are there, and names what is there.
 use Rattle.std.proofs.Common.{◌≡◌, ⊎_elim, ℕ, ◌<◌, ◌^◌, refl, sym, ap, subst, ◌∙◌, Bool, true, false, List, [], ◌∷◌, length}
-use Rattle.std.specs.Prelude.{◌||◌, is_some, option_and_then, if◌then◌else◌}
+use Rattle.std.specs.Prelude.{◌||◌, is_some, option_and_then, if◌then◌else◌, Some}
 use Rattle.cjc_bytes.specs.AccessFlags.{is_interface, is_private, is_static}
 use Rattle.cjc_bytes.specs.declared.fault.MemberId.{MemberId}
-use Rattle.cjc_by_name.specs.OnePackage.{is_constructor, method_hit, of_class}
+use Rattle.cjc_by_name.specs.OnePackage.{Hit, is_constructor, method_hit, of_class}
 use Rattle.cjc_by_token.specs.Cells.{HasCells}
 use Rattle.cjc_class_laws.specs.Premises.{names_known}
 use Rattle.cjc_classfile.specs.declared.tree.ClassTree.{ClassTree}
@@ -25,6 +25,7 @@ use Rattle.cjc_narrow_laws.proofs.Instructions.{op_there}
 use Rattle.cjc_narrow_laws.specs.Unbroken.{IsInsnOf}
 use Rattle.cjc_subset.specs.Names.{is_name_missing, names_missing}
 use Rattle.cjc_narrow.specs.Resolved.{method_found, resolved_method, special_by, virtual_by}
+use Rattle.cjc_ncode.specs.ByLabel.{OnObject, OnSuper}
 use Rattle.cjc_ncode.specs.declared.narrow.PoolKey.{PoolKey}
 use Rattle.cjc_ncode.specs.declared.narrow.PoolKey.TheVariants as keys
 use Rattle.cjc_tables_by_token.specs.Known.{order_of, statics_of}
@@ -32,10 +33,10 @@ use Rattle.cjc_token_consistency.specs.Keys.{IsThere, called as called_object, c
 use Rattle.cjc_vtable.proofs.Filed.{Has}
 use Rattle.cjc_world.specs.Classes.{Class, class_named}
 use Rattle.cjc_world.specs.Rules.{is_desc_missing}
+use Rattle.cjc_written_calls.specs.Calls.{IsNamed}
 use Rattle.cjc_written_laws.specs.Converted.{IsConverted}
 use Rattle.cjc_written_laws.proofs.Files.{own_unbroken, read_files}
 use Rattle.cjc_written_laws.proofs.Worlds.{own_solid}
-use Rattle.cjc_met_laws.specs.Named.{VirtualCallsAreNamed}
 use Rattle.cjc_met_laws.proofs.Abroad.{abroad_named}
 use Rattle.cjc_met_laws.proofs.Access.{visible}
 use Rattle.cjc_met_laws.proofs.Descs.{desc_known}
@@ -71,7 +72,7 @@ module _ (list : ListTree) (files : List (List ℕ)) (judged : Judged) (p : Pack
   special_key : (P : PoolKey → Type 0) (holder : List ℕ) (class : ClassTree) (id : MemberId) (n : Names_method list files judged p is class 0xB7 id)
       → (is_constructor id.name ≡ true → P (keys.StaticMethod (of_class (let d = n.owner in d.name) id)))
       → (is_private (let a = n.at in let m = a.member in m.flags) ≡ true → P (keys.StaticMethod (of_class (let d = n.owner in d.name) id)))
-      → (special_by holder id (method_found w id) ≡ keys.Super (of_class holder id) → P (keys.Super (of_class holder id)))
+      → (is_constructor id.name ≡ false → is_private (let a = n.at in let m = a.member in m.flags) ≡ false → P (keys.Super (of_class holder id)))
       → P (special_by holder id (method_found w id))
   special_key P holder class id n constructor private above = by (is_constructor id.name) (is_private flags) refl refl
     where
@@ -87,9 +88,8 @@ module _ (list : ListTree) (files : List (List ℕ)) (judged : Judged) (p : Pack
           subst P (sym (told ∙ ap (λ a. if a || is_private flags then keys.StaticMethod (of_class (let d = n.owner in d.name) id) else keys.Super (of_class holder id)) e
           ∙ ap (λ b. if b then keys.StaticMethod (of_class (let d = n.owner in d.name) id) else keys.Super (of_class holder id)) f)) (private f)
       by false false e f =
-          let is = told ∙ ap (λ a. if a || is_private flags then keys.StaticMethod (of_class (let d = n.owner in d.name) id) else keys.Super (of_class holder id)) e
-          ∙ ap (λ b. if b then keys.StaticMethod (of_class (let d = n.owner in d.name) id) else keys.Super (of_class holder id)) f in
-          subst P (sym is) (above is)
+          subst P (sym (told ∙ ap (λ a. if a || is_private flags then keys.StaticMethod (of_class (let d = n.owner in d.name) id) else keys.Super (of_class holder id)) e
+          ∙ ap (λ b. if b then keys.StaticMethod (of_class (let d = n.owner in d.name) id) else keys.Super (of_class holder id)) f)) (above e f)
 
   -- ---- classes
 
@@ -103,7 +103,7 @@ module _ (list : ListTree) (files : List (List ℕ)) (judged : Judged) (p : Pack
       let n = called list files judged p is class 0xB6 id of in
       virtual_key (λ m. names_known w (keys.Virtual m) ≡ true) class id n (ap is_some n.named) (λ own. ap is_some n.names_class)
   key_known _ (sources.of_special k class id named plain of) =
-      special_key (λ key. names_known w key ≡ true) class.name class id (called list files judged p is class 0xB7 id of) (λ e. refl) (λ e. refl) (λ e. ap is_some named)
+      special_key (λ key. names_known w key ≡ true) class.name class id (called list files judged p is class 0xB7 id of) (λ e. refl) (λ e. refl) (λ e f. ap is_some named)
   key_known _ (sources.of_call class id of) = refl
 
   -- ---- descriptors
@@ -134,7 +134,7 @@ module _ (list : ListTree) (files : List (List ℕ)) (judged : Judged) (p : Pack
       (only_desc desc id.desc (call_desc class 0xB6 id of)) (λ own. only_desc desc id.desc (call_desc class 0xB6 id of)) h
   key_desc _ (sources.of_special k class id named plain of) desc h =
       special_key (λ key. Has desc (desc_of_key key) → IsKnownDesc list files judged p is desc) class.name class id (called list files judged p is class 0xB7 id of)
-      (λ e. only_desc desc id.desc (call_desc class 0xB7 id of)) (λ e. only_desc desc id.desc (call_desc class 0xB7 id of)) (λ e. only_desc desc id.desc (call_desc class 0xB7 id of)) h
+      (λ e. only_desc desc id.desc (call_desc class 0xB7 id of)) (λ e. only_desc desc id.desc (call_desc class 0xB7 id of)) (λ e f. only_desc desc id.desc (call_desc class 0xB7 id of)) h
   key_desc _ (sources.of_call class id of) desc h =
       let n = called list files judged p is class 0xB8 id of in
       only_desc desc id.desc (call_desc class 0xB8 id of) (subst (λ (q : MemberId). Has desc (q.desc ∷ [])) n.resolved h)
@@ -150,7 +150,10 @@ module _ (list : ListTree) (files : List (List ℕ)) (judged : Judged) (p : Pack
       by false e = member (members.of_method (own_method_named list files judged p is class op id n e plain))
       by true e = member (members.imported_method (abroad_named list files judged p is class op id n e (bound e)))
 
-  module _ (told : HasCells (order_of p.image) (statics_of (let v = p.files in v.classes))) (fit : CellsFit p.image) (calls : VirtualCallsAreNamed p codes) where
+  module _ (told : HasCells (order_of p.image) (statics_of (let v = p.files in v.classes))) (fit : CellsFit p.image)
+      (virtuals : (class : ClassTree) (id : MemberId) → IsInsnOf p.files codes class (jop.Call 0xB6 id) → IsNamed w (OnObject (virtual_by w id (class_named w id.class))))
+      (supers : (class : ClassTree) (id : MemberId) → IsInsnOf p.files codes class (jop.Call 0xB7 id) → is_interface class.flags ≡ false → is_constructor id.name ≡ false
+      → (hit : Hit) → method_found w id ≡ Some hit → is_private hit.flags ≡ false → IsNamed w (OnSuper (of_class class.name id))) where
     pub key_there : (key : PoolKey) → IsMet p.files codes key → IsThere p key
     key_there _ (sources.of_class c e) = member members.of_class
     key_there _ (sources.of_field class put id of) =
@@ -159,11 +162,11 @@ module _ (list : ListTree) (files : List (List ℕ)) (judged : Judged) (p : Pack
     key_there _ (sources.of_static class put id of none) =
         let n = static_named list.name p.files codes (settings_of list) (own_unbroken list files judged p is) (own_solid list files judged p is) class put id of in
         subst (λ q. IsThere p (keys.StaticField q)) (sym n.resolved) (member (members.of_cell (own_cell_named list files judged p is told fit id n none)))
-    key_there _ (sources.of_virtual class id of) = called_object (calls.virtual class id of)
+    key_there _ (sources.of_virtual class id of) = called_object (virtuals class id of)
     key_there _ (sources.of_special k class id named plain of) = special_key (IsThere p) class.name class id n
         (λ e. fixed_there class 0xB7 id n (fixed_in_class list files judged p is class 0xB7 id n (third (is_static flags) (is_private flags) (is_constructor id.name) e)) (λ import. bound e))
         (λ e. fixed_there class 0xB7 id n (fixed_in_class list files judged p is class 0xB7 id n (second (is_static flags) (is_private flags) (is_constructor id.name) e)) (λ import. not_abroad import e))
-        (λ e. called_above (calls.above class id (of_class class.name id) of e))
+        (λ e f. called_above (supers class id of plain e (record { owner = n.owner; flags = flags }) (ap (option_and_then (method_hit w)) n.found ∙ n.hit) f))
       where
         n : Names_method list files judged p is class 0xB7 id
         n = called list files judged p is class 0xB7 id of
