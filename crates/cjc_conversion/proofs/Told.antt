@@ -1,8 +1,8 @@
 -- What is told of a rule that speaks of what is written is told of its place in the order of refusals.
-use Rattle.std.proofs.Common.{◌≡◌, ℕ, zero, suc, ◌+◌, ◌-◌, ◌<◌, ◌≤◌, refl, sym, ap, subst, ◌∙◌, arith, Bool, true, false, List, [], ◌∷◌, ◌++◌, length, map, flat_map, ⊎_elim, Option, Some, None}
+use Rattle.std.proofs.Common.{◌≡◌, ℕ, zero, suc, ◌+◌, ◌-◌, ◌≤◌, refl, sym, ap, subst, ◌∙◌, arith, Bool, true, false, List, [], ◌∷◌, length, map, flat_map, ⊎_elim, Option, Some, None}
 use Rattle.std.specs.Prelude.{codes, nat_lt, option_map, slice_get, unwrap_or, if◌then◌else◌}
 use Rattle.std.specs.Str.{bytes_eq}
-use Rattle.std.proofs.lemmas.Bool.{ltb-false, ltb-true}
+use Rattle.std.proofs.lemmas.Bool.{ltb-true}
 use Rattle.std.proofs.lemmas.List.{length-map}
 use Rattle.std.proofs.lemmas.Option.{slice_get-map, slice_get_cases, slice_get_within}
 use Rattle.cjc_bytes.specs.Breaks.{Break, at, broken_at, class_spot, member_spot}
@@ -19,8 +19,7 @@ use Rattle.cjc_judge.proofs.Each.{Each, each_append, each_at, each_more, each_no
 use Rattle.cjc_judge.proofs.Places.{IsFileOf, IsTold, class_files, file_is_of, told_at_class, told_at_method, told_list}
 use Rattle.cjc_layout.specs.Refusals.{least, overtaking}
 use Rattle.cjc_tokens.proofs.Held.{at_front}
-use Rattle.cjc_vtable.proofs.Filed.{Has, behind, get-has}
-use Rattle.cjc_vtable.proofs.Filed as filed
+use Rattle.cjc_vtable.proofs.Filed.{Has, get-has}
 use Rattle.cjc_vtable.proofs.Numbers.{at-tree}
 use Rattle.cjc_world.specs.Added.{added}
 use Rattle.cjc_world.specs.Classes.{Class, Member, all_classes, class_at, declared, field_of_class, method_of_class}
@@ -28,7 +27,6 @@ use Rattle.cjc_world.specs.Files.{Files}
 use Rattle.cjc_world.specs.Lookup.{member_at}
 use Rattle.cjc_world.specs.Order.{in_order, method_order, methods_in_turn, methods_of_class, places, written}
 use Rattle.cjc_world.specs.declared.found.Found.{Found}
-use Rattle.cjc_fitting_laws.proofs.Lists.{mapped_at}
 use Rattle.cjc_fitting_laws.proofs.Order.{has_cons, has_either, has_none}
 
 -- ---- methods stand behind the fields of their classes
@@ -149,7 +147,7 @@ module _ (p : Package) (counted : (let v = p.files in length v.classes ≡ class
               let at_it : f.member - length c.fields ≡ i = omega (arith, fields_long) in
               let in_class_file : slice_get c.methods i ≡ Some (method_of_class x) = ap (λ (d : Class). slice_get d.methods i) found.2 ∙ slice_get-map method_of_class t.methods i ∙ ap (option_map method_of_class) there in
               let is : m ≡ method_of_class x =
-                  ap (λ j. unwrap_or (slice_get (methods_with_added w c) j) no_member) at_it ∙ ap (λ o. unwrap_or o no_member) (at_front c.methods (map as_added (added w c)) i (method_of_class x) in_class_file) in
+              ap (λ j. unwrap_or (slice_get (methods_with_added w c) j) no_member) at_it ∙ ap (λ o. unwrap_or o no_member) (at_front c.methods (map as_added (added w c)) i (method_of_class x) in_class_file) in
               let v = p.files in
               let told = told_at_method (let l = p.list in l.name) p.files f.class t (file_of v.lines f.class) file i x there offset rule in
               subst Told

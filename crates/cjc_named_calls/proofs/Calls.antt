@@ -1,6 +1,6 @@
 -- Each call that the code of a converted package makes is one that calls can name.
 use Rattle.std.proofs.Common.{◌≡◌, ℕ, refl, sym, ap, subst, ◌∙◌, Bool, true, false, List}
-use Rattle.std.specs.Prelude.{◌||◌, Option, Some, option_and_then, slice_get, if◌then◌else◌}
+use Rattle.std.specs.Prelude.{◌||◌, Some, option_and_then, if◌then◌else◌}
 use Rattle.cjc_bytecode.specs.Effects.{Call}
 use Rattle.cjc_bytecode.specs.Meanings.{meaning}
 use Rattle.cjc_bytes.specs.AccessFlags.{is_interface, is_private}
@@ -22,12 +22,11 @@ use Rattle.cjc_narrow.specs.Selected.{near_fields}
 use Rattle.cjc_narrow_laws.specs.Unbroken.{IsInsnOf}
 use Rattle.cjc_ncode.specs.ByLabel.{Callee, Fixed, OnInterface, OnObject, OnSuper, Resolved, naming, operation}
 use Rattle.cjc_ncode.specs.declared.narrow.NInsn.{NInsn}
-use Rattle.cjc_ncode.specs.declared.narrow.PoolKey.{PoolKey}
 use Rattle.cjc_ncode.specs.declared.narrow.PoolKey.TheVariants as keys
 use Rattle.cjc_world.specs.Classes.{Class, class_named}
 use Rattle.cjc_written_calls.specs.Calls.{IsNamed, TakesWords}
 use Rattle.cjc_written_laws.specs.Converted.{IsConverted}
-use Rattle.cjc_written_sends.specs.Named.{CallsAreNamed, callee_in, calls_in, calls_of}
+use Rattle.cjc_written_sends.specs.Named.{CallsAreNamed, callee_in, calls_in}
 use Rattle.cjc_named_calls.proofs.Operations.{flat_from, is_that_call, no_call, no_class, no_field, no_static, no_test}
 
 -- What is promised of the calls of a package by their opcodes, as laws on each kind say it.

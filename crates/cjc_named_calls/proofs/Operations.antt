@@ -1,15 +1,14 @@
 -- Which instructions of narrow code make calls.
-use Rattle.std.proofs.Common.{◌≡◌, ℕ, zero, suc, refl, ap, ◌∙◌, Bool, true, false, List, [], ◌∷◌, ◌++◌, ⊎_elim, inl, inr}
+use Rattle.std.proofs.Common.{◌≡◌, ℕ, zero, suc, refl, ap, true, List, [], ◌∷◌, ◌++◌, ⊎_elim, inl, inr}
 use Rattle.std.specs.Prelude.{◌⊎◌, Option, Some, None, flat_map, slice_get, ℤ}
-use Rattle.cjc_bytecode.specs.Effects.{Ask, Branch, Call, Cast, Do, Get, GetStatic, New, NewNumbers, NewReferences, Pick, Put, PutStatic, Touch, Undone}
-use Rattle.cjc_bytecode.specs.Meanings.{Asks, Branches, Calls, CallsInterface, Casts, Gets, GetsStatic, Makes, MakesNumbers, MakesReferences, Meaning, Nothing, Paired, Plain, Puts, PutsStatic, Ranged, Special, Static, Touches, Use, Uses, Virtual}
+use Rattle.cjc_bytecode.specs.Effects.{Call}
+use Rattle.cjc_bytecode.specs.Meanings.{Asks, Branches, Calls, Casts, Meaning, Paired, Plain, Ranged, Special, Static, Touches, Use, Uses, Virtual}
 use Rattle.cjc_bytes.specs.declared.fault.MemberId.{MemberId}
 use Rattle.cjc_code_names.specs.Sources.{names_nothing}
 use Rattle.cjc_ncode.specs.ByLabel.{Callee, Resolved, jumping, making, naming, operation, plain, switching, testing, using}
 use Rattle.cjc_ncode.specs.declared.narrow.NCase.{NCase}
 use Rattle.cjc_ncode.specs.declared.narrow.NInsn.{NInsn}
 use Rattle.cjc_ncode.specs.declared.narrow.NInsn.TheVariants as insns
-use Rattle.cjc_ncode.specs.declared.narrow.PoolKey.{PoolKey}
 use Rattle.cjc_ncode.specs.declared.narrow.PoolKey.TheVariants as keys
 use Rattle.cjc_script.specs.Sorts.{Element, Shape}
 use Rattle.cjc_written_sends.specs.Named.{callee_in}

@@ -11,7 +11,7 @@ use Rattle.cjc_vtable.proofs.Asked.{chosen-behind, chosen-front}
 use Rattle.cjc_vtable.proofs.Calls.{In-behind, In-front}
 use Rattle.cjc_world.specs.declared.found.Found.{Found}
 use Rattle.cjc_world.specs.Classes.{Class, Member}
-use Rattle.cjc_world.specs.Lookup.{first, is_called, is_selectable, is_wanted, member_at, or_else, own_method}
+use Rattle.cjc_world.specs.Lookup.{first, is_called, is_wanted, member_at, or_else, own_method}
 
 -- ---- in a list
 

@@ -12,16 +12,16 @@ use Rattle.cjc_components.specs.Package.{Package, world}
 use Rattle.cjc_judge.specs.declared.judged.Judged.{Judged}
 use Rattle.cjc_list.specs.Listed.{ListTree}
 use Rattle.cjc_named_laws.proofs.Names.{Calls_method}
-use Rattle.cjc_tokens.specs.Members.{chosen, is_exposed, is_hidden, is_initialiser, is_shown, is_virtual, signature_of}
+use Rattle.cjc_tokens.specs.Members.{chosen, is_exposed, is_initialiser, is_virtual, signature_of}
 use Rattle.cjc_tokens.proofs.Facts.{chosen-In}
 use Rattle.cjc_upward_laws.specs.Upwards.{IsOrdered, OnLine}
 use Rattle.cjc_upward_laws.proofs.Lines.{line_named, of_line}
-use Rattle.cjc_vtable.specs.Calls.{any_method, selects}
+use Rattle.cjc_vtable.specs.Calls.{any_method}
 use Rattle.cjc_world.specs.declared.found.Found.{Found}
 use Rattle.cjc_world.specs.Access.{is_accessible}
 use Rattle.cjc_world.specs.Classes.{Class, Member}
 use Rattle.cjc_world.specs.Interfaces.{gathered, known}
-use Rattle.cjc_world.specs.Kin.{is_below, kin, line}
+use Rattle.cjc_world.specs.Kin.{kin, line}
 use Rattle.cjc_world.specs.Lookup.{find_method, first, is_selectable, member_at, or_else, own_method}
 use Rattle.cjc_written_laws.proofs.Worlds.{own_solid}
 use Rattle.cjc_written_laws.specs.Converted.{IsConverted}

@@ -1,21 +1,19 @@
 -- Public or protected methods and package-visible ones at or above a class, and what is found and selected from there.
 use Rattle.std.proofs.Common.{◌≡◌, ℕ, refl, sym, ap, subst, ◌∙◌, Bool, true, false, List, [], ◌∷◌, ◌++◌}
-use Rattle.std.specs.Prelude.{◌⊎◌, ◌||◌, Option, Some, None, if◌then◌else◌}
-use Rattle.cjc_bytes.specs.AccessFlags.{is_abstract, is_interface, is_private, is_static}
+use Rattle.std.specs.Prelude.{◌||◌, Option, Some, None, if◌then◌else◌}
 use Rattle.cjc_tokens.specs.Lines.{Declared, Imported, line_in, line_of}
-use Rattle.cjc_tokens.specs.Members.{In, Signature, all_methods, chosen, first_of, has, is_exposed, is_hidden, is_shown, is_virtual, later, same, signature_of, signatures}
+use Rattle.cjc_tokens.specs.Members.{In, Signature, all_methods, chosen, first_of, has, is_hidden, is_shown, later, same, signature_of, signatures}
 use Rattle.cjc_tokens.specs.Slots.{slots, token}
 use Rattle.cjc_tokens.proofs.Facts.{chosen-In, chosen-passes, same-refl}
 use Rattle.cjc_tokens.proofs.Held.{shown-virtual}
 use Rattle.cjc_tokens.proofs.Walks.{kin-known}
 use Rattle.cjc_upward_laws.specs.Upwards.{OnLine, here, up}
 use Rattle.cjc_upward_laws.proofs.Lines.{line_listed}
-use Rattle.cjc_vtable.specs.Calls.{IsOneToOne, IsTold, any_method, finds_hidden, finds_shown, is_special, passes, selects, selects_shown}
-use Rattle.cjc_vtable.specs.Laws.{KeepsRules, Under, below, itself, selection}
+use Rattle.cjc_vtable.specs.Calls.{IsOneToOne, IsTold, any_method, finds_hidden, is_special, passes, selects, selects_shown}
+use Rattle.cjc_vtable.specs.Laws.{KeepsRules, Under, below, itself}
 use Rattle.cjc_vtable.proofs.Agrees.{hidden-virtual, hidden_selects, shown-has_slot, virtual_plain}
 use Rattle.cjc_vtable.proofs.Calls.{In-behind, In-front, token-some}
 use Rattle.cjc_vtable.proofs.Worlds.{line_of-declared}
-use Rattle.cjc_world.specs.declared.found.Found.{Found}
 use Rattle.cjc_world.specs.Added.{added}
 use Rattle.cjc_world.specs.Classes.{Class, Member, class_named}
 use Rattle.cjc_world.specs.Kin.{IsKin, Kin, Lists, after, ends, foremost, kin, known_here, unknown_here, upwards}

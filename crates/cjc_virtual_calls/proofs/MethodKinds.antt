@@ -1,11 +1,11 @@
 -- Below a method of the package that is neither private nor static, methods of the package with its name and descriptor are neither (rule 306).
-use Rattle.std.proofs.Common.{◌≡◌, ℕ, zero, suc, refl, sym, ap, subst, ◌∙◌, Bool, true, false, List, [], ◌∷◌, ◌++◌, ⊎_elim}
+use Rattle.std.proofs.Common.{◌≡◌, ℕ, suc, refl, sym, ap, subst, ◌∙◌, Bool, true, false, List, [], ◌∷◌, ◌++◌, ⊎_elim}
 use Rattle.std.specs.Prelude.{not, ◌&&◌, ◌||◌, Some, map, slice_get, if◌then◌else◌}
 use Rattle.std.specs.List.{list_any}
 use Rattle.std.specs.Str.{bytes_eq}
 use Rattle.cjc_bytes.specs.AccessFlags.{is_private, is_static}
-use Rattle.cjc_bytes.specs.Breaks.{Break, at, each_from}
-use Rattle.cjc_bytes.specs.Order.{FilePlace, file_of}
+use Rattle.cjc_bytes.specs.Breaks.{at, each_from}
+use Rattle.cjc_bytes.specs.Order.{file_of}
 use Rattle.cjc_bytes.specs.declared.settings.Settings.{Settings}
 use Rattle.cjc_call_laws.proofs.Own.{mapped_at}
 use Rattle.cjc_classfile.specs.declared.tree.ClassTree.{ClassTree}

@@ -1,6 +1,6 @@
 -- What an invokevirtual calls is a virtual method that calls can name.
-use Rattle.std.proofs.Common.{◌≡◌, ℕ, zero, suc, refl, sym, ap, subst, ◌∙◌, Bool, true, false, List, [], ◌∷◌, ◌++◌, inl, inr, ⊎_elim}
-use Rattle.std.specs.Prelude.{◌⊎◌, ◌&&◌, ◌||◌, Option, Some, None, slice_get, if◌then◌else◌}
+use Rattle.std.proofs.Common.{◌≡◌, ℕ, suc, refl, sym, ap, subst, ◌∙◌, Bool, true, false, List, [], ◌∷◌, ◌++◌, inl, inr, ⊎_elim}
+use Rattle.std.specs.Prelude.{◌⊎◌, ◌||◌, Some, None, slice_get, if◌then◌else◌}
 use Rattle.std.specs.List.{Contains}
 use Rattle.cjc_bytes.specs.AccessFlags.{is_abstract, is_interface, is_public}
 use Rattle.cjc_bytes.specs.declared.fault.MemberId.{MemberId}
@@ -21,24 +21,23 @@ use Rattle.cjc_narrow_laws.specs.Unbroken.{IsInsnOf, IsUnbroken}
 use Rattle.cjc_ncode.specs.ByLabel.{OnObject}
 use Rattle.cjc_slot_laws.specs.Meant.{AskedHaveTokens}
 use Rattle.cjc_tokens.specs.Lines.{line_of}
-use Rattle.cjc_tokens.specs.Members.{Signature, all_methods, chosen, has, is_constructor, is_initialiser, same, signature_of}
+use Rattle.cjc_tokens.specs.Members.{Signature, all_methods, chosen, is_constructor, is_initialiser, signature_of}
 use Rattle.cjc_tokens.specs.Methods.{interface_methods, interfaces_at}
-use Rattle.cjc_tokens.specs.Slots.{slots, token}
 use Rattle.cjc_tokens.proofs.Facts.{chosen-In, chosen-passes}
 use Rattle.cjc_upward_laws.specs.Upwards.{Below, IsOrdered, OnLine, here}
 use Rattle.cjc_upward_laws.proofs.Lines.{below_abroad, below_on, of_line, on_line}
 use Rattle.cjc_vtable.specs.Calls.{finds_hidden, is_special, selects, selects_shown}
 use Rattle.cjc_vtable.specs.Kept.{Keeps}
-use Rattle.cjc_vtable.specs.Laws.{KeepsRules, Under, interface_named, selection}
+use Rattle.cjc_vtable.specs.Laws.{KeepsRules, Under, selection}
 use Rattle.cjc_vtable.proofs.Asked.{Among, at_head, further, has-here, method-asked, named-among, public-shown}
 use Rattle.cjc_world.specs.declared.found.Found.{Found}
 use Rattle.cjc_world.specs.Classes.{Class, Member, class_named}
 use Rattle.cjc_world.specs.Added.{asked_by, own_methods}
 use Rattle.cjc_world.specs.Interfaces.{known}
 use Rattle.cjc_world.specs.Kin.{IsKin, Kin, kin, line}
-use Rattle.cjc_world.specs.Lookup.{first, is_selectable, own_method}
+use Rattle.cjc_world.specs.Lookup.{own_method}
 use Rattle.cjc_world.specs.Subtype.{is_subtype}
-use Rattle.cjc_written_calls.specs.Calls.{IsNamed, IsSought, KeepsSubtypes, got, hidden, on_object}
+use Rattle.cjc_written_calls.specs.Calls.{IsNamed, IsSought, got, hidden, on_object}
 use Rattle.cjc_written_laws.proofs.Files.{own_unbroken, read_files}
 use Rattle.cjc_written_laws.proofs.Worlds.{own_solid, own_subtypes}
 use Rattle.cjc_written_laws.specs.Converted.{IsConverted}

@@ -1,7 +1,7 @@
 -- Each method of an interface, its initialiser aside, is one of the methods that the interface has by their tokens.
 use Rattle.std.proofs.Common.{◌≡◌, ℕ, zero, suc, ◌+◌, ◌<◌, ◌≤◌, refl, sym, ap, subst, ◌∙◌, arith, Bool, true, false, List, [], ◌∷◌, ◌++◌, length, map}
-use Rattle.std.specs.Prelude.{◌&&◌, ◌||◌, ◌==◌, not, nat_lt, Option, Some, None, option_map, slice_get, if◌then◌else◌}
-use Rattle.std.specs.List.{Contains, list_any}
+use Rattle.std.specs.Prelude.{◌&&◌, ◌||◌, ◌==◌, not, nat_lt, Some, None, slice_get, if◌then◌else◌}
+use Rattle.std.specs.List.{Contains}
 use Rattle.std.proofs.lemmas.Bool.{eqb-true}
 use Rattle.std.proofs.lemmas.Bool.Decides.{nat_tests}
 use Rattle.std.proofs.lemmas.List.{length-map}
@@ -10,12 +10,11 @@ use Rattle.cjc_bytes.specs.AccessFlags.{is_interface}
 use Rattle.cjc_call_laws.proofs.Own.{mapped_at}
 use Rattle.cjc_export.specs.Members.{interface_token, interface_token_taken}
 use Rattle.cjc_export.specs.Writable.{ClassFits, EachAfter, IsWritable, MethodStands}
-use Rattle.cjc_export.specs.declared.tree.ExportClass.{ExportClass}
 use Rattle.cjc_export.specs.declared.tree.ExportMethod.{ExportMethod}
 use Rattle.cjc_export.specs.declared.tree.ExportTree.{ExportTree}
 use Rattle.cjc_narrow_finds.proofs.Descs.{each_after}
 use Rattle.cjc_subset.specs.Members.{imports}
-use Rattle.cjc_tokens.specs.Members.{In, Signature, first_of, is_initialiser, later, signature_of}
+use Rattle.cjc_tokens.specs.Members.{In, first_of, is_initialiser, later, signature_of}
 use Rattle.cjc_tokens.specs.Methods.{interface_methods}
 use Rattle.cjc_vtable.proofs.Calls.{In-behind, In-front}
 use Rattle.cjc_vtable.proofs.Filed.{IsFiled, filed, get-has, has-get, in_class_file, in_export_file, of-imports}

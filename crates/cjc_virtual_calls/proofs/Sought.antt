@@ -2,8 +2,6 @@
 use Rattle.std.proofs.Common.{◌≡◌, ℕ, List}
 use Rattle.cjc_bytes.specs.declared.fault.MemberId.{MemberId}
 use Rattle.cjc_calls_by_token.specs.Selecting.{signature}
-use Rattle.cjc_tokens.specs.Lines.{line_of}
-use Rattle.cjc_vtable.specs.Calls.{selects_shown}
 use Rattle.cjc_vtable.specs.Laws.{KeepsRules}
 use Rattle.cjc_world.specs.Classes.{Class}
 use Rattle.cjc_world.specs.Kin.{IsKin, Kin, kin}

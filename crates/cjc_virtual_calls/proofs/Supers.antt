@@ -1,6 +1,6 @@
 -- What an invokespecial selects from the superclass of the class that holds the code is a virtual method that calls can name.
-use Rattle.std.proofs.Common.{◌≡◌, ℕ, refl, sym, ap, subst, ◌∙◌, Bool, true, false, List, [], ◌∷◌, inl, inr, ⊎_elim}
-use Rattle.std.specs.Prelude.{◌⊎◌, ◌&&◌, ◌||◌, not, Option, Some, None, option_and_then, option_map, position, slice_get}
+use Rattle.std.proofs.Common.{◌≡◌, ℕ, refl, sym, ap, subst, ◌∙◌, Bool, true, false, List, inl, inr, ⊎_elim}
+use Rattle.std.specs.Prelude.{◌⊎◌, ◌&&◌, ◌||◌, not, Option, Some, None, option_and_then, position, slice_get}
 use Rattle.cjc_bytes.specs.AccessFlags.{is_interface, is_private, is_static}
 use Rattle.cjc_bytes.specs.declared.fault.MemberId.{MemberId}
 use Rattle.cjc_by_name.specs.OnePackage.{Hit, is_constructor, method_hit, of_class}
@@ -22,7 +22,7 @@ use Rattle.cjc_ncode.specs.ByLabel.{OnSuper}
 use Rattle.cjc_subset.specs.Members as subset
 use Rattle.cjc_subset.specs.Names.{is_bodiless, is_unfit_super}
 use Rattle.cjc_tokens.specs.Lines.{line_of}
-use Rattle.cjc_tokens.specs.Members.{In, Signature, all_methods, chosen, is_exposed, is_hidden, is_initialiser, is_shown, is_virtual, signature_of}
+use Rattle.cjc_tokens.specs.Members.{Signature, all_methods, chosen, is_exposed, is_initialiser, is_virtual, signature_of}
 use Rattle.cjc_tokens.proofs.Facts.{chosen-In, chosen-passes, same-refl}
 use Rattle.cjc_upward_laws.specs.Upwards.{Below, IsOrdered, OnLine}
 use Rattle.cjc_upward_laws.proofs.Lines.{below_line, below_on, line_below, line_begins, line_named, line_on, of_line, on_line}
@@ -32,7 +32,7 @@ use Rattle.cjc_vtable.specs.Laws.{KeepsRules, Under, below, itself, selection}
 use Rattle.cjc_vtable.proofs.Filed.{IsFiled, filed, in_class_file, in_export_file}
 use Rattle.cjc_world.specs.declared.found.Found.{Found}
 use Rattle.cjc_world.specs.Classes.{Class, Member, class_named, declared, method_of_class}
-use Rattle.cjc_world.specs.Kin.{IsKin, Kin, Lists, foremost, is_below, kin, line}
+use Rattle.cjc_world.specs.Kin.{IsKin, Kin, foremost, is_below, kin, line}
 use Rattle.cjc_world.specs.Lookup.{first, is_called, is_selectable, own_method, receiver, selected}
 use Rattle.cjc_world.specs.Rules.{is_earlier, is_twice}
 use Rattle.cjc_world.proofs.Cycles.{class_named-name}
@@ -47,7 +47,7 @@ use Rattle.cjc_virtual_calls.proofs.Found as found
 use Rattle.cjc_virtual_calls.proofs.Lines.{HasHidden, HasShown, hidden_below, hidden_found, shown_alone, shown_below}
 use Rattle.cjc_virtual_calls.proofs.Places.{member_in}
 use Rattle.cjc_virtual_calls.proofs.Objects.{of_above, own_kinds, sought_there}
-use Rattle.cjc_virtual_calls.proofs.Ways.{IsTop, far_above, line_class, line_finds, top}
+use Rattle.cjc_virtual_calls.proofs.Ways.{far_above, line_class, line_finds, top}
 
 or_left : (a b : Bool) → (a || b) ≡ false → a ≡ false
 or_left true b e = absurd cc

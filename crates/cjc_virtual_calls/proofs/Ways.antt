@@ -1,5 +1,5 @@
 -- Ways upwards over superclasses, in worlds whose classes list what is of their kind.
-use Rattle.std.proofs.Common.{◌≡◌, ℕ, refl, sym, ap, subst, ◌∙◌, Bool, true, false, List, [], ◌∷◌, ◌++◌, inl, inr, ⊎_elim}
+use Rattle.std.proofs.Common.{◌≡◌, ℕ, refl, sym, ap, subst, ◌∙◌, Bool, true, false, List, [], ◌∷◌, inl}
 use Rattle.std.specs.Prelude.{Option, Some, None}
 use Rattle.cjc_bytes.specs.AccessFlags.{is_interface}
 use Rattle.cjc_call_laws.proofs.Own.{own_at}

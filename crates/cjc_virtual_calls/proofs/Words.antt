@@ -1,6 +1,6 @@
 -- The words that a virtual call takes, by the descriptor of the method that it finds.
-use Rattle.std.proofs.Common.{◌≡◌, ℕ, refl, sym, ap, subst, ◌∙◌, Bool, true, false, List, map}
-use Rattle.std.specs.Prelude.{Option, Some, None, option_and_then, if◌then◌else◌}
+use Rattle.std.proofs.Common.{◌≡◌, ℕ, refl, ap, ◌∙◌, Bool, true, false, List, map}
+use Rattle.std.specs.Prelude.{Option, Some, None, if◌then◌else◌}
 use Rattle.cjc_bytes.specs.AccessFlags.{is_private}
 use Rattle.cjc_bytes.specs.declared.fault.MemberId.{MemberId}
 use Rattle.cjc_by_name.specs.OnePackage.{Hit, of_class}
@@ -9,19 +9,17 @@ use Rattle.cjc_classfile.specs.declared.tree.ClassTree.{ClassTree}
 use Rattle.cjc_code.specs.declared.insn.JOp.TheVariants as jop
 use Rattle.cjc_components.specs.Package.{Package, world}
 use Rattle.cjc_flag_laws.specs.Exports.{ExportsHaveOneAccess}
+use Rattle.cjc_interface_calls.proofs.Words.{called_signature}
 use Rattle.cjc_judge.specs.declared.judged.Judged.{Judged}
 use Rattle.cjc_list.specs.Listed.{ListTree}
-use Rattle.cjc_named_laws.proofs.Names.{called}
 use Rattle.cjc_narrow.specs.Resolved.{by_owner, resolved_method, virtual_by}
-use Rattle.cjc_narrow_finds.proofs.Descs.{member_desc}
 use Rattle.cjc_narrow_laws.specs.Unbroken.{IsInsnOf}
 use Rattle.cjc_ncode.specs.ByLabel.{OnObject, OnSuper}
-use Rattle.cjc_script.specs.Sorts.{Signature, result_by, signature_by, signature_of, sort_of}
+use Rattle.cjc_script.specs.Sorts.{signature_of}
 use Rattle.cjc_tokens.specs.Members.{In}
 use Rattle.cjc_vtable.proofs.Filed.{IsFiled, filed, in_class_file, in_export_file}
 use Rattle.cjc_world.specs.Classes.{Class, Member, class_named, method_of_export}
 use Rattle.cjc_written_calls.specs.Calls.{TakesWords, super_words, virtual_words}
-use Rattle.cjc_written_laws.proofs.Files.{read_files}
 use Rattle.cjc_written_laws.specs.Converted.{ExportsArePlain, IsConverted}
 use Rattle.cjc_virtual_calls.proofs.MethodKinds.{in_get}
 
@@ -37,16 +35,6 @@ exports_have_one_access p plain x c m e import i exposed = by c (filed p.files x
         ap (λ (v : Member). is_private v.flags) y.2 ∙ plain.visible n t at k.0 y.0 y.1
 
 module _ (list : ListTree) (files : List (List ℕ)) (judged : Judged) (p : Package) (is : IsConverted list files judged p) (class : ClassTree) (id : MemberId) where
-  -- what is called is named by a method's descriptor
-  called_signature : (op : ℕ) → IsInsnOf p.files judged.codes class (jop.Call op id) → (s : Signature) × (signature_of id.desc ≡ Some s)
-  called_signature op of =
-      let n = called list files judged p is class op id of in
-      let at = n.at in
-      let desc = (member_desc p.files (read_files list files judged p is) n.owner n.named at.place at.member at.is_member).0 in
-      let parts = desc.0 in
-      let s : Signature = record { params = map sort_of parts.params; result = (let r = parts.result in result_by r.kind r) } in
-      (s, sym (ap signature_of at.has_desc) ∙ ap (option_and_then signature_by) desc.1 ∙ ap (λ b. if b then Some s else None) desc.2)
-
   owner_desc : (o : Option Hit) → (by_owner id o).desc ≡ id.desc
   owner_desc None = refl
   owner_desc (Some hit) = refl
@@ -60,7 +48,7 @@ module _ (list : ListTree) (files : List (List ℕ)) (judged : Judged) (p : Pack
       by false = refl
 
   pub virtual_takes : IsInsnOf p.files judged.codes class (jop.Call 0xB6 id) → TakesWords (world p) (OnObject (virtual_by (world p) id (class_named (world p) id.class)))
-  virtual_takes of = let s = called_signature 0xB6 of in virtual_words s.0 (ap signature_of (key_desc (class_named (world p) id.class)) ∙ s.1)
+  virtual_takes of = let s = called_signature list files judged p is class id 0xB6 of in virtual_words s.0 (ap signature_of (key_desc (class_named (world p) id.class)) ∙ s.1)
 
   pub super_takes : IsInsnOf p.files judged.codes class (jop.Call 0xB7 id) → TakesWords (world p) (OnSuper (of_class class.name id))
-  super_takes of = let s = called_signature 0xB7 of in super_words s.0 s.1
+  super_takes of = let s = called_signature list files judged p is class id 0xB7 of in super_words s.0 s.1

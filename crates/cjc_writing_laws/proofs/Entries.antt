@@ -244,7 +244,7 @@ supers_has w c t (x ∷ ss) (g ∷ row) zero s f m a b d e =
     let z : t + 0 ≡ t = omega arith in
     let entry : ExportMethod = method_entry (t + 0) m in
     let is : super_at w c t x g ≡ entry ∷ [] =
-        ap (super_at w c t x) two ∙ ap (λ (q : Signature). super_at w c t q (Some f)) one ∙ ap (λ q. if q then [] else super_entry t (method_meant w f)) d ∙ ap (super_entry t) e ∙ ap (λ k. method_entry k m ∷ []) (sym z) in
+    ap (super_at w c t x) two ∙ ap (λ (q : Signature). super_at w c t q (Some f)) one ∙ ap (λ q. if q then [] else super_entry t (method_meant w f)) d ∙ ap (super_entry t) e ∙ ap (λ k. method_entry k m ∷ []) (sym z) in
     has_front entry (super_at w c t x g) (supers_from w c (t + 1) ss row) (subst (λ (ys : List ExportMethod). Has entry ys) (sym is) at_front)
 supers_has w c t (x ∷ ss) (g ∷ row) (suc i) s f m a b d e =
     let z : t + 1 + i ≡ t + suc i = omega arith in

@@ -208,7 +208,7 @@ module _ (list : ListTree) (files : List (List ℕ)) (judged : Judged) (p : Pack
       let own = map (interface_token its_methods) methods in
       let counted : fields ≡ length front = length-map u.fields field_of_class ∙ sym (fields_long ex u.fields 0 u.fields) in
       let as_own : method_tokens w ex c ≡ own =
-          ap (λ b. if b then own else class_method_tokens ex (slots (line_at w c)) (hidden_slots (line_at w c)) methods 0 methods ++ map (λ m. token (slots (line_at w c)) (signature_of m)) (added w c)) interface in
+      ap (λ b. if b then own else class_method_tokens ex (slots (line_at w c)) (hidden_slots (line_at w c)) methods 0 methods ++ map (λ m. token (slots (line_at w c)) (signature_of m)) (added w c)) interface in
       ap (option_and_then (λ (x : OfClass). joined (slice_get x.members (fields + k)))) kept.1
       ∙ ap (λ i. joined (slice_get (front ++ method_tokens w ex c) (i + k))) counted
       ∙ ap joined (get-behind front (method_tokens w ex c) k)
@@ -261,7 +261,7 @@ module _ (list : ListTree) (files : List (List ℕ)) (judged : Judged) (p : Pack
           let known_one = named_method list files judged p is d.name d called m (get-has m d.methods i r.1) in
           let sub : length d.fields + i - length d.fields ≡ i = omega arith in
           let in_it : method_in w d (length d.fields + i) ≡ m =
-              ap (λ j. unwrap_or (slice_get (methods_with_added w d) j) no_member) sub ∙ ap (λ q. unwrap_or q no_member) (at_front d.methods (map as_added (added w d)) i m r.1) in
+          ap (λ j. unwrap_or (slice_get (methods_with_added w d) j) no_member) sub ∙ ap (λ q. unwrap_or q no_member) (at_front d.methods (map as_added (added w d)) i m r.1) in
           let started : is_initialiser m.name ≡ false = ap (λ (u : Signature). is_initialiser u.name) signed ∙ start in
           subst (IsSuper s) is_it (record {
             member = m;
@@ -284,7 +284,7 @@ module _ (list : ListTree) (files : List (List ℕ)) (judged : Judged) (p : Pack
           let d = c in
           let r = first_in (own_method false s.name s.desc) (known (gathered false (kin w (d.name ∷ [])))) f h in
           let gathered_is : gathered false (kin w (d.name ∷ [])) ≡ gathered false (kin w d.supers) ++ gathered true (kin w d.interfaces) =
-              ap (gathered false) (kin-known w (acyclic list files judged p is) d.name c named) ∙ above c (kin w d.supers) (kin w d.interfaces) in
+          ap (gathered false) (kin-known w (acyclic list files judged p is) d.name c named) ∙ above c (kin w d.supers) (kin w d.interfaces) in
           let asked = are_asked list.name p.files u.listed (few_imports list files judged p is) u.world (acyclic list files judged p is) (is_kin list files judged p is) d.name c r.0 named (subst (λ is. Has r.0 (known is)) gathered_is r.1) in
           of_own r.0 (ap (class_named w) (class_named-name w asked.1.0 r.0 asked.1.1) ∙ asked.1.1) asked.0 s f start r.2
 
@@ -349,7 +349,7 @@ module _ (list : ListTree) (files : List (List ℕ)) (judged : Judged) (p : Pack
   super_at_token : (i : ℕ) (s : Signature) (f : Found) → slice_get its_methods i ≡ Some s → slice_get its_row i ≡ Some (Some f) → IsSuper s f
   super_at_token i s f e g =
       let means : Some (Some f) ≡ Some (method_of_interface w (let d = c in d.name) s.name s.desc) =
-          sym g ∙ slice_get-map (λ (u : Signature). method_of_interface w (let d = c in d.name) u.name u.desc) its_methods i ∙ ap (option_map (λ (u : Signature). method_of_interface w (let d = c in d.name) u.name u.desc)) e in
+      sym g ∙ slice_get-map (λ (u : Signature). method_of_interface w (let d = c in d.name) u.name u.desc) its_methods i ∙ ap (option_map (λ (u : Signature). method_of_interface w (let d = c in d.name) u.name u.desc)) e in
       let is_it : method_of_interface w (let d = c in d.name) s.name s.desc ≡ Some f = cc in
       super_of s f (signed_plain i s e) is_it
 
@@ -421,7 +421,7 @@ module _ (list : ListTree) (files : List (List ℕ)) (judged : Judged) (p : Pack
       there_at s e false own =
           let f = found_method w (acyclic list files judged p is) c named i s e in
           let row_is : slice_get its_row i ≡ Some (Some f.0) =
-              slice_get-map (λ (u : Signature). method_of_interface w (let d = c in d.name) u.name u.desc) its_methods i ∙ ap (option_map (λ (u : Signature). method_of_interface w (let d = c in d.name) u.name u.desc)) e ∙ ap (λ q. Some q) f.1 in
+          slice_get-map (λ (u : Signature). method_of_interface w (let d = c in d.name) u.name u.desc) its_methods i ∙ ap (option_map (λ (u : Signature). method_of_interface w (let d = c in d.name) u.name u.desc)) e ∙ ap (λ q. Some q) f.1 in
           let s_is = super_of s f.0 (signed_plain i s e) f.1 in
           let z : 0 + i ≡ i = omega arith in
           (method_entry (0 + i) s_is.member, has_back (method_entry (0 + i) s_is.member) A S (supers_has w c 0 its_methods its_row i s f.0 s_is.member e row_is own s_is.meant), z)
@@ -437,8 +437,8 @@ module _ (list : ListTree) (files : List (List ℕ)) (judged : Judged) (p : Pack
       let long : length (let e = export_class p c in e.methods) ≡ length (A ++ S) = ap length listed in
       let count = length (let e = export_class p c in e.methods) in
       let stands : EachAfter (MethodStands true count) [] (A ++ S) =
-          stand count [] (A ++ S) (λ m x h g. has_none m h) all_differ
-          (λ x h. let r = all_placed x h in let m = r.met in let lt = m.low in record { fits = m.fits; low = omega (arith, lt, all, long); plain = m.plain }) in
+      stand count [] (A ++ S) (λ m x h g. has_none m h) all_differ
+      (λ x h. let r = all_placed x h in let m = r.met in let lt = m.low in record { fits = m.fits; low = omega (arith, lt, all, long); plain = m.plain }) in
       let few : nat_lt 255 count ≡ false = (let z : count ≤ 128 = omega (arith, le, all, long) in grind (arith, nat_tests)) in
       record {
         methods = (let z : count < 2 ^ 16 = omega (arith, le, all, long) in z);

@@ -16,7 +16,7 @@ ghost use Rattle.cjc_judge.specs.Spelt.{IsRead};
 ghost use Rattle.cjc_judge.specs.declared.judged.Judged.{Judged};
 ghost use Rattle.cjc_list.specs.Listed.{ListTree};
 
-use cjc_fitting_laws::{exported_classes_stand, export_files_fit, laid_out_packages_fit};
+use cjc_fitting_laws::{export_files_fit, exported_classes_stand, laid_out_packages_fit};
 
 /// A list that was read has applets with AIDs of at most 16 bytes.
 pub fn aids_are_short()

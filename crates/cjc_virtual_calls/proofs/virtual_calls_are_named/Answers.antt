@@ -1,7 +1,4 @@
-use Rattle.std.proofs.Common.{◌≡◌, false}
-use Rattle.cjc_bytes.specs.AccessFlags.{is_private}
 use Rattle.cjc_judge.specs.Rules.{settings_of}
-use Rattle.cjc_vtable.specs.Kept.{Keeps}
 use Rattle.cjc_virtual_calls.proofs.Objects.{virtual_named}
 use Rattle.cjc_virtual_calls.proofs.Words.{exports_have_one_access, virtual_takes}
 use Rattle.cjc_virtual_calls.proofs.virtual_calls_are_named.Goals as goal

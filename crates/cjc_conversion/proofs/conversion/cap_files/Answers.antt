@@ -1,8 +1,5 @@
-use Rattle.std.proofs.Common.{◌≡◌, ◌∙◌, ◌≤◌, ℕ, [], length, ap, subst, sym, inl, inr, None, Some}
+use Rattle.std.proofs.Common.{◌≡◌, ◌∙◌, ◌≤◌, [], length, ap, subst, sym, inl, inr, None, Some}
 use Rattle.std.proofs.lemmas.Result.{IfOk-weaker, MatchResult-weaker, err_from_is_err_and}
-use Rattle.cjc_bytes.specs.Refused.{refusal}
-use Rattle.cjc_bytes.specs.declared.fault.Fault.{Fault}
-use Rattle.cjc_bytes.specs.declared.fault.Fault.TheVariants as faults
 use Rattle.cjc_capread.specs.declared.tree.CapTree.{CapTree}
 use Rattle.cjc_capwrite.specs.Files.{files_of, limit_of, part}
 use Rattle.cjc_capwrite.specs.Method.{method_bytes}

@@ -19,7 +19,7 @@ write-requires c =
 
 pub returns-in_err-caps-clause-refused : goal.returns-in_err-caps-clause-refused
 returns-in_err-caps-clause-refused c = λ files p is shaped.
-    let e = err_from_is_err_and c.from_residual-in_err-caps.result c.from_residual-in_err-caps.ensures.1 in
+    let e = err_from_is_err_and c.from_residual.result c.from_residual.ensures.1 in
     rw (e.1, e.2) (c.in_err-caps.ensures.refused files p is shaped)
 
 pub returns-clause-converted : goal.returns-clause-converted

@@ -12,7 +12,7 @@ caps_of-requires c =
     let judged = c.args.judged.now in
     let (files, p, is, shaped) = c.requires.shaped in
     let laid : IsLaidOut list files judged p =
-        record { read = c.requires.read; aids = c.aids_are_short.ensures list c.requires.read; sound = is; is_package = shaped.is_package; words = shaped.words; forms = shaped.forms } in
+    record { read = c.requires.read; aids = c.aids_are_short.ensures list c.requires.read; sound = is; is_package = shaped.is_package; words = shaped.words; forms = shaped.forms } in
     (files, p, is, shaped, c.static_images_fit.ensures list files judged p laid)
 
 pub returns-in_err-test_sizes-clause-refused : goal.returns-in_err-test_sizes-clause-refused

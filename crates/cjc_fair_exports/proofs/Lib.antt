@@ -1,0 +1,4 @@
+pub mod Alone
+mod Roots
+mod Sent
+mod Test
