@@ -30,8 +30,8 @@ pub fn lists_have_short_aids()
     ensures { (list : ListTree) → IsRead list → AidsAreShort list }
 {}
 
-/// No method of an export file of a converted package is private beside public or protected, and the class of each of its
-/// applets is one with an install method and no interface.
+/// No method of an export file of a converted package is private beside public or protected, and the class of each of
+/// its applets is one with an install method and no interface.
 pub fn files_keep_promises()
     ensures access { (list : ListTree) (files : List (List ℕ)) (judged : Judged) (p : Package)
         → IsConverted list files judged p → ExportsHaveOneAccess (world p) }
@@ -50,8 +50,8 @@ pub fn keys_are_known()
     calls_have_opcodes();
 }
 
-/// The descriptors of its pool, of its fields and methods, and of the methods that its abstract classes got name classes
-/// that some file has.
+/// The descriptors of its pool, of its fields and methods, and of the methods that its abstract classes got name
+/// classes that some file has.
 pub fn types_are_known()
     ensures { (list : ListTree) (files : List (List ℕ)) (judged : Judged) (p : Package)
         → IsConverted list files judged p → TypesAreKnown p }
@@ -61,8 +61,8 @@ pub fn types_are_known()
 
 /// Each key of its pool names what is there: a class; a field of the package, static ones with their cells; a static
 /// method, a constructor or a private method, of the package or of an imported class, by the class that declares it;
-/// or a virtual method that calls can name, those of a superclass where the classes of export files implement interfaces by
-/// public or protected methods.
+/// or a virtual method that calls can name, those of a superclass where the classes of export files implement interfaces
+/// by public or protected methods.
 pub fn members_are_there()
     ensures { (list : ListTree) (files : List (List ℕ)) (judged : Judged) (p : Package)
         → IsConverted list files judged p → ExportsImplement (world p) → AllAreThere p }
