@@ -15,7 +15,7 @@ ghost use Rattle.cjc_judge.specs.declared.judged.Judged.{Judged};
 ghost use Rattle.cjc_list.specs.Listed.{ListTree};
 ghost use Rattle.cjc_sentences.specs.Consistent.{Consistent};
 ghost use Rattle.cjc_token_consistency.specs.Keys.{AllAreThere};
-ghost use Rattle.cjc_virtual_calls.specs.Exports.{ExportsImplement};
+ghost use Rattle.cjc_written_sends.specs.Sends.{ExportsImplement};
 ghost use Rattle.cjc_written_laws.specs.Converted.{IsConverted};
 
 use cjc_call_opcodes::calls_have_opcodes;

@@ -13,12 +13,12 @@ use Rattle.cjc_paired.specs.Naming.{loaded_of}
 use Rattle.cjc_tables_by_token.specs.Loading.{components, loaded}
 use Rattle.cjc_written_calls.specs.Standing.{laid_code}
 
-pub returns : goal.returns
-returns c = λ list files judged of is p laid limits fair calls.
+pub returns-clause-alike : goal.returns-clause-alike
+returns-clause-alike c = λ list files judged of is p laid limits fair.
     let fair_laws = c.fair_exports_are_sound.ensures in
     let own = own_package list files judged of is p laid fair in
     let converted = is_converted list files judged of is p laid fair limits (fair_laws.sound list.name p.files own fair) (fair_laws.plain p.files fair) (fair_laws.agree list.name p own fair) in
-    let left : AreLeft p = record { calls = calls; names = c.instructions_name_what_is_there.ensures list files judged p converted; sends = fair_laws.send list.name p own fair } in
+    let left : AreLeft p = record { implement = fair_laws.implement list.name p own fair; sends = fair_laws.send list.name p own fair } in
     let exports = fair_laws.sound list.name judged.world (judged_package list files judged of is p laid fair) (fair_world list files judged of is p laid fair) in
     let written = laid.is_package in
     record {
@@ -31,3 +31,10 @@ returns c = λ list files judged of is p laid limits fair calls.
           agree_also (run_by_name p.files p.image script) (narrow_run p.files p.image (laid_code p) script) (run_by_token (loaded p) script) agree
           (λ n. c.converted_components_run_by_token.ensures list files judged p converted left script n (λ at. (agree.never_stuck n at).1)));
     }
+
+pub returns-clause-consistent : goal.returns-clause-consistent
+returns-clause-consistent c = λ list files judged of is p laid limits fair.
+    let fair_laws = c.fair_exports_are_sound.ensures in
+    let own = own_package list files judged of is p laid fair in
+    let converted = is_converted list files judged of is p laid fair limits (fair_laws.sound list.name p.files own fair) (fair_laws.plain p.files fair) (fair_laws.agree list.name p own fair) in
+    c.names_are_met.ensures.consistent list files judged p converted (fair_laws.implement list.name p own fair)
