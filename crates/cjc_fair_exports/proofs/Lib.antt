@@ -2,3 +2,4 @@ pub mod Alone
 mod Roots
 mod Sent
 mod Test
+pub mod Implementing

@@ -16,10 +16,11 @@ use Rattle.cjc_subset.specs.Members.{imports}
 use Rattle.cjc_tokens.specs.Members.{In, all_methods, first_of, is_virtual, later, same, signature_of}
 use Rattle.cjc_tokens.proofs.Facts.{same-refl, same-true}
 use Rattle.cjc_vtable.specs.Calls.{IsOneToOne}
-use Rattle.cjc_world.specs.Classes.{Class, Member, method_of_export}
+use Rattle.cjc_world.specs.Classes.{Class, Member, class_named, method_of_export}
 use Rattle.cjc_world.specs.Kin.{is_below, kin, upwards}
 use Rattle.cjc_world.specs.Lookup.{object}
 use Rattle.cjc_world.proofs.Settled.{bytes-refl, bytes-true}
+use Rattle.cjc_written_sends.specs.Sends.{ExportsImplement}
 
 -- ---- names of classes
 
@@ -204,7 +205,24 @@ told_method interface root m e =
       only = λ f g. both_told root (is_static m.flags) (is_initialiser m.name) f g (both_back (P && I && B) O e);
     }
 
-module _ (exports : List ExportTree) (e : are_fair exports ≡ true) where
+-- no class of the files is an interface
+abbrev pub no_interface : List Class → Bool
+no_interface w = list_all (λ (c : Class). not (is_interface c.flags)) w
+
+named_plain : (w : List Class) (x : List ℕ) (c : Class) → no_interface w ≡ true → class_named w x ≡ Some c → is_interface c.flags ≡ false
+unfolding class_named
+named_plain [] x c e f = absurd cc
+named_plain (d ∷ w) x c e f = by (bytes_eq d.name x) (λ g. named_plain w x c (both_back (not (is_interface d.flags)) (no_interface w) e) g) f
+  where
+    by : (t : Bool) → (class_named w x ≡ Some c → is_interface c.flags ≡ false) → (if t then Some d else class_named w x) ≡ Some c → is_interface c.flags ≡ false
+    by true rest g = let same : d ≡ c = cc in ap (λ (q : Class). is_interface q.flags) (sym same) ∙ is_not (is_interface d.flags) (both_front (not (is_interface d.flags)) (no_interface w) e)
+    by false rest g = rest g
+
+none_implemented : (w : List Class) → no_interface w ≡ true → ExportsImplement w
+none_implemented w e x c i asked given f is plain g interface sub among choice =
+    let clash : true ≡ false = sym interface ∙ named_plain w i.name i e g in absurd cc
+
+module _ (exports : List ExportTree) (e : are_fair exports ≡ true) (bare : no_interface (world_of exports) ≡ true) where
   one : (n : ℕ) (c : ExportClass) → slice_get (imports exports) n ≡ Some c → IsFairClass (world_of exports) c
   unfolding are_fair
   one n c f = told_class (world_of exports) c (each_of (fair_class (world_of exports)) (imports exports) e n c f)
@@ -218,6 +236,7 @@ module _ (exports : List ExportTree) (e : are_fair exports ≡ true) where
     roots = λ n c f. (one n c f).root;
     supers = λ n c f. (one n c f).super;
     tokens = λ n c f. (one n c f).tokens;
+    implements = none_implemented (world_of exports) bare;
     visible = λ n c f k m g. (method n c f k m g).visible;
     initialisers = λ n c f k m g. (method n c f k m g).initialiser;
     interfaces = λ n c f is k m g. (method n c f k m g).bound is;

@@ -13,6 +13,7 @@ use Rattle.cjc_vtable.specs.Calls.{IsOneToOne}
 use Rattle.cjc_world.specs.Classes.{Class, method_of_export, numbered}
 use Rattle.cjc_world.specs.Kin.{is_below, kin, upwards}
 use Rattle.cjc_world.specs.Lookup.{object}
+use Rattle.cjc_written_sends.specs.Sends.{ExportsImplement}
 
 -- the classes of the export files, and of no other file
 abbrev pub world_of : List ExportTree → List Class
@@ -36,6 +37,8 @@ pub record ExportsAreFair (exports : List ExportTree) : Type 0 where
   pub supers : OfEach exports (λ c. is_interface c.flags ≡ true → c.supers ≡ object ∷ [])
   -- along a class and its superclasses one name and descriptor has one virtual token, and one virtual token has one name and descriptor
   pub tokens : OfEach exports (λ c. IsOneToOne (map method_of_export c.methods ++ all_methods (upwards (kin (world_of exports) c.supers))))
+  -- for a method of one of its interfaces, selection on a class gives none that is package-visible
+  pub implements : ExportsImplement (world_of exports)
   -- no method is private
   pub visible : OfEach exports (λ c. OfMethods c (λ m. is_private m.flags ≡ false))
   -- an initialiser is static

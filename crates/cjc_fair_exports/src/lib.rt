@@ -12,7 +12,7 @@ ghost use Rattle.cjc_tables_by_token.specs.Sound.{IsSound};
 ghost use Rattle.cjc_vtable.specs.Kept.{ExportsAgree};
 ghost use Rattle.cjc_world.specs.Files.{Files};
 ghost use Rattle.cjc_written_laws.specs.Converted.{ExportsArePlain};
-ghost use Rattle.cjc_written_sends.specs.Sends.{ExportsSend};
+ghost use Rattle.cjc_written_sends.specs.Sends.{ExportsImplement, ExportsSend};
 
 /// Where a package of read files breaks none of 201 to 204, 207 and 208, and its export files are fair, they say of their
 /// classes and methods all that is asked of them where they stand among the files of the package.
@@ -20,6 +20,7 @@ pub fn fair_exports_are_sound()
     ensures sound { (list : List ℕ) (files : Files) → IsSound list files → ExportsAreFair files.exports → ExportsAreSound files }
     ensures plain { (files : Files) → ExportsAreFair files.exports → ExportsArePlain files }
     ensures agree { (list : List ℕ) (p : Package) → IsSound list p.files → (let files = p.files in ExportsAreFair files.exports) → ExportsAgree (world p) }
+    ensures implement { (list : List ℕ) (p : Package) → IsSound list p.files → (let files = p.files in ExportsAreFair files.exports) → ExportsImplement (world p) }
     ensures send { (list : List ℕ) (p : Package) → IsSound list p.files → (let files = p.files in ExportsAreFair files.exports) → ExportsSend p }
 {}
 

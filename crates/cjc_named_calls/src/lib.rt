@@ -7,7 +7,7 @@ ghost use Rattle.std.specs.Prelude.{ℕ, List};
 ghost use Rattle.cjc_components.specs.Package.{Package, world};
 ghost use Rattle.cjc_judge.specs.declared.judged.Judged.{Judged};
 ghost use Rattle.cjc_list.specs.Listed.{ListTree};
-ghost use Rattle.cjc_virtual_calls.specs.Exports.{ExportsImplement};
+ghost use Rattle.cjc_written_sends.specs.Sends.{ExportsImplement};
 ghost use Rattle.cjc_written_laws.specs.Converted.{IsConverted};
 ghost use Rattle.cjc_written_sends.specs.Named.{CallsAreNamed};
 

@@ -11,12 +11,17 @@ use Rattle.cjc_shelf.specs.Sink.{Sunk}
 use Rattle.cjc_list.specs.Listed.{ListTree, listed}
 use Rattle.cjc_classfile.specs.ClassFile.{class_file}
 use Rattle.cjc_classfile.specs.declared.tree.ClassTree.{ClassTree}
-use Rattle.cjc_alike.proofs.Alike.{behaves_alike, is_consistent}
 use Rattle.cjc_alike.specs.Alike.{BehaveAlike}
 use Rattle.cjc_fair_exports.specs.Fair.{ExportsAreFair}
 use Rattle.cjc_components.specs.Components.{components_of}
+use Rattle.cjc_components.specs.Limits.{limit_breaks}
+use Rattle.cjc_components.specs.Package.{Package}
 use Rattle.cjc_judge.specs.Rules.{files_spelt}
-use Rattle.cjc_judge.specs.Spelt.{FileTree, SpellTrees, classes_of, exports_of, of_class, of_export}
+use Rattle.cjc_judge.specs.declared.judged.Judged.{Judged}
+use Rattle.cjc_judge.specs.Spelt.{IsRead, FileTree, SpellTrees, classes_of, exports_of, of_class, of_export}
+use Rattle.cjc_prepared.specs.Prepared.{IsSound}
+use Rattle.cjc_sentences.specs.Consistent.{Consistent}
+use Rattle.cjc_whole.specs.Conversion.{IsPackageOf}
 use Rattle.cjc_world.specs.Files.{Files as World}
 use Rattle.cjc_export.specs.ExportFile.{export_file}
 use Rattle.cjc_export.specs.declared.tree.ExportTree.{ExportTree}
@@ -155,47 +160,56 @@ exports_spelt files (line ∷ lines) (bytes ∷ all) (of_export tree ∷ trees) 
 
 -- ---- the whole
 
-keeps : (name dir : List ℕ) (files : Files) (new : Shelved) (todo : Todo) → IsReady (command_of (convert name dir)) (Some files) todo → IsWritten (Some files) todo new
-    → IsSomeAnd new.files (Converts name dir files)
-keeps name dir files new todo ready written =
-    let x = ready.inputs in
-    let got = convert_got files name x ready.read in
-    let made = ready.made.0 in
-    let is = ready.made.1 in
-    let trees = is.is_package.spelt.trees in
-    let spell = is.is_package.spelt.is_world.0 in
-    let world : is.whole.files ≡ files_spelt x.0 trees = is.is_package.spelt.world_is in
-    let list = listed_spelt name got.text x.0 got.listed_is in
-    let all : List File = map (below dir) (files_made x.0.package made) in
-    let after : written_files todo.files files ≡ written_files all files = ap (λ (t : Todo). written_files t.files files) ready.made.2 in
-    subst (λ (o : Option Files). IsSomeAnd o (Converts name dir files)) (sym written) (record {
-      text = got.text;
-      list = x.0;
-      classes = classes_of trees;
-      exports = exports_of trees;
-      made = made;
-      cap = components_of is.whole;
-      text_is = got.text_is;
-      list_is = list;
-      class_files = classes_spelt files x.0.lines x.1 trees got.all spell;
-      export_files = exports_spelt files x.0.lines x.1 trees got.all spell;
-      stand = subst (λ (fs : Files). Stand fs all) (sym after) (stand_made dir x.0.package files made);
-      spelt = is.caps_spelt;
-      consistent = λ fair. is_consistent x.0 x.1 is.judged is.whole is.limits (is_read name got.text x.0 got.short list) is.sound is.is_package (subst (λ (w : World). ExportsAreFair w.exports) (sym world) fair);
-      alike = λ fair. subst (λ (w : World). BehaveAlike x.0 w (components_of is.whole)) world
-          (behaves_alike x.0 x.1 is.judged is.whole is.limits (is_read name got.text x.0 got.short list) is.sound is.is_package (subst (λ (w : World). ExportsAreFair w.exports) (sym world) fair));
-    })
+-- What is said of the package of each list that was read, of files that break no rule, nor does what is written for them, with fair export files.
+abbrev pub OfPackages : (ListTree → Package → Type 0) → Type 0
+OfPackages Holds =
+    (list : ListTree) (files : List (List ℕ)) (judged : Judged) → IsRead list → IsSound list files judged → (p : Package) → IsPackageOf list files p → limit_breaks p ≡ []
+    → (let world = p.files in ExportsAreFair world.exports) → Holds list p
 
-keeps_told : (name dir : List ℕ) (told : Option Files) (new : Shelved) (todo : Todo) → IsReady (command_of (convert name dir)) told todo → IsWritten told todo new
-    → IfSome told (λ before. IsSomeAnd new.files (Converts name dir before))
-keeps_told name dir None new todo ready written = tt
-keeps_told name dir (Some files) new todo ready written = keeps name dir files new todo ready written
+module _ (behave : OfPackages (λ list p. BehaveAlike list p.files (components_of p))) (consist : OfPackages (λ list p. let world = p.files in Consistent (components_of p) world.exports)) where
 
-promised_done : (r : Request) (old new : Shelved) (from to : Sunk) → Answers (command_of r) old new from to status.Done → Promised r old new from to
-promised_done (convert name dir) old new from to t = keeps_told name dir old.files new t.0 t.1 t.2
-promised_done (check name dir) old new from to t = keeps_tested name dir old new from to t.0 t.1 t.2 t.3
-promised_done (jvm name script n) old new from to t = keeps_run name script n old new from to t.0 t.1 t.2 t.3
+  keeps : (name dir : List ℕ) (files : Files) (new : Shelved) (todo : Todo) → IsReady (command_of (convert name dir)) (Some files) todo → IsWritten (Some files) todo new
+      → IsSomeAnd new.files (Converts name dir files)
+  keeps name dir files new todo ready written =
+      let x = ready.inputs in
+      let got = convert_got files name x ready.read in
+      let made = ready.made.0 in
+      let is = ready.made.1 in
+      let trees = is.is_package.spelt.trees in
+      let spell = is.is_package.spelt.is_world.0 in
+      let world : is.whole.files ≡ files_spelt x.0 trees = is.is_package.spelt.world_is in
+      let list = listed_spelt name got.text x.0 got.listed_is in
+      let all : List File = map (below dir) (files_made x.0.package made) in
+      let after : written_files todo.files files ≡ written_files all files = ap (λ (t : Todo). written_files t.files files) ready.made.2 in
+      subst (λ (o : Option Files). IsSomeAnd o (Converts name dir files)) (sym written) (record {
+        text = got.text;
+        list = x.0;
+        classes = classes_of trees;
+        exports = exports_of trees;
+        made = made;
+        cap = components_of is.whole;
+        text_is = got.text_is;
+        list_is = list;
+        class_files = classes_spelt files x.0.lines x.1 trees got.all spell;
+        export_files = exports_spelt files x.0.lines x.1 trees got.all spell;
+        stand = subst (λ (fs : Files). Stand fs all) (sym after) (stand_made dir x.0.package files made);
+        spelt = is.caps_spelt;
+        consistent = λ fair. subst (λ (w : World). Consistent (components_of is.whole) w.exports) world
+            (consist x.0 x.1 is.judged (is_read name got.text x.0 got.short list) is.sound is.whole is.is_package is.limits (subst (λ (w : World). ExportsAreFair w.exports) (sym world) fair));
+        alike = λ fair. subst (λ (w : World). BehaveAlike x.0 w (components_of is.whole)) world
+            (behave x.0 x.1 is.judged (is_read name got.text x.0 got.short list) is.sound is.whole is.is_package is.limits (subst (λ (w : World). ExportsAreFair w.exports) (sym world) fair));
+      })
 
-pub promised : (r : Request) (old new : Shelved) (from to : Sunk) (answer : Status) → Acts (command_of r) old new from to answer → answer ≡ status.Done
-    → Promised r old new from to
-promised r old new from to answer a done = promised_done r old new from to (subst (λ (s : Status). Answers (command_of r) old new from to s) done a.answers)
+  keeps_told : (name dir : List ℕ) (told : Option Files) (new : Shelved) (todo : Todo) → IsReady (command_of (convert name dir)) told todo → IsWritten told todo new
+      → IfSome told (λ before. IsSomeAnd new.files (Converts name dir before))
+  keeps_told name dir None new todo ready written = tt
+  keeps_told name dir (Some files) new todo ready written = keeps name dir files new todo ready written
+
+  promised_done : (r : Request) (old new : Shelved) (from to : Sunk) → Answers (command_of r) old new from to status.Done → Promised r old new from to
+  promised_done (convert name dir) old new from to t = keeps_told name dir old.files new t.0 t.1 t.2
+  promised_done (check name dir) old new from to t = keeps_tested name dir old new from to t.0 t.1 t.2 t.3
+  promised_done (jvm name script n) old new from to t = keeps_run name script n old new from to t.0 t.1 t.2 t.3
+
+  pub promised : (r : Request) (old new : Shelved) (from to : Sunk) (answer : Status) → Acts (command_of r) old new from to answer → answer ≡ status.Done
+      → Promised r old new from to
+  promised r old new from to answer a done = promised_done r old new from to (subst (λ (s : Status). Answers (command_of r) old new from to s) done a.answers)

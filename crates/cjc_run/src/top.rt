@@ -12,6 +12,7 @@ ghost use Rattle.cjc_run.specs.Promise.{Promised};
 
 use crate::command::{Asked, asked_by};
 use crate::converting::gather_convert;
+use cjc_alike::converted_packages_behave_alike;
 use cjc_bytes::Bytes;
 use cjc_checking::gather_check;
 use cjc_command::{Status, Todo, publish};
@@ -63,10 +64,11 @@ pub fn run<S: Shelf, O: Sink>(alloc: Global, words: &[Bytes], shelf: &mut S, out
     // Where moreover all files are read and no rule is broken, all is done.
     ensures complete { IfSome (request words.now) (λ asked. IsComplete (command_of asked) (S.shelved shelf.old) (S.shelved shelf.new) (O.sunk out.old) (O.sunk out.new) result) }
 
-    // What was asked for is done as promised: the class files before and the components after behave alike, and
-    // the components are consistent.
+    // What was asked for is done as promised: over fair export files the class files before and the components after behave
+    // alike, and the components are consistent.
     ensures alike { result ≡ Status.Done → IfSome (request words.now) (λ asked. Promised asked (S.shelved shelf.old) (S.shelved shelf.new) (O.sunk out.old) (O.sunk out.new)) }
 {
+    converted_packages_behave_alike();
     match asked_by(words) {
         None => Status::Usage,
         Some(command) => act(alloc, command, shelf, out),

@@ -40,7 +40,7 @@ use Rattle.cjc_written_calls.specs.Calls.{IsNamed, on_super}
 use Rattle.cjc_written_laws.proofs.Files.{own_unbroken}
 use Rattle.cjc_written_laws.proofs.Worlds.{own_solid}
 use Rattle.cjc_written_laws.specs.Converted.{IsConverted}
-use Rattle.cjc_virtual_calls.specs.Exports.{ExportsImplement}
+use Rattle.cjc_written_sends.specs.Sends.{ExportsImplement}
 use Rattle.cjc_virtual_calls.proofs.Chosen.{IsFirstOf, first_found, own_any, placed}
 use Rattle.cjc_virtual_calls.proofs.Found.{none_on_line, stands_there}
 use Rattle.cjc_virtual_calls.proofs.Found as found

@@ -15,7 +15,7 @@ ghost use Rattle.cjc_list.specs.Listed.{ListTree};
 ghost use Rattle.cjc_narrow.specs.Resolved.{method_found, virtual_by};
 ghost use Rattle.cjc_narrow_laws.specs.Unbroken.{IsInsnOf};
 ghost use Rattle.cjc_ncode.specs.ByLabel.{OnObject, OnSuper};
-ghost use Rattle.cjc_virtual_calls.specs.Exports.{ExportsImplement};
+ghost use Rattle.cjc_written_sends.specs.Sends.{ExportsImplement};
 ghost use Rattle.cjc_world.specs.Classes.{class_named};
 ghost use Rattle.cjc_written_calls.specs.Calls.{IsNamed, TakesWords};
 ghost use Rattle.cjc_written_laws.specs.Converted.{IsConverted};

@@ -15,7 +15,7 @@ unfolding are_fair fair_class fair_method members_above names_from one_to_one ag
 all_are_fair = refl
 
 pub returns-clause-alone : goal.returns-clause-alone
-returns-clause-alone c = tested_exports_are_fair (lang ∷ []) lang_is_fair
+returns-clause-alone c = tested_exports_are_fair (lang ∷ []) lang_is_fair refl
 
 pub returns-clause-together : goal.returns-clause-together
-returns-clause-together c = tested_exports_are_fair (lang ∷ q ∷ framework ∷ []) all_are_fair
+returns-clause-together c = tested_exports_are_fair (lang ∷ q ∷ framework ∷ []) all_are_fair refl
