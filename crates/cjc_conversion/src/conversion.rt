@@ -1,7 +1,7 @@
 //! What is written for a package, or the first broken rule. The trees of the components are let go as soon as their files are
 //! made; what was read of the package's files stands until the end.
 
-ghost use Rattle.std.specs.Prelude.{◌≡◌, ℕ, [], List as Items, length, IfOk, IfErr};
+ghost use Rattle.std.specs.Prelude.{◌≡◌, ◌≤◌, ◌^◌, ℕ, [], List as Items, length, All, IfOk, IfErr};
 ghost use Rattle.cjc_bytes.specs.Format.{FileSpells};
 ghost use Rattle.cjc_capwrite.specs.Files.{files_of};
 ghost use Rattle.cjc_capwrite.specs.Writable.{IsSpelt};
@@ -12,8 +12,7 @@ ghost use Rattle.cjc_components.specs.Package.{Package};
 ghost use Rattle.cjc_conversion.specs.Conversion.{IsConverted};
 ghost use Rattle.cjc_export.specs.ExportFile.{export_file};
 ghost use Rattle.cjc_export.specs.Written.{written};
-ghost use Rattle.cjc_judge.specs.Spelt.{IsRead, AreFiles};
-ghost use Rattle.cjc_judge_laws.specs.Tested as small;
+ghost use Rattle.cjc_judge.specs.Spelt.{IsRead};
 ghost use Rattle.cjc_prepared.specs.Prepared.{IsSound};
 ghost use Rattle.cjc_whole.specs.Working.Shaped.{IsShaped, Stopped};
 
@@ -85,7 +84,7 @@ fn judged_files(alloc: Global, list: &List, judged: &Judged<'_>) -> Result<Conve
     shaped_files(alloc, list, judged, &shaped)
 }
 
-/// What is written for the package of a list, whose files these are in list order.
+/// What is written for the package of a list, whose files these are in list order, each of 512 MiB at most.
 ///
 /// # Errors
 ///
@@ -94,8 +93,7 @@ fn judged_files(alloc: Global, list: &List, judged: &Judged<'_>) -> Result<Conve
 pub fn convert(alloc: Global, list: &List, files: &Row<Bytes>) -> Result<Converted, Fault>
     requires read { IsRead list.now }
     requires count { length files.now ≡ length list.now.lines }
-    requires files { AreFiles files.now }
-    requires bytes { small.AreFiles files.now }
+    requires files { All (λ bytes. length bytes ≤ 2 ^ 29) files.now }
     ensures converted { IfOk result (IsConverted list.now files.now) }
     ensures refused { IfErr result (Stopped list.now files.now) }
 {

@@ -1,10 +1,11 @@
 //! What is written for packages made by hand. A case is the words of its list, as files.rt says, then ` : `, the name of a component, and
 //! ` = ` its bytes; or ` = refused `, the rule, the file, the class and the member with `-` for an empty one, and the offset.
 
+use crate::conversions::converted;
 use crate::files::{files_of, list_of};
 use cjc_bytes::{Bytes, Fault, NoMemory, Refusal};
 use cjc_cases::{cut, is_number, octets, question_and_answer};
-use cjc_conversion::{CapFiles, Converted, convert, read_list};
+use cjc_conversion::{CapFiles, Converted};
 use std::alloc::Global;
 use std::test::*;
 
@@ -102,21 +103,16 @@ fn is_refusal(refusal: &Refusal, wanted: &str) -> bool {
 }
 
 /// What is written for the package of these words.
-fn converted(alloc: Global, words: &str) -> Result<Converted, Fault> {
+fn converted_words(alloc: Global, words: &str) -> Result<Converted, Fault> {
     let text = list_of(alloc, words)?;
-    let list = read_list(alloc, b"list", text.items())?;
     let files = files_of(alloc, words)?;
-    if files.items().len() == list.lines.items().len() {
-        convert(alloc, &list, &files)
-    } else {
-        Err(Fault::NoMemory)
-    }
+    converted(alloc, text.items(), &files)
 }
 
 fn is_so(alloc: Global, case: &str) -> Result<bool, NoMemory> {
     let (question, wanted) = question_and_answer(case);
     let (words, name) = cut(question, " : ");
-    match converted(alloc, words) {
+    match converted_words(alloc, words) {
         Ok(made) => is_component(&made, name, alloc, wanted),
         Err(Fault::Refused(refusal)) => match wanted.strip_prefix("refused ") {
             Some(wanted) => Ok(is_refusal(&refusal, wanted)),

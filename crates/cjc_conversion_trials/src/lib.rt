@@ -7,6 +7,8 @@ mod built;
 #[cfg(test)]
 mod cases;
 #[cfg(test)]
+mod conversions;
+#[cfg(test)]
 mod files;
 #[cfg(test)]
 mod limits;

@@ -1,9 +1,9 @@
 //! Limits of what is written: a package that keeps each exactly, and one past it.
 
 use crate::built::{Method, make_method, with_constants, with_methods};
+use crate::conversions::converted;
 use crate::files::lang;
 use cjc_bytes::{Bytes, Fault, NoMemory, Row};
-use cjc_conversion::{convert, read_list};
 use std::alloc::Global;
 use std::test::*;
 
@@ -14,13 +14,7 @@ fn rule(alloc: Global, class: Bytes) -> Result<u16, NoMemory> {
     let mut files = Row::new(alloc);
     files.push(lang(alloc)?)?;
     files.push(class)?;
-    let Ok(list) = read_list(alloc, b"list", LIST) else {
-        return Err(NoMemory);
-    };
-    if list.lines.items().len() != files.items().len() {
-        return Err(NoMemory);
-    }
-    match convert(alloc, &list, &files) {
+    match converted(alloc, LIST, &files) {
         Ok(_) => Ok(0),
         Err(Fault::Refused(refusal)) => Ok(refusal.rule.0),
         Err(Fault::NoMemory) => Err(NoMemory),

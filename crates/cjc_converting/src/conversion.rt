@@ -1,17 +1,17 @@
 //! What a package is made of on the way from its list and its files to its components, or the first broken rule: its files judged,
 //! and the components of a package that is laid out.
 
-ghost use Rattle.std.specs.Prelude.{◌≡◌, ℕ, [], List as Items, length, IfOk, IfErr};
+ghost use Rattle.std.specs.Prelude.{◌≡◌, ◌≤◌, ◌^◌, ℕ, [], List as Items, length, All, IfOk, IfErr};
 ghost use Rattle.cjc_components.specs.Components.{components_of};
 ghost use Rattle.cjc_components.specs.Limits.{size_breaks};
 ghost use Rattle.cjc_components.specs.Package.{Package};
-ghost use Rattle.cjc_judge.specs.Spelt.{IsRead, AreFiles};
-ghost use Rattle.cjc_judge_laws.specs.Tested as small;
+ghost use Rattle.cjc_judge.specs.Spelt.{IsRead};
 ghost use Rattle.cjc_prepared.specs.Prepared.{IsSound};
 ghost use Rattle.cjc_whole.specs.Working.Shaped.{IsShaped, Stopped};
 ghost use Rattle.cjc_converting.specs.Made.{AreCaps};
 
 use crate::caps::caps_of;
+use crate::files::are_bytes;
 use crate::sizes::test_sizes;
 use cjc_bytes::{Bytes, Fault, Row};
 use cjc_capread::CapTree;
@@ -22,7 +22,7 @@ use cjc_whole::{Shaped, shape};
 use cjc_writing_laws::aids_are_short;
 use std::alloc::Global;
 
-/// What the files of a list say, which these are in list order, where they break no rule of files.
+/// What the files of a list say, which these are in list order and of 512 MiB at most, where they break no rule of files.
 ///
 /// # Errors
 ///
@@ -34,11 +34,11 @@ pub fn judge_files<'a>(
 ) -> Result<Judged<'a>, Fault>
     requires read { IsRead list.now }
     requires count { length files.now ≡ length list.now.lines }
-    requires files { AreFiles files.now }
-    requires bytes { small.AreFiles files.now }
+    requires files { All (λ bytes. length bytes ≤ 2 ^ 29) files.now }
     ensures sound { IfOk result (IsSound list.now files.now) }
     ensures refused { IfErr result (Stopped list.now files.now) }
 {
+    are_bytes(files);
     let groups = [
         Group::Unsupported,
         Group::Initialisers,
@@ -89,7 +89,7 @@ fn judged_components(alloc: Global, list: &List, judged: &Judged<'_>) -> Result<
     shaped_components(alloc, list, judged, &shaped)
 }
 
-/// The components of the package of a list, whose files these are in list order.
+/// The components of the package of a list, whose files these are in list order, each of 512 MiB at most.
 ///
 /// # Errors
 ///
@@ -98,8 +98,7 @@ fn judged_components(alloc: Global, list: &List, judged: &Judged<'_>) -> Result<
 pub fn components_of_files(alloc: Global, list: &List, files: &Row<Bytes>) -> Result<CapTree, Fault>
     requires read { IsRead list.now }
     requires count { length files.now ≡ length list.now.lines }
-    requires files { AreFiles files.now }
-    requires bytes { small.AreFiles files.now }
+    requires files { All (λ bytes. length bytes ≤ 2 ^ 29) files.now }
     ensures made { IfOk result (AreCaps list.now files.now) }
     ensures refused { IfErr result (Stopped list.now files.now) }
 {

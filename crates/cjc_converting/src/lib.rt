@@ -5,6 +5,7 @@
 
 mod caps;
 mod conversion;
+mod files;
 mod sizes;
 
 pub use conversion::{components_of_files, judge_files, shaped_components};
