@@ -123,9 +123,10 @@ module _ (list : List ℕ) (files : Files) (sound : IsSound list files) (fair : 
   unfolding has_needed
   needs =
       let e = language_in.2 in
-      let front = front_of (has_roots lang && has_array_exceptions w lang) (has_other_exceptions w lang) e in
-      (front_of (has_roots lang) (has_array_exceptions w lang) front,
-        is_needed w lang (back_of (has_roots lang) (has_array_exceptions w lang) front) (back_of (has_roots lang && has_array_exceptions w lang) (has_other_exceptions w lang) e))
+      let front = front_of (has_roots lang && has_array_exceptions w lang) (has_other_exceptions w lang) e in (
+        front_of (has_roots lang) (has_array_exceptions w lang) front,
+        is_needed w lang (back_of (has_roots lang) (has_array_exceptions w lang) front) (back_of (has_roots lang && has_array_exceptions w lang) (has_other_exceptions w lang) e),
+      )
 
   pub object_there : Stands files object
   unfolding has_roots

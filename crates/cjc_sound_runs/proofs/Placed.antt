@@ -112,7 +112,7 @@ module _ (w : List Class) where
   in_turn c f (d ∷ cs) at_front h = has-front f (methods_of_class w d) (methods_in_turn w cs) h
   in_turn c f (d ∷ cs) (behind there) h = has-back f (methods_of_class w d) (methods_in_turn w cs) (in_turn c f cs there h)
 
--- ---- initialisers
+  -- ---- initialisers
 
   -- A method that stands in Method is one of its class's own, and no initialiser, or one that the class got.
   data IsOrdered (c : Class) (f : Found) : Type 0 where
