@@ -1,5 +1,5 @@
-//! That the components of a converted package run by token as its narrow code runs by name, from what is left to show of its
-//! names. For whoever promises that what was converted behaves as its class files. It has a definition and laws alone; nothing
+//! That the components of a converted package run by token as its narrow code runs by name, from what is asked of its export
+//! files. For whoever promises that what was converted behaves as its class files. It has a definition and laws alone; nothing
 //! here runs.
 #![tactic(auto)]
 
@@ -13,12 +13,15 @@ ghost use Rattle.cjc_narrow.specs.Package.{run as run_by_label};
 ghost use Rattle.cjc_script.specs.declared.report.Outcome.TheVariants.{Stuck};
 ghost use Rattle.cjc_script.specs.declared.script.Script.{Script};
 ghost use Rattle.cjc_tables_by_token.specs.Loading.{loaded};
+ghost use Rattle.cjc_written_calls.specs.Standing.{laid_code};
 ghost use Rattle.cjc_written_laws.specs.Converted.{IsConverted};
-ghost use Rattle.cjc_written_laws.specs.Joined.{IsJoined, laid_code};
+ghost use Rattle.cjc_written_laws.specs.Joined.{IsJoined};
 ghost use Rattle.cjc_written_sends.specs.Named.{is_called};
 
 use cjc_call_opcodes::calls_have_opcodes;
 use cjc_first_cells::first_cells_are_typed;
+use cjc_insn_names::instructions_name_what_is_there;
+use cjc_named_calls::calls_are_named;
 use cjc_named_laws::{export_files_are_kept, names_are_there};
 use cjc_types::State;
 use cjc_vtable::package_laws;
@@ -38,6 +41,7 @@ pub fn converted_packages_are_joined()
     ensures { (list : ListTree) (files : List (List ℕ)) (judged : Judged) (p : Package)
         → IsConverted list files judged p → AreLeft p → IsJoined p (is_called p) }
 {
+    calls_are_named();
     calls_have_opcodes();
     calls_take_words::<State>();
     converted_classes_keep_rules();
@@ -47,6 +51,7 @@ pub fn converted_packages_are_joined()
     converted_methods_are_ready();
     export_files_are_kept();
     first_cells_are_typed();
+    instructions_name_what_is_there();
     known_objects_receive_calls();
     names_are_there();
     operations_are_known::<State>();

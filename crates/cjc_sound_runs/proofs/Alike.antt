@@ -1,6 +1,7 @@
 -- A package that was judged and breaks no rule has its tables, and the narrow code that is written for it runs as its class files.
 use Rattle.std.proofs.Common.{◌≡◌, ◌⊎◌, ℕ, refl, sym, ap, subst, ◌∙◌, ⊎_elim, Bool, true, false, List, []}
-use Rattle.std.specs.Prelude.{Option, Some, None, slice_get, if◌then◌else◌, ℤ}
+use Rattle.std.specs.Prelude.{Option, Some, None, option_map, slice_get, ℤ}
+use Rattle.std.proofs.lemmas.Option.{slice_get-map}
 use Rattle.cjc_by_name.specs.ByName.{run as run_by_name}
 use Rattle.cjc_by_name.specs.Linked.{Method}
 use Rattle.cjc_by_name.specs.OnePackage.{is_initialiser, method_at, method_by}
@@ -42,21 +43,22 @@ use Rattle.cjc_script.specs.declared.script.Script.{Script}
 use Rattle.cjc_solid_laws.specs.Files.{ExportsAreSound}
 use Rattle.cjc_sound_runs.proofs.Begins.{begins}
 use Rattle.cjc_sound_runs.proofs.Coded.{IsCoded}
-use Rattle.cjc_sound_runs.proofs.Laid.{IsOfFile, id_of, of_file, told_among}
+use Rattle.cjc_sound_runs.proofs.Laid.{IsOfFile, bare_code, id_of, none_among, of_file, told_among}
 use Rattle.cjc_sound_runs.proofs.Lookups.{same_look_ups}
-use Rattle.cjc_sound_runs.proofs.Placed.{stands}
+use Rattle.cjc_sound_runs.proofs.Placed.{plain_in_order, stands}
 use Rattle.cjc_sound_runs.proofs.Ranges.{ranges_pass}
 use Rattle.cjc_sound_runs.proofs.Read.{read_files, whole_is}
 use Rattle.cjc_sound_runs.proofs.Tabled.{has_least, no_first, only_coded, tabled_code, tables, types_are}
-use Rattle.cjc_sound_runs.specs.Codes.{code_among, laid_code, no_rows}
 use Rattle.cjc_types.specs.declared.state.State.{State}
 use Rattle.cjc_types.specs.Flow.{Body}
 use Rattle.cjc_whole.proofs.Drafts.{rows, rows_agree, rows_are, same_members, same_spelt}
 use Rattle.cjc_whole.specs.Conversion.{IsDraft, IsSelected}
 use Rattle.cjc_world.specs.Classes.{all_classes}
 use Rattle.cjc_world.specs.Files.{Files}
+use Rattle.cjc_world.specs.Order.{method_order}
 use Rattle.cjc_world.specs.declared.found.Found.{Found}
 use Rattle.cjc_world.specs.declared.image.StaticImage.{StaticImage}
+use Rattle.cjc_written_calls.specs.Standing.{laid_code, laid_from, no_rows}
 
 module _ (list : ListTree) (files : List (List ℕ)) (judged : Judged) (is : IsSound list files judged)
     (least : (b : Body) (constant : MemberId → Option ℤ) (types : List (Option State)) → (ranges : List (Option RangeState)) × IsLeastRanges b constant types ranges) where
@@ -117,7 +119,7 @@ module _ (list : ListTree) (files : List (List ℕ)) (judged : Judged) (is : IsS
           ap (λ rs. narrow_method (resolution judged.world near id.class) (tree_of x) (argument_words (flags_of (method_found (all_classes judged.world) id)) id.desc) x.insns rs) e
 
       abbrev laid_in : Files → Method → NMethod
-      laid_in w x = let id = x.id in if is_initialiser id.name then code_of w near no_rows x else code_among w near p.methods x
+      laid_in w x = laid_from w near p.methods x
 
       -- one that is no initialiser has the rows of the draft
       coded : (n i : ℕ) (class : ClassTree) (method : MethodTree) (tree : CodeTree) → slice_get world.classes n ≡ Some class → slice_get class.methods i ≡ Some method → method.code ≡ Some tree → is_initialiser method.name ≡ false
@@ -131,11 +133,11 @@ module _ (list : ListTree) (files : List (List ℕ)) (judged : Judged) (is : IsS
       stands_there : (n i : ℕ) (class : ClassTree) (method : MethodTree) (tree : CodeTree) → slice_get world.classes n ≡ Some class → slice_get class.methods i ≡ Some method → method.code ≡ Some tree → is_initialiser method.name ≡ false
           → (k : ℕ) × (m : LaidMethod) × (slice_get p.methods k ≡ Some m) × (method_at judged.world m.member ≡ Some (method_by class method (Some tree)))
       stands_there n i class method tree e f g plain =
-          let (k, f, there, found) = stands list files judged is of sound n i class method tree e f g plain in
+          let (k, f, there, found) = stands list files judged is of sound.names n i class method tree e f g plain in
           let one = mapped_at (λ (m : LaidMethod). m.member) p.methods k f (ap (λ fs. slice_get fs k) (same_members list files judged is p draft) ∙ there) in
           (k, one.0, one.1, ap (method_at judged.world) (sym one.2) ∙ found)
 
-      told : (x : Method) → is_initialiser (let id = x.id in id.name) ≡ false → IsOfFile judged.world x → narrow_codes judged.world near own_tables x ≡ code_among judged.world near p.methods x
+      told : (x : Method) → is_initialiser (let id = x.id in id.name) ≡ false → IsOfFile judged.world x → narrow_codes judged.world near own_tables x ≡ laid_from judged.world near p.methods x
       told x plain o =
           let u = is_unbroken list files judged is in
           by (let m = o.method in m.code) refl (told_among judged.world list.name u.listed u.world near draft.rows x o p.methods each)
@@ -144,8 +146,8 @@ module _ (list : ListTree) (files : List (List ℕ)) (judged : Judged) (is : IsS
           named = sym (ap is_initialiser (ap (λ (y : Method). let id = y.id in id.name) o.is ∙ ap (λ (i : MemberId). i.name) (id_of o.class o.method (let m = o.method in m.code)))) ∙ plain
 
           by : (c : Option CodeTree) → (let m = o.method in m.code) ≡ c
-              → (code_among judged.world near p.methods x ≡ code_of judged.world near draft.rows x) ⊎ ((code_among judged.world near p.methods x ≡ code_of judged.world near no_rows x) × ((k : ℕ) (m : LaidMethod) → slice_get p.methods k ≡ Some m → method_at judged.world m.member ≡ Some x → ⊥))
-              → narrow_codes judged.world near own_tables x ≡ code_among judged.world near p.methods x
+              → (laid_from judged.world near p.methods x ≡ code_of judged.world near draft.rows x) ⊎ ((laid_from judged.world near p.methods x ≡ code_of judged.world near no_rows x) × ((k : ℕ) (m : LaidMethod) → slice_get p.methods k ≡ Some m → method_at judged.world m.member ≡ Some x → ⊥))
+              → narrow_codes judged.world near own_tables x ≡ laid_from judged.world near p.methods x
           by None e r =
               let is : x ≡ method_by o.class o.method None = o.is ∙ ap (method_by o.class o.method) e in
               let same : narrow_codes judged.world near own_tables x ≡ code_of judged.world near no_rows x = subst (λ y. narrow_codes judged.world near own_tables y ≡ code_of judged.world near no_rows y) (sym is) refl in
@@ -158,11 +160,27 @@ module _ (list : ListTree) (files : List (List ℕ)) (judged : Judged) (is : IsS
               (λ none. (let (k, m, there, found) = stands_there o.number o.place o.class o.method tree o.is_class o.is_method e named in absurd (none.1 k m there (found ∙ ap Some (sym is)))))
               r
 
+      -- an initialiser does not stand there
+      first : (x : Method) → is_initialiser (let id = x.id in id.name) ≡ true → IsOfFile judged.world x → narrow_codes judged.world near own_tables x ≡ laid_from judged.world near p.methods x
+      first x g o =
+          let u = is_unbroken list files judged is in
+          by_rows x [] (no_first judged.world judged.codes judged.types ready own_rows (rows_are list files judged is) least x g)
+          ∙ bare_code judged.world near x
+          ∙ sym (none_among judged.world list.name u.listed u.world near draft.rows x o p.methods none)
+        where
+          none : (k : ℕ) (m : LaidMethod) (y : Method) → slice_get p.methods k ≡ Some m → method_at judged.world m.member ≡ Some y → y.id ≡ x.id → ⊥
+          none k m y e f same_id =
+              let there : slice_get (method_order (all_classes judged.world)) k ≡ Some m.member =
+              ap (λ fs. slice_get fs k) (sym (same_members list files judged is p draft)) ∙ slice_get-map (λ (q : LaidMethod). q.member) p.methods k ∙ ap (option_map (λ (q : LaidMethod). q.member)) e in
+              let plain = plain_in_order list files judged is of sound.names k m.member y there f in
+              let no : true ≡ false = sym g ∙ sym (ap (λ (id : MemberId). is_initialiser id.name) same_id) ∙ plain in
+              absurd cc
+
       pub same_code : (f : Found) (x : Method) → method_at judged.world f ≡ Some x → narrow_codes judged.world near own_tables x ≡ laid_in judged.world x
       same_code f x e = by (is_initialiser (let id = x.id in id.name)) refl
         where
-          by : (b : Bool) → is_initialiser (let id = x.id in id.name) ≡ b → narrow_codes judged.world near own_tables x ≡ (if b then code_of judged.world near no_rows x else code_among judged.world near p.methods x)
-          by true g = by_rows x [] (no_first judged.world judged.codes judged.types ready own_rows (rows_are list files judged is) least x g)
+          by : (b : Bool) → is_initialiser (let id = x.id in id.name) ≡ b → narrow_codes judged.world near own_tables x ≡ laid_in judged.world x
+          by true g = first x g (of_file judged.world f x e)
           by false g = told x g (of_file judged.world f x e)
 
       -- ---- it runs alike

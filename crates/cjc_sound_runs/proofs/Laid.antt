@@ -10,14 +10,16 @@ use Rattle.cjc_class_order.specs.Numbers.{class_count}
 use Rattle.cjc_classfile.specs.Code.{CodeTree}
 use Rattle.cjc_classfile.specs.declared.tree.ClassTree.{ClassTree}
 use Rattle.cjc_classfile.specs.declared.tree.MethodTree.{MethodTree}
+use Rattle.cjc_code.specs.declared.insn.JInsn.{JInsn}
 use Rattle.cjc_components.specs.Package.{LaidMethod}
 use Rattle.cjc_components.specs.Written.{code_by}
 use Rattle.cjc_keys.specs.Working.Same.{same_member-Decides}
-use Rattle.cjc_narrow.specs.Package.{code_of}
+use Rattle.cjc_narrow.specs.Package.{code_of, flags_of, tree_of}
+use Rattle.cjc_narrow.specs.Resolved.{argument_words, method_found, resolution}
 use Rattle.cjc_narrow_laws.proofs.Own.{class_by_name, first_here, own_kept}
 use Rattle.cjc_ncode.specs.PoolOrder.{same_member}
+use Rattle.cjc_ncode.specs.Written.{Resolution, narrow_method}
 use Rattle.cjc_ncode.specs.declared.narrow.NMethod.{NMethod}
-use Rattle.cjc_sound_runs.specs.Codes.{code_among, is_named, no_rows}
 use Rattle.cjc_types.specs.declared.state.State.{State}
 use Rattle.cjc_whole.specs.Conversion.{IsSelected}
 use Rattle.cjc_world.specs.Classes.{Class, all_classes, class_named, declared, method_of_class}
@@ -26,6 +28,7 @@ use Rattle.cjc_world.specs.Lookup.{is_called}
 use Rattle.cjc_world.specs.Rules.{breaks, is_twice}
 use Rattle.cjc_world.specs.declared.found.Found.{Found}
 use Rattle.cjc_world.proofs.Settled.{bytes-refl}
+use Rattle.cjc_written_calls.specs.Standing.{is_method_of, laid_from, no_rows}
 
 -- A method of a class file.
 pub record IsOfFile (files : Files) (x : Method) : Type 0 where
@@ -97,10 +100,10 @@ module _ (files : Files) (list : List ℕ) (listed : length files.classes ≤ cl
   module _ (near : List MemberId) (rows : Method → List (Option State)) (x : Method) (file : IsOfFile files x) where
     -- It is what the rows say, or nothing there is of this method.
     abbrev IsTold : List LaidMethod → Type 0
-    IsTold ms = (code_among files near ms x ≡ code_of files near rows x) ⊎ ((code_among files near ms x ≡ code_of files near no_rows x) × ((k : ℕ) (m : LaidMethod) → slice_get ms k ≡ Some m → method_at files m.member ≡ Some x → ⊥))
+    IsTold ms = (laid_from files near ms x ≡ code_of files near rows x) ⊎ ((laid_from files near ms x ≡ code_of files near no_rows x) × ((k : ℕ) (m : LaidMethod) → slice_get ms k ≡ Some m → method_at files m.member ≡ Some x → ⊥))
 
     abbrev Choice : LaidMethod → List LaidMethod → Bool → NMethod
-    Choice m ms b = if b then m.code else code_among files near ms x
+    Choice m ms b = if b then m.code else laid_from files near ms x
 
     abbrev Told : LaidMethod → List LaidMethod → Bool → Type 0
     Told m ms b = (Choice m ms b ≡ code_of files near rows x) ⊎ ((Choice m ms b ≡ code_of files near no_rows x) × ((k : ℕ) (n : LaidMethod) → slice_get (m ∷ ms) k ≡ Some n → method_at files n.member ≡ Some x → ⊥))
@@ -123,7 +126,7 @@ module _ (files : Files) (list : List ℕ) (listed : length files.classes ≤ cl
         no : y ≡ x → ⊥
         no g = let yes = sym f ∙ (same_member-Decides y.id x.id).1 (ap (λ (v : Method). v.id) g) in absurd cc
 
-    chosen : (m : LaidMethod) (ms : List LaidMethod) → IsSelected files near rows m → (o : Option Method) → method_at files m.member ≡ o → IsTold ms → Told m ms (is_named x.id o)
+    chosen : (m : LaidMethod) (ms : List LaidMethod) → IsSelected files near rows m → (o : Option Method) → method_at files m.member ≡ o → IsTold ms → Told m ms (is_method_of x.id o)
     chosen m ms one None e rest = later m ms (λ g. (let no = sym e ∙ g in absurd cc)) rest
     chosen m ms one (Some y) e rest = named m ms one y e (same_member y.id x.id) refl rest
 
@@ -133,3 +136,27 @@ module _ (files : Files) (list : List ℕ) (listed : length files.classes ≤ cl
         none : (k : ℕ) (m : LaidMethod) → slice_get [] k ≡ Some m → ⊥
         none k m e = cc
     told_among (m ∷ ms) each = chosen m ms (each 0 m refl) (method_at files m.member) refl (told_among ms (λ k n e. each (suc k) n e))
+
+    -- a method that none of them is has no instruction
+    pub none_among : (ms : List LaidMethod) → ((k : ℕ) (m : LaidMethod) (y : Method) → slice_get ms k ≡ Some m → method_at files m.member ≡ Some y → y.id ≡ x.id → ⊥) → laid_from files near ms x ≡ code_of files near no_rows x
+    none_among [] none = refl
+    none_among (m ∷ ms) none = by (method_at files m.member) refl (none_among ms (λ k n y e f. none (suc k) n y e f))
+      where
+        one : (y : Method) → method_at files m.member ≡ Some y → (b : Bool) → same_member y.id x.id ≡ b → laid_from files near ms x ≡ code_of files near no_rows x → Choice m ms b ≡ code_of files near no_rows x
+        one y e true f rest = absurd (none 0 m y refl e ((same_member-Decides y.id x.id).0 f))
+        one y e false f rest = rest
+
+        by : (o : Option Method) → method_at files m.member ≡ o → laid_from files near ms x ≡ code_of files near no_rows x → Choice m ms (is_method_of x.id o) ≡ code_of files near no_rows x
+        by None e rest = rest
+        by (Some y) e rest = one y e (same_member y.id x.id) refl rest
+
+-- ---- no instruction is reached without rows
+
+bare_same : (r : Resolution) (tree : CodeTree) (nargs : ℕ) (insns : List JInsn) → narrow_method {A = State} r tree nargs insns [] ≡ narrow_method {A = ℕ} r tree nargs insns []
+bare_same r tree nargs [] = refl
+bare_same r tree nargs (i ∷ insns) = refl
+
+pub bare_code : (files : Files) (near : List MemberId) (x : Method) → code_of {A = State} files near (λ y. []) x ≡ code_of files near no_rows x
+bare_code files near x =
+    let id = x.id in
+    bare_same (resolution files near id.class) (tree_of x) (argument_words (flags_of (method_found (all_classes files) id)) id.desc) x.insns

@@ -1,5 +1,5 @@
 //! A package whose files break no rule that is tested before it is written, over sound export files, has narrow code that runs as its
-//! class files. Definitions and laws alone, for whoever promises that what was converted behaves as its class files. Nothing here runs.
+//! class files. Laws alone, for whoever promises that what was converted behaves as its class files. Nothing here runs.
 #![tactic(auto)]
 
 ghost use Rattle.std.specs.Prelude.{◌≡◌, ℕ, List, Option, Some, slice_get};
@@ -25,12 +25,12 @@ ghost use Rattle.cjc_range_flow.specs.Frames.{RangeState};
 ghost use Rattle.cjc_range_flow.specs.Tables.{IsLeastRanges, Passes};
 ghost use Rattle.cjc_script.specs.declared.script.Script.{Script};
 ghost use Rattle.cjc_solid_laws.specs.Files.{ExportsAreSound};
-ghost use Rattle.cjc_sound_runs.specs.Codes.{laid_code};
 ghost use Rattle.cjc_types.specs.Flow.{body_of};
 ghost use Rattle.cjc_types.specs.Tables.{IsMethodOf, IsTypeTable, rows_of};
 ghost use Rattle.cjc_types.specs.declared.table.TypeTable.{TypeTable};
 ghost use Rattle.cjc_whole.specs.Conversion.{IsDraft, IsPackageOf};
 ghost use Rattle.cjc_world.specs.Classes.{all_classes};
+ghost use Rattle.cjc_written_calls.specs.Standing.{laid_code};
 
 use cjc_range_laws::least_ranges_exist;
 use cjc_whole_runs::whole_packages_run_alike;

@@ -197,7 +197,7 @@ module _ (list : List ℕ) (files : Files) (unbroken : breaks list files ≡ [])
       ∙ ap (λ (x : Member). Some x.token) m.2
 
   -- the place in an interface of an export file
-  place_there : (n : ℕ) (c : ExportClass) → slice_get (imports files.exports) n ≡ Some c → class_named w c.name ≡ Some (imported n c) → is_interface c.flags ≡ true
+  pub place_there : (n : ℕ) (c : ExportClass) → slice_get (imports files.exports) n ≡ Some c → class_named w c.name ≡ Some (imported n c) → is_interface c.flags ≡ true
       → (i : ℕ) (m : Member) → slice_get (map method_of_export c.methods) i ≡ Some m → position (λ s. same s (signature_of m)) (interface_methods w (imported n c)) ≡ Some m.token
   unfolding interface_methods own_methods
   place_there n c there named interface i m e =

@@ -10,6 +10,7 @@ use Rattle.cjc_ncode.specs.declared.narrow.NMethod.{NMethod}
 use Rattle.cjc_world.specs.declared.found.Found.{Found}
 use Rattle.cjc_world.specs.Files.{Files}
 use Rattle.cjc_bytes.specs.declared.fault.MemberId.{MemberId}
+use Rattle.cjc_by_name.specs.Linked.{Method}
 use Rattle.cjc_by_name.specs.OnePackage.{method_at}
 use Rattle.cjc_written_calls.specs.Standing.{is_method_of, place_from}
 
@@ -80,7 +81,7 @@ pub record Stands (at k : ℕ) (ms : List LaidMethod) (f : Found) : Type 0 where
   pub is : is_member f method ≡ true
   pub placed : slice_get (placed_from at ms) number ≡ Some (placed_at offset method)
   pub extent : extent_from at k ms f ≡ extent_at offset handlers method
-  pub found : (files : Files) (id : MemberId) → Tells files id ms f → place_from files at ms id ≡ placed_at offset method
+  pub found : (files : Files) (near : List MemberId) (x : Method) → Tells files x.id ms f → place_from files near at ms x ≡ placed_at offset method
   pub low : at ≤ offset
 
 pub stands : (at k : ℕ) (ms : List LaidMethod) (f : Found) → list_any (is_member f) ms ≡ true → Stands at k ms f
@@ -97,7 +98,7 @@ stands at k (m ∷ ms) f any = by (is_member f m) refl any (stands (at + method_
       is = is;
       placed = refl;
       extent = ap (λ t. if t then extent_at at k m else extent_from (at + method_size m) (k + handler_count m) ms f) is;
-      found = λ files id tells. ap (λ t. if t then placed_at at m else place_from files (at + method_size m) ms id) (sym (tells 0 m refl) ∙ is);
+      found = λ files near x tells. ap (λ t. if t then placed_at at m else place_from files near (at + method_size m) ms x) (sym (tells 0 m refl) ∙ is);
       low = omega arith;
     }
     by false is any rest =
@@ -112,6 +113,6 @@ stands at k (m ∷ ms) f any = by (is_member f m) refl any (stands (at + method_
           is = r.is;
           placed = r.placed;
           extent = ap (λ t. if t then extent_at at k m else extent_from (at + method_size m) (k + handler_count m) ms f) is ∙ r.extent;
-          found = λ files id tells. ap (λ t. if t then placed_at at m else place_from files (at + method_size m) ms id) (sym (tells 0 m refl) ∙ is) ∙ r.found files id (λ j o e. tells (suc j) o e);
+          found = λ files near x tells. ap (λ t. if t then placed_at at m else place_from files near (at + method_size m) ms x) (sym (tells 0 m refl) ∙ is) ∙ r.found files near x (λ j o e. tells (suc j) o e);
           low = omega (arith, low);
         }

@@ -11,12 +11,13 @@ use Rattle.cjc_by_token.proofs.Members.{bytes_same}
 use Rattle.cjc_calls_by_token.specs.Reaching.{BeginsAtOffsets, is_in_method, is_same}
 use Rattle.cjc_card.specs.Methods.{start_of}
 use Rattle.cjc_components.specs.Methods.{bytecode_count, extent_of, first_method, handler_count, is_member, method_offset, placed_at, placed_methods}
-use Rattle.cjc_components.specs.Package.{LaidMethod, Package, world}
+use Rattle.cjc_components.specs.Package.{LaidMethod, Package, pool, world}
 use Rattle.cjc_components.specs.Written.{is_abstract_at, is_abstract_by}
 use Rattle.cjc_lower.specs.Agreement.{IsAmong}
 use Rattle.cjc_lower.specs.Placed.{IsListed, Placed, start_on_card}
 use Rattle.cjc_lower.proofs.Beginning.{begins}
 use Rattle.cjc_lower.proofs.Packed.{bytes_stand}
+use Rattle.cjc_narrow.specs.Selected.{near_fields}
 use Rattle.cjc_ncode.specs.PoolOrder.{same_member}
 use Rattle.cjc_world.specs.declared.found.Found.{Found}
 use Rattle.cjc_world.specs.Order.{method_order}
@@ -136,15 +137,15 @@ module _ (forms : FormsLaw) (offsets : OffsetsLaw) (p : Package) (ready : AreRea
     begins_there =
         starts_there f f_own is_there
         ∙ ap (λ t. Some (start_on_card (naming p) t (placed_at here.offset here.method))) is_abstract_same
-        ∙ ap (λ x. Some (start_on_card (naming p) m.is_abstract x)) (sym (here.found p.files m.id tells))
+        ∙ ap (λ x. Some (start_on_card (naming p) m.is_abstract x)) (sym (here.found p.files (near_fields (pool p)) m tells))
 
     -- what is asked of the code of each method of Method holds of the code at its place
     pub place_has : (Q : LaidMethod → Type 0) → ((j : ℕ) (t : LaidMethod) → slice_get p.methods j ≡ Some t → t.member ≡ f → Q t) → (offset : ℕ) × (t : LaidMethod) × (place p m ≡ placed_at offset t) × Q t
-    place_has Q all = (here.offset, here.method, here.found p.files m.id tells, all here.number here.method here.there (member_is f f_own is_there))
+    place_has Q all = (here.offset, here.method, here.found p.files (near_fields (pool p)) m tells, all here.number here.method here.there (member_is f f_own is_there))
 
     -- its place is one of those of Method
     pub place_among : IsAmong (placed_methods p) (place p m)
-    place_among = record { place = here.number; there = here.placed ∙ ap Some (sym (here.found p.files m.id tells)) }
+    place_among = record { place = here.number; there = here.placed ∙ ap Some (sym (here.found p.files (near_fields (pool p)) m tells)) }
 
 pub methods_begin : (forms : FormsLaw) (offsets : OffsetsLaw) (p : Package) → AreReady p → AreMethods p → HaveOwnIds p → ClassesStand p → BeginsAtOffsets p.files (world p) (naming p) (method_offset p) (place p)
 methods_begin forms offsets p ready methods own classes f m is_there is_method = begins_there forms offsets p ready methods own classes f m is_there is_method

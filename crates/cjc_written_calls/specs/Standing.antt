@@ -7,39 +7,57 @@ use Rattle.cjc_calls_by_token.specs.Reaching.{is_in_method}
 use Rattle.cjc_card.specs.Methods.{is_class_at}
 use Rattle.cjc_components.specs.Methods.{first_method, method_offset, method_size, placed_at}
 use Rattle.cjc_components.specs.Names.{class_ref}
-use Rattle.cjc_components.specs.Package.{LaidMethod, Package, world}
-use Rattle.cjc_components.specs.Written.{is_abstract_at, no_code}
+use Rattle.cjc_components.specs.Package.{LaidMethod, Package, pool, world}
+use Rattle.cjc_components.specs.Written.{is_abstract_at}
 use Rattle.cjc_layout.specs.Handlers.{table_order}
 use Rattle.cjc_lower.specs.Handlers.{AllLie}
 use Rattle.cjc_lower.specs.Naming.{Naming}
 use Rattle.cjc_lower.specs.Placed.{IsLaidOut, Placed}
+use Rattle.cjc_narrow.specs.Package.{code_of}
+use Rattle.cjc_narrow.specs.Selected.{near_fields}
 use Rattle.cjc_ncode.specs.PoolOrder.{same_member}
+use Rattle.cjc_ncode.specs.declared.narrow.NMethod.{NMethod}
 use Rattle.cjc_world.specs.declared.found.Found.{Found}
 use Rattle.cjc_world.specs.Classes.{Class}
 use Rattle.cjc_world.specs.Files.{Files}
 use Rattle.cjc_world.specs.Order.{in_order, method_order}
 use Rattle.cjc_tables_by_token.specs.Loading.{naming, part}
 
--- ---- the place of a method of a class file
+-- ---- the narrow code of a method of a class file
 
 -- it has this name
 abbrev pub is_method_of : MemberId → Option Method → Bool
 is_method_of id None = false
 is_method_of id (Some m) = same_member m.id id
 
--- what stands where none is
-abbrev pub no_method : LaidMethod
-no_method = record { member = record { imported = false; class = 0; member = 0 }; is_abstract = true; code = no_code 0; wide = [] }
+-- no instruction of any method is reached
+abbrev pub no_rows : Method → List (Option ℕ)
+no_rows m = []
 
--- the first of this name among methods the first of which stands at this offset
-abbrev pub place_from : Files → (offset : ℕ) → List LaidMethod → MemberId → Placed
-place_from files at [] id = placed_at at no_method
-place_from files at (m ∷ methods) id =
-    if is_method_of id (method_at files m.member) then placed_at at m else place_from files (at + method_size m) methods id
+-- What is written for a method: the first of its name among these; where none has it, as an initialiser, no instruction.
+abbrev pub laid_from : Files → (near : List MemberId) → List LaidMethod → Method → NMethod
+laid_from files near [] x = code_of files near no_rows x
+laid_from files near (m ∷ methods) x = if is_method_of x.id (method_at files m.member) then m.code else laid_from files near methods x
+
+-- The narrow code that Method has of a method of a class file of the package, its handlers in the order of the class file.
+abbrev pub laid_code : Package → Method → NMethod
+laid_code p x = laid_from p.files (near_fields (pool p)) p.methods x
+
+-- ---- the place of a method of a class file
+
+-- what stands where none is
+abbrev pub no_method : Files → (near : List MemberId) → Method → LaidMethod
+no_method files near x = record { member = record { imported = false; class = 0; member = 0 }; is_abstract = true; code = code_of files near no_rows x; wide = [] }
+
+-- the first of its name among methods the first of which stands at this offset
+abbrev pub place_from : Files → (near : List MemberId) → (offset : ℕ) → List LaidMethod → Method → Placed
+place_from files near at [] x = placed_at at (no_method files near x)
+place_from files near at (m ∷ methods) x =
+    if is_method_of x.id (method_at files m.member) then placed_at at m else place_from files near (at + method_size m) methods x
 
 -- where a method of a class file of the package stands
 abbrev pub place : Package → Method → Placed
-place p m = place_from p.files (first_method p.methods) p.methods m.id
+place p x = place_from p.files (near_fields (pool p)) (first_method p.methods) p.methods x
 
 -- ---- what is asked of methods
 

@@ -1,6 +1,6 @@
 -- Narrow code whose handlers stand in the order of the table runs as that whose handlers stand in the order of its class file, where 311 is not broken.
 use Rattle.std.proofs.Common.{◌≡◌, ℕ, suc, ◌+◌, refl, ap, sym, subst, ◌∙◌, Bool, true, false, List, [], ◌∷◌, map}
-use Rattle.std.specs.Prelude.{◌≢◌, Option, Some, None, option_map, slice_get, if◌then◌else◌}
+use Rattle.std.specs.Prelude.{◌≢◌, Option, Some, None, nat_lt, option_map, slice_get, if◌then◌else◌}
 use Rattle.cjc_bytecode.proofs.Together.{runs_agree}
 use Rattle.cjc_bytecode.specs.Alike.{KnownState, Names, SettingsAlike, no_frames, reached_as, start_as}
 use Rattle.cjc_bytecode.specs.Effects.{Memory}
@@ -14,15 +14,21 @@ use Rattle.cjc_by_name.specs.Linked as linked
 use Rattle.cjc_by_name.specs.OnePackage.{method_at}
 use Rattle.cjc_components.specs.Limits.{order_breaks}
 use Rattle.cjc_components.specs.Methods.{in_table_order, method_size}
-use Rattle.cjc_components.specs.Package.{LaidMethod, Package}
+use Rattle.cjc_classfile.specs.declared.tree.Catch.{Catch}
+use Rattle.cjc_code.specs.declared.insn.JInsn.{JInsn}
+use Rattle.cjc_components.specs.Package.{LaidMethod, Package, pool}
 use Rattle.cjc_layout.specs.Handlers.{table_order}
 use Rattle.cjc_layout.specs.Refusals.{least, overtaking}
 use Rattle.cjc_lower.specs.Agreement.{Cells, IsKnownCall, everything, known_by}
 use Rattle.cjc_lower.proofs.ByCode.{kind_stays, operation_known, operation_stays, option_stays, shape_stays}
-use Rattle.cjc_narrow.specs.Package.{first_memory, named, named_by, on_class, reached, reached_by, selected_on, start_of}
+use Rattle.cjc_narrow.specs.Package.{code_of, first_memory, named, named_by, on_class, reached, reached_by, selected_on, start_of}
 use Rattle.cjc_narrow.specs.Package as narrow
+use Rattle.cjc_narrow.specs.Resolved.{resolution}
+use Rattle.cjc_narrow.specs.Selected.{near_fields}
 use Rattle.cjc_ncode.specs.ByLabel.{Callee, Named, by_label, classes, handler}
 use Rattle.cjc_ncode.specs.ByLabel
+use Rattle.cjc_ncode.specs.Written.{catch_at, catches_at, place_in}
+use Rattle.cjc_ncode.specs.Written.{reached as reached_by_rows}
 use Rattle.cjc_ncode.specs.declared.narrow.NCatch.{NCatch}
 use Rattle.cjc_ncode.specs.declared.narrow.NMethod.{NMethod}
 use Rattle.cjc_script.specs.Sorts.{Shape, shape_name}
@@ -33,23 +39,23 @@ use Rattle.cjc_world.specs.Files.{Files}
 use Rattle.cjc_world.specs.Subtype.{is_subtype}
 use Rattle.cjc_world.specs.declared.image.ArrayCell.{ArrayCell}
 use Rattle.cjc_world.specs.declared.image.StaticImage.{StaticImage}
-use Rattle.cjc_written_calls.specs.Standing.{is_method_of, place_from}
-use Rattle.cjc_written_laws.specs.Joined.{laid_code, laid_from, placed_code}
+use Rattle.cjc_written_calls.specs.Standing.{is_method_of, laid_code, laid_from, no_rows, place_from}
+use Rattle.cjc_written_laws.specs.Joined.{placed_code}
 use Rattle.cjc_written_laws.proofs.Joining.{memory_stays}
 
 -- ---- the code of a method
 
-placed_laid : (files : Files) (at : ℕ) (ms : List LaidMethod) (id : MemberId) → (let q = place_from files at ms id in q.method) ≡ in_table_order (laid_from files ms id)
-placed_laid files at [] id = refl
-placed_laid files at (m ∷ ms) id = by (is_method_of id (method_at files m.member)) (placed_laid files (at + method_size m) ms id)
+placed_laid : (files : Files) (near : List MemberId) (at : ℕ) (ms : List LaidMethod) (x : Method) → (let q = place_from files near at ms x in q.method) ≡ in_table_order (laid_from files near ms x)
+placed_laid files near at [] x = refl
+placed_laid files near at (m ∷ ms) x = by (is_method_of x.id (method_at files m.member)) (placed_laid files near (at + method_size m) ms x)
   where
-    by : (b : Bool) → (let q = place_from files (at + method_size m) ms id in q.method) ≡ in_table_order (laid_from files ms id)
-        → (let q = (if b then Rattle.cjc_components.specs.Methods.placed_at at m else place_from files (at + method_size m) ms id) in q.method) ≡ in_table_order (if b then m.code else laid_from files ms id)
+    by : (b : Bool) → (let q = place_from files near (at + method_size m) ms x in q.method) ≡ in_table_order (laid_from files near ms x)
+        → (let q = (if b then Rattle.cjc_components.specs.Methods.placed_at at m else place_from files near (at + method_size m) ms x) in q.method) ≡ in_table_order (if b then m.code else laid_from files near ms x)
     by true rest = refl
     by false rest = rest
 
-pub placed_is : (p : Package) (m : Method) → placed_code p m ≡ in_table_order (laid_code p m)
-placed_is p m = placed_laid p.files (Rattle.cjc_components.specs.Methods.first_method p.methods) p.methods m.id
+pub placed_is : (p : Package) (x : Method) → placed_code p x ≡ in_table_order (laid_code p x)
+placed_is p x = placed_laid p.files (near_fields (pool p)) (Rattle.cjc_components.specs.Methods.first_method p.methods) p.methods x
 
 -- no handler overtakes another
 abbrev pub IsOrdered : NMethod → Type 0
@@ -62,11 +68,30 @@ none_least (x ∷ xs) place e = cc
 pub ordered_by : (m : NMethod) (place : ℕ → Spot) → order_breaks place (least (overtaking [] m.catches)) ≡ [] → IsOrdered m
 ordered_by m place e = none_least (overtaking [] m.catches) place e
 
-laid_ordered : (files : Files) (ms : List LaidMethod) (id : MemberId) → ((k : ℕ) (m : LaidMethod) → slice_get ms k ≡ Some m → IsOrdered m.code) → IsOrdered (laid_from files ms id)
-laid_ordered files [] id all = refl
-laid_ordered files (m ∷ ms) id all = by (is_method_of id (method_at files m.member)) (laid_ordered files ms id (λ k x e. all (suc k) x e))
+-- no handler is left where nothing is reached
+none_caught : (place : ℕ → ℕ) → ((at : ℕ) → place at ≡ 0) → (catches : List Catch) → catches_at place catches ≡ []
+none_caught place zero [] = refl
+none_caught place zero (c ∷ catches) = by (place c.start) (place c.end) (zero c.start) (zero c.end) ∙ none_caught place zero catches
   where
-    by : (b : Bool) → IsOrdered (laid_from files ms id) → IsOrdered (if b then m.code else laid_from files ms id)
+    by : (a b : ℕ) → a ≡ 0 → b ≡ 0 → (if nat_lt a b then catch_at place c ∷ catches_at place catches else catches_at place catches) ≡ catches_at place catches
+    by a b e f = ap (λ t. if t then catch_at place c ∷ catches_at place catches else catches_at place catches) (ap (λ k. nat_lt k b) e ∙ ap (nat_lt 0) f)
+
+none_reached : (insns : List JInsn) → reached_by_rows {A = ℕ} insns [] ≡ []
+none_reached [] = refl
+none_reached (i ∷ insns) = refl
+
+bare_ordered : (files : Files) (near : List MemberId) (x : Method) → IsOrdered (code_of files near no_rows x)
+bare_ordered files near x =
+    let id = x.id in
+    let r = resolution files near id.class in
+    ap (λ kept. overtaking [] (catches_at (place_in r kept) x.catches)) (none_reached x.insns)
+    ∙ ap (overtaking []) (none_caught (place_in r []) (λ at. refl) x.catches)
+
+laid_ordered : (files : Files) (near : List MemberId) (ms : List LaidMethod) (x : Method) → ((k : ℕ) (m : LaidMethod) → slice_get ms k ≡ Some m → IsOrdered m.code) → IsOrdered (laid_from files near ms x)
+laid_ordered files near [] x all = bare_ordered files near x
+laid_ordered files near (m ∷ ms) x all = by (is_method_of x.id (method_at files m.member)) (laid_ordered files near ms x (λ k y e. all (suc k) y e))
+  where
+    by : (b : Bool) → IsOrdered (laid_from files near ms x) → IsOrdered (if b then m.code else laid_from files near ms x)
     by true rest = all 0 m refl
     by false rest = rest
 
@@ -186,4 +211,4 @@ module _ (files : Files) (image : StaticImage) (before after : Method → NMetho
 pub laid_runs : (p : Package) → ((k : ℕ) (m : LaidMethod) → slice_get p.methods k ≡ Some m → IsOrdered m.code)
     → ((l : Named) (label : ℕ) (kind : Shape (List ℕ)) (catches : List NCatch) → overtaking [] catches ≡ [] → handler l (table_order catches) label kind ≡ handler l catches label kind)
     → (script : Script) (n : ℕ) → ((at : ℕ) → (narrow.run p.files p.image (laid_code p) script n).outcome ≢ Stuck at) → narrow.run p.files p.image (placed_code p) script n ≡ narrow.run p.files p.image (laid_code p) script n
-laid_runs p ordered search script n free = runs_sorted p.files p.image (laid_code p) (placed_code p) (placed_is p) (λ m. laid_ordered p.files p.methods m.id ordered) search script n free
+laid_runs p ordered search script n free = runs_sorted p.files p.image (laid_code p) (placed_code p) (placed_is p) (λ x. laid_ordered p.files (near_fields (pool p)) p.methods x ordered) search script n free

@@ -1,11 +1,10 @@
 -- What joins a package's narrow code to its components: the code of its methods where they stand, and what is asked
 -- of calls, operations and objects.
-use Rattle.std.specs.Prelude.{◌≡◌, ℕ, List, [], ◌∷◌, Bool, true, Some, slice_get, if◌then◌else◌}
+use Rattle.std.specs.Prelude.{◌≡◌, ℕ, List, Bool, true, Some, slice_get}
 use Rattle.cjc_bytes.specs.declared.fault.MemberId.{MemberId}
 use Rattle.cjc_bytecode.specs.Alike.{KnownThing, start_as}
 use Rattle.cjc_bytecode.specs.Renaming.{KnownOperation, option_as, shape_as}
 use Rattle.cjc_by_name.specs.Linked.{Method}
-use Rattle.cjc_by_name.specs.OnePackage.{method_at}
 use Rattle.cjc_by_token.specs.Cells.{are_cells}
 use Rattle.cjc_by_token.specs.Classes.{memories, tests}
 use Rattle.cjc_calls_by_token.specs.Reaching as reaching
@@ -26,22 +25,12 @@ use Rattle.cjc_select_laws.specs.Names.{NamesFit}
 use Rattle.cjc_tables_by_token.specs.Known.{known_names, statics_of}
 use Rattle.cjc_tables_by_token.specs.Loading.{naming}
 use Rattle.cjc_written_calls.specs.Calls.{ExportsKeep, IsNamed, Receives}
-use Rattle.cjc_world.specs.Files.{Files}
-use Rattle.cjc_written_calls.specs.Standing.{is_method_of, no_method, place}
+use Rattle.cjc_written_calls.specs.Standing.{place}
 
 -- What the instructions and the handlers of its methods name stands in its pool, and means what they use.
 pub record NamesAreThere (p : Package) : Type 0 where
   pub names : (k : ℕ) (m : LaidMethod) → slice_get p.methods k ≡ Some m → (j : ℕ) (insn : NInsn) → (let code = m.code in slice_get code.insns j ≡ Some insn) → NamesFit (naming p) insn
   pub catches : (k : ℕ) (m : LaidMethod) → slice_get p.methods k ≡ Some m → (j : ℕ) (c : NCatch) → (let code = m.code in slice_get code.catches j ≡ Some c) → Catches (naming p) c.class
-
--- the narrow code that is written for a method of a class file, its handlers in the order of the class file; none
--- where Method has it not
-abbrev pub laid_from : Files → List LaidMethod → MemberId → NMethod
-laid_from files [] id = let m = no_method in m.code
-laid_from files (m ∷ methods) id = if is_method_of id (method_at files m.member) then m.code else laid_from files methods id
-
-abbrev pub laid_code : Package → Method → NMethod
-laid_code p m = laid_from p.files p.methods m.id
 
 -- the narrow code of a method where it stands in Method, its handlers in the order of the table
 abbrev pub placed_code : Package → Method → NMethod

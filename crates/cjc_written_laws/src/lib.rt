@@ -30,9 +30,9 @@ ghost use Rattle.cjc_tables_by_token.specs.Sound.{AreTyped, IsSound};
 ghost use Rattle.cjc_vtable.specs.Kept.{Keeps};
 ghost use Rattle.cjc_world.specs.Order.{class_order};
 ghost use Rattle.cjc_written_calls.specs.Calls.{KeepsSubtypes, KeepsTokens, NoStaticMethods};
-ghost use Rattle.cjc_written_calls.specs.Standing.{AreMethods, AreReady, IsSmall};
+ghost use Rattle.cjc_written_calls.specs.Standing.{AreMethods, AreReady, IsSmall, laid_code};
 ghost use Rattle.cjc_written_laws.specs.Converted.{IsConverted};
-ghost use Rattle.cjc_written_laws.specs.Joined.{IsJoined, NamesAreThere, laid_code};
+ghost use Rattle.cjc_written_laws.specs.Joined.{IsJoined, NamesAreThere};
 
 use cjc_calls_by_token::methods_are_placed;
 use cjc_code_promises::{

@@ -19,15 +19,17 @@ returns c = λ list files judged p is left.
     let kept = is_kept list files judged p is (λ l fs none fine. c.package_laws.ensures.unbroken l fs judged.codes (settings_of list) none fine) in
     let laid = is.is_package in
     let codes = (let w = p.files in all_codes w.classes) in
+    let names = c.instructions_name_what_is_there.ensures list files judged p is in
+    let calls = c.calls_are_named.ensures list files judged p is left.implement in
     let objects = c.known_objects_receive_calls.ensures.objects p (faults_are_classes p.files is.exports) in
     let ask = c.package_interfaces_ask.ensures.ask list.name p.files judged.codes (settings_of list) kept in
     record {
       there = there;
       exports = exports;
       cells = c.first_cells_are_typed.ensures.converted list files judged p is;
-      operations = λ m k insn among at. c.operations_are_known.ensures.known list codes laid.rows p laid.is_package left.names m k insn among at;
-      calls = λ m known. c.operations_are_known.ensures.calls p left.calls m known;
-      takes = λ m k known words. c.calls_take_words.ensures list.name list codes laid.rows p sound laid.is_package ready small keeps subtypes tokens exports m (c.operations_are_known.ensures.calls p left.calls m known) (c.operations_are_known.ensures.words p left.calls m known) k words;
+      operations = λ m k insn among at. c.operations_are_known.ensures.known list codes laid.rows p laid.is_package names m k insn among at;
+      calls = λ m known. c.operations_are_known.ensures.calls p calls m known;
+      takes = λ m k known words. c.calls_take_words.ensures list.name list codes laid.rows p sound laid.is_package ready small keeps subtypes tokens exports m (c.operations_are_known.ensures.calls p calls m known) (c.operations_are_known.ensures.words p calls m known) k words;
       receives = objects;
       sent = λ kind id thing. c.sent_methods_begin_alike.ensures list.name p sound ready methods small keeps subtypes tokens exports ask left.sends kind (objects kind thing) id;
     }

@@ -1,0 +1,36 @@
+//! That the class files of a converted package, run by name, and its components, run by token, behave alike. For whoever
+//! promises so of what was converted. It has a definition and laws alone; nothing here runs.
+#![tactic(auto)]
+
+ghost use Rattle.std.specs.Prelude.{◌≡◌, ℕ, List, []};
+ghost use Rattle.cjc_alike.specs.Alike.{BehaveAlike};
+ghost use Rattle.cjc_components.specs.Components.{components_of};
+ghost use Rattle.cjc_components.specs.Limits.{limit_breaks};
+ghost use Rattle.cjc_components.specs.Package.{Package};
+ghost use Rattle.cjc_fair_exports.specs.Fair.{ExportsAreFair};
+ghost use Rattle.cjc_judge.specs.Spelt.{IsRead};
+ghost use Rattle.cjc_judge.specs.declared.judged.Judged.{Judged};
+ghost use Rattle.cjc_list.specs.Listed.{ListTree};
+ghost use Rattle.cjc_prepared.specs.Prepared.{IsSound};
+ghost use Rattle.cjc_sentences.specs.Consistent.{Consistent};
+ghost use Rattle.cjc_whole.specs.Conversion.{IsPackageOf};
+
+use cjc_fair_exports::fair_exports_are_sound;
+use cjc_joined_laws::converted_components_run_by_token;
+use cjc_met_laws::names_are_met;
+use cjc_sound_runs::sound_packages_run_alike;
+
+/// Of a list that was read, and files that break no rule, nor does what is written for them, with export files that are fair:
+/// the class files and the components of their package behave alike, and the components are consistent with the export files.
+pub fn converted_packages_behave_alike()
+    ensures alike { (list : ListTree) (files : List (List ℕ)) (judged : Judged) → IsRead list → IsSound list files judged
+        → (p : Package) → IsPackageOf list files p → limit_breaks p ≡ [] → (let world = p.files in ExportsAreFair world.exports)
+        → BehaveAlike list p.files (components_of p) }
+    ensures consistent { (list : ListTree) (files : List (List ℕ)) (judged : Judged) → IsRead list → IsSound list files judged
+        → (p : Package) → IsPackageOf list files p → limit_breaks p ≡ [] → (let world = p.files in ExportsAreFair world.exports → Consistent (components_of p) world.exports) }
+{
+    fair_exports_are_sound();
+    converted_components_run_by_token();
+    names_are_met();
+    sound_packages_run_alike();
+}

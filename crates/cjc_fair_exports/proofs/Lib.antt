@@ -1,0 +1,5 @@
+pub mod Alone
+mod Roots
+mod Sent
+mod Test
+pub mod Implementing

@@ -1,0 +1,12 @@
+pub mod PoolKeys
+pub mod KeySources
+pub mod Descs
+pub mod Clean
+pub mod Aids
+pub mod LaidOut
+pub mod Access
+pub mod Cells
+pub mod Own
+pub mod Abroad
+pub mod Types
+pub mod There

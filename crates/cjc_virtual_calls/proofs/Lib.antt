@@ -1,0 +1,10 @@
+pub mod Chosen
+pub mod Lines
+pub mod MethodKinds
+pub mod Ways
+pub mod Places
+pub mod Sought
+pub mod Found
+pub mod Objects
+pub mod Supers
+pub mod Words
