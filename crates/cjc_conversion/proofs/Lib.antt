@@ -1,3 +1,4 @@
 mod Shapes
 mod Told
+mod Answered
 mod OneAnswer

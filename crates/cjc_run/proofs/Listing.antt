@@ -6,7 +6,7 @@ use Rattle.cjc_bytes.specs.declared.fault.Refusal.{Refusal}
 use Rattle.cjc_shelf.specs.Shelf.{Shelved}
 use Rattle.cjc_list.specs.Listed.{ListTree, listed, answer}
 use Rattle.cjc_list.specs.Spelling.{IsSpelt}
-use Rattle.cjc_judge.specs.Spelt.{IsRead, AreFiles}
+use Rattle.cjc_judge.specs.Spelt.{IsRead}
 use Rattle.cjc_command.specs.declared.status.Status.{Status}
 use Rattle.cjc_command.specs.declared.status.Status.TheVariants as status
 use Rattle.cjc_command.specs.declared.status.Todo.{Todo}
@@ -44,9 +44,6 @@ listed_refuses name text dir r s e =
 -- what was read is a list of the name
 pub is_read : (name text : List ℕ) (list : ListTree) → length text < 4294967296 → IsSpelt name list text → IsRead list
 is_read name text list short s = (text, short, subst (λ (n : List ℕ). IsSpelt n list text) (sym s.0.3.named) s)
-
-pub are_files : (files : List (List ℕ)) → AreShort files → AreFiles files
-are_files files s i = let e = s i in omega arith
 
 -- the files of the list could not all be read
 pub files_end : (list : ListTree) (dir : List ℕ) (names : List (List ℕ)) (old new : Shelved) (end : Status) → names ≡ names_of list

@@ -2,7 +2,7 @@
 use Rattle.std.proofs.Common.{ℕ, List}
 use Rattle.cjc_list.specs.Listed.{ListTree}
 use Rattle.cjc_command.proofs.OneAnswer.{IsOneAnswer}
-use Rattle.cjc_conversion.proofs.OneAnswer.{one_refusal, not_refused}
+use Rattle.cjc_conversion.proofs.OneAnswer.{never_both as never_converted_and_refused, one_answer_refused}
 use Rattle.cjc_checking.proofs.OneAnswer.{one_refusal as one_broken, never_both}
 use Rattle.cjc_checking.specs.Check.{Checks}
 use Rattle.cjc_folder.specs.declared.folder.Folder.{Folder}
@@ -15,8 +15,8 @@ use Rattle.cjc_run.specs.Convert.{Makes}
 
 convert_once : (dir : List ℕ) (inputs : ListTree × List (List ℕ)) → IsOneAnswer (Makes dir inputs)
 convert_once dir inputs = record {
-  one = λ r s f g. one_refusal inputs.0 inputs.1 r s f g;
-  not_both = λ todo r made f. not_refused inputs.0 inputs.1 made.0 r made.1 f;
+  one = λ r s f g. one_answer_refused inputs.0 inputs.1 r s f g;
+  not_both = λ todo r made f. never_converted_and_refused inputs.0 inputs.1 made.0 r made.1 f;
 }
 
 check_once : (inputs : Folder) → IsOneAnswer (Checks inputs)

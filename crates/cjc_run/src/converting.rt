@@ -1,8 +1,7 @@
 //! What `convert LIST DIR` reads and makes: the list, its files, and of these the components, the export file and the
 //! lines to print. `gather` calls it. Nothing here writes.
 
-ghost use Rattle.std.specs.Prelude.{◌≡◌, ◌<◌, All, ◌++◌, ◌∷◌, [], codes, IfOk, length};
-ghost use Rattle.std.specs.List.{AllByRecursion};
+ghost use Rattle.std.specs.Prelude.{◌≡◌, ◌<◌, ◌++◌, ◌∷◌, [], codes, IfOk, length};
 ghost use Rattle.cjc_command.specs.Gather.{AreShort};
 ghost use Rattle.cjc_judge.specs.Spelt.{IsRead};
 ghost use Rattle.cjc_command.specs.Gather.{Gathers, Judged};
@@ -74,23 +73,6 @@ fn names_of(alloc: Global, list: &List) -> Result<Row<Bytes>, NoMemory>
     Ok(names)
 }
 
-// Each byte is below 256, which is known of those that were read.
-fn read_bytes(files: &[Bytes])
-    ensures { All (λ file. AllByRecursion (λ b. b < 256) file) files.now }
-{
-    for file in files {
-        read_each(file.items());
-    }
-}
-
-fn read_each(bytes: &[u8])
-    ensures { AllByRecursion (λ b. b < 256) bytes.now }
-{
-    for byte in bytes {
-        let _read = *byte;
-    }
-}
-
 // All is computed here, the names and the lines too.
 fn judge(alloc: Global, dir: &[u8], list: &List, files: &Row<Bytes>) -> Result<Todo, Status>
     requires read { IsRead list.now }
@@ -98,7 +80,6 @@ fn judge(alloc: Global, dir: &[u8], list: &List, files: &Row<Bytes>) -> Result<T
     requires files { AreShort files.now }
     ensures { Judged (Makes dir.now (list.now, files.now)) result }
 {
-    read_bytes(files.items());
     match convert(alloc, list, files) {
         Ok(made) => match todo_of(alloc, dir, list.package.items(), made) {
             Ok(todo) => Ok(todo),
