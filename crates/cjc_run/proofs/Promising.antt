@@ -167,7 +167,6 @@ OfPackages Holds =
     → (let world = p.files in ExportsAreFair world.exports) → Holds list p
 
 module _ (behave : OfPackages (λ list p. BehaveAlike list p.files (components_of p))) (consist : OfPackages (λ list p. let world = p.files in Consistent (components_of p) world.exports)) where
-
   keeps : (name dir : List ℕ) (files : Files) (new : Shelved) (todo : Todo) → IsReady (command_of (convert name dir)) (Some files) todo → IsWritten (Some files) todo new
       → IsSomeAnd new.files (Converts name dir files)
   keeps name dir files new todo ready written =

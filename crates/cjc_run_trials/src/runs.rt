@@ -307,7 +307,10 @@ fn is_done(alloc: Global, case: &str) -> Result<bool, NoMemory> {
     let mut shelf = shelf_of(alloc, case)?;
     let words = words_of(alloc, "convert list out")?;
     let mut out = sink_of(alloc, "")?;
-    Ok(matches!(run(alloc, words.items(), &mut shelf, &mut out), Status::Done))
+    Ok(matches!(
+        run(alloc, words.items(), &mut shelf, &mut out),
+        Status::Done
+    ))
 }
 
 /// Whether a run is as wanted.
