@@ -1,8 +1,10 @@
 -- What a command makes of its inputs is one answer.
-use Rattle.std.proofs.Common.{ℕ, List}
+use Rattle.std.proofs.Common.{◌≡◌, ℕ, List}
 use Rattle.cjc_list.specs.Listed.{ListTree}
 use Rattle.cjc_command.proofs.OneAnswer.{IsOneAnswer}
-use Rattle.cjc_conversion.proofs.OneAnswer.{never_both as never_converted_and_refused, one_answer_refused}
+use Rattle.cjc_bytes.specs.declared.fault.Refusal.{Refusal}
+use Rattle.cjc_conversion.specs.Conversion.{IsBuilt, IsRefused}
+use Rattle.cjc_conversion.specs.declared.conversion.Converted.{Converted}
 use Rattle.cjc_checking.proofs.OneAnswer.{one_refusal as one_broken, never_both}
 use Rattle.cjc_checking.specs.Check.{Checks}
 use Rattle.cjc_folder.specs.declared.folder.Folder.{Folder}
@@ -13,10 +15,17 @@ use Rattle.cjc_run.specs.Request.{Request, check, convert, jvm}
 use Rattle.cjc_run.specs.Command.{command_of}
 use Rattle.cjc_run.specs.Convert.{Makes}
 
-convert_once : (dir : List ℕ) (inputs : ListTree × List (List ℕ)) → IsOneAnswer (Makes dir inputs)
-convert_once dir inputs = record {
-  one = λ r s f g. one_answer_refused inputs.0 inputs.1 r s f g;
-  not_both = λ todo r made f. never_converted_and_refused inputs.0 inputs.1 made.0 r made.1 f;
+-- a conversion refuses by one rule at one place, and never what it makes
+abbrev pub IsRefusedOnce : Type 0
+IsRefusedOnce = (list : ListTree) (files : List (List ℕ)) (r s : Refusal) → IsRefused list files r → IsRefused list files s → r ≡ s
+
+abbrev pub IsNeverBoth : Type 0
+IsNeverBoth = (list : ListTree) (files : List (List ℕ)) (made : Converted) (r : Refusal) → IsBuilt list files made → IsRefused list files r → ⊥
+
+convert_once : IsRefusedOnce → IsNeverBoth → (dir : List ℕ) (inputs : ListTree × List (List ℕ)) → IsOneAnswer (Makes dir inputs)
+convert_once one never dir inputs = record {
+  one = λ r s f g. one inputs.0 inputs.1 r s f g;
+  not_both = λ todo r made f. never inputs.0 inputs.1 made.0 r made.1 f;
 }
 
 check_once : (inputs : Folder) → IsOneAnswer (Checks inputs)
@@ -32,7 +41,7 @@ run_once n script input = record {
 }
 
 -- one line a command
-pub makes_once : (asked : Request) (inputs : (command_of asked).Inputs) → IsOneAnswer ((command_of asked).Makes inputs)
-makes_once (convert list dir) inputs = convert_once dir inputs
-makes_once (check list dir) inputs = check_once inputs
-makes_once (jvm list script n) inputs = run_once n script inputs
+pub makes_once : IsRefusedOnce → IsNeverBoth → (asked : Request) (inputs : (command_of asked).Inputs) → IsOneAnswer ((command_of asked).Makes inputs)
+makes_once one never (convert list dir) inputs = convert_once one never dir inputs
+makes_once one never (check list dir) inputs = check_once inputs
+makes_once one never (jvm list script n) inputs = run_once n script inputs

@@ -8,9 +8,13 @@ ghost use Rattle.cjc_command.specs.declared.status.Status.{Status as Answer};
 ghost use Rattle.cjc_run.specs.Request.{Request};
 ghost use Rattle.cjc_run.specs.Command.{command_of};
 
+use cjc_conversion::one_answer;
+
 /// The words and the told files decide one answer: two runs in which no fault count rises and memory is there end the same
 /// way, and of all refusals that a run may answer for them there is one.
 pub fn one_status()
     ensures one { (asked : Request) (files : Files) (a b : Answer) → IsEndOver (command_of asked) files a → IsEndOver (command_of asked) files b → a ≡ b }
     ensures refused { (asked : Request) (files : Files) (r s : Refusal) → IsRefused (command_of asked) (Some files) r → IsRefused (command_of asked) (Some files) s → r ≡ s }
-{}
+{
+    one_answer();
+}
