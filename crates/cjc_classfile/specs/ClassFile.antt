@@ -16,6 +16,7 @@ use Rattle.cjc_classfile.specs.Methods.{method_tree}
 abbrev pub version : ℕ → Option ℕ
 version n = if nat_le 45 n && nat_le n 52 then Some n else None
 
+-- a count that is at least 1
 abbrev pub not_zero : ℕ → Option ℕ
 not_zero n = if nat_lt 0 n then Some n else None
 

@@ -9,9 +9,11 @@ use Rattle.cjc_classfile.specs.Entry.{Entry}
 use Rattle.cjc_classfile.specs.Items.{class_name_at}
 use Rattle.cjc_classfile.specs.Members.{exactly, attribute}
 
+-- a number that is at most the limit
 abbrev pub at_most : ℕ → ℕ → Option ℕ
 at_most m n = if nat_le n m then Some n else None
 
+-- a number that is less than the limit
 abbrev pub below : ℕ → ℕ → Option ℕ
 below m n = if nat_lt n m then Some n else None
 

@@ -8,6 +8,7 @@ use Rattle.cjc_classfile.specs.declared.tree.PoolItem.{PoolItem}
 use Rattle.cjc_classfile.specs.declared.tree.PoolItem.TheVariants as items
 use Rattle.cjc_classfile.specs.Entry.{Entry, text, integer, class, string, field, method, interface_method, name_and_type}
 
+-- the bytes of a CONSTANT_Utf8
 abbrev pub as_text : Entry → Option (List ℕ)
 as_text (text bytes desc) = Some bytes
 as_text _ = None
@@ -23,14 +24,17 @@ as_desc_of true (text bytes (Some true)) = Some bytes
 as_desc_of false (text bytes (Some false)) = Some bytes
 as_desc_of _ _ = None
 
+-- the index of the name of a CONSTANT_Class
 abbrev pub as_class : Entry → Option Index
 as_class (class name) = Some name
 as_class _ = None
 
+-- the indices of the name and of the descriptor of a CONSTANT_NameAndType
 abbrev pub as_pair : Entry → Option (Index × Index)
 as_pair (name_and_type name desc) = Some (name, desc)
 as_pair _ = None
 
+-- a text of one byte or more
 abbrev pub not_empty : List ℕ → Option (List ℕ)
 not_empty [] = None
 not_empty (b ∷ bs) = Some (b ∷ bs)

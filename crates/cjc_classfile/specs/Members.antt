@@ -43,6 +43,7 @@ is_constant static so_far name =
     if static && bytes_eq name (codes "ConstantValue") then (if is_some so_far then None else Some true)
     else Some false
 
+-- the number of a CONSTANT_Integer, or no number for another entry that a ConstantValue attribute may name
 abbrev pub constant_of : Entry → Option (Option ℤ)
 constant_of (integer n) = Some (Some n)
 constant_of float = Some None
@@ -53,6 +54,7 @@ constant_of _ = None
 unfoldable pub constant_at : List Entry → ℕ → Option (Option ℤ)
 constant_at pool i = option_and_then constant_of (slice_get pool i)
 
+-- the one number that may stand there
 abbrev pub exactly : ℕ → ℕ → Option ℕ
 exactly m n = if n == m then Some n else None
 
@@ -72,6 +74,7 @@ unfoldable pub field_attribute : List Entry → Bool → ℕ → Constant → Fo
 field_attribute pool static behind so_far =
     number w16 (constant_name_at pool static so_far) >>= λ constant. constant_content pool constant so_far
 
+-- the number of a field's constant, where it has come and is an integer
 abbrev pub value_of : Constant → Option ℤ
 value_of (Some value) = value
 value_of None = None

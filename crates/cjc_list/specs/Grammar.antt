@@ -75,6 +75,7 @@ item_of _ = None
 abbrev pub class_count : List FileLine → ℕ
 class_count files = count_by (λ f. f.class_file) files
 
+-- how many export files are named
 abbrev pub export_count : List FileLine → ℕ
 export_count files = count_by (λ f. not f.class_file) files
 
