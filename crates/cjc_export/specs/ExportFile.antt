@@ -16,6 +16,7 @@ use Rattle.cjc_export.specs.Members.{grown, class_field, field, method}
 
 -- ---- classes
 
+-- an earlier class has the token
 abbrev pub token_taken : List ExportClass → ℕ → Bool
 token_taken so_far token = list_any (λ c. c.token == token) so_far
 
@@ -23,6 +24,7 @@ token_taken so_far token = list_any (λ c. c.token == token) so_far
 abbrev pub class_token : List ExportClass → ℕ → Option ℕ
 class_token so_far token = if token_taken so_far token then None else Some token
 
+-- an earlier class has the name
 abbrev pub name_taken : List ExportClass → List ℕ → Bool
 name_taken so_far name = list_any (λ c. bytes_eq c.name name) so_far
 
@@ -54,6 +56,7 @@ class_tree pool so_far = do
 
 -- ---- the file
 
+-- the minor version of the format: 1 or 2
 abbrev pub minor_version : ℕ → Option ℕ
 minor_version n = if (n == 1) || (n == 2) then Some n else None
 

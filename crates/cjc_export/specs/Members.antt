@@ -27,6 +27,7 @@ class_field pool = number w16 (class_name_at pool)
 
 -- ---- descriptors
 
+-- both hold, or neither
 abbrev pub same_bool : Bool → Bool → Bool
 same_bool true b = b
 same_bool false b = not b
@@ -60,6 +61,7 @@ is_constant so_far name =
 unfoldable pub constant_name_at : List Entry → Option ℤ → ℕ → Option Bool
 constant_name_at pool so_far i = option_and_then (is_constant so_far) (text_at pool i)
 
+-- the number of a CONSTANT_Integer
 abbrev pub as_integer : Entry → Option ℤ
 as_integer (integer n) = Some n
 as_integer _ = None
@@ -122,6 +124,7 @@ field pool so_far = do
 abbrev pub is_unbound : ℕ → List ℕ → Bool
 is_unbound flags name = is_static flags || bytes_eq name (codes "<init>")
 
+-- an earlier method has this token, among those with tokens of this kind
 abbrev pub method_token_taken : List ExportMethod → Bool → ℕ → Bool
 method_token_taken so_far unbound token = list_any (λ m. (m.token == token) && same_bool unbound (is_unbound m.flags m.name)) so_far
 
@@ -142,6 +145,7 @@ class_method pool so_far = do
 
 -- ---- methods of interfaces
 
+-- an earlier method of the interface has this token
 abbrev pub interface_token_taken : List ExportMethod → ℕ → Bool
 interface_token_taken so_far token = list_any (λ m. m.token == token) so_far
 

@@ -11,6 +11,7 @@ use Rattle.cjc_export.specs.Constant.{Constant, text, integer, class, this, same
 
 -- ---- the constants that writing needs, in the order in which it needs them: a name before the entry that names it
 
+-- the name of a class, and the class
 abbrev pub class_needs : List ℕ → List Constant
 class_needs name = text name ∷ class name ∷ []
 
@@ -18,13 +19,16 @@ class_needs name = text name ∷ class name ∷ []
 unfoldable pub value_name : Constant
 value_name = text (codes "ConstantValue")
 
+-- the name of the attribute and the value, where a field is a constant
 abbrev pub value_needs : Option ℤ → List Constant
 value_needs None = []
 value_needs (Some value) = value_name ∷ integer (cast_unsigned w32 value) ∷ []
 
+-- the name and the descriptor of a field, and what its value needs
 abbrev pub field_needs : ExportField → List Constant
 field_needs f = text f.name ∷ text f.desc ∷ value_needs f.constant
 
+-- the name and the descriptor of a method
 abbrev pub method_needs : ExportMethod → List Constant
 method_needs m = text m.name ∷ text m.desc ∷ []
 
@@ -44,9 +48,11 @@ constants t = insert_all same [] (needs t)
 unfoldable pub index_of : List Constant → Constant → ℕ
 index_of pool c = unwrap_or (position (same c) pool) 0
 
+-- the index of a constant in the pool, as two bytes
 abbrev pub index_bytes : List Constant → Constant → List ℕ
 index_bytes pool c = to_be_bytes w16 (index_of pool c)
 
+-- the index of the class of this name, as two bytes
 abbrev pub class_ref : List Constant → List ℕ → List ℕ
 class_ref pool name = index_bytes pool (class name)
 
@@ -71,6 +77,7 @@ class_bytes pool c =
     ++ (to_be_bytes w16 (length c.supers) ++ (flat_map (class_ref pool) c.supers
     ++ (to_be_bytes w8 (length c.interfaces) ++ (flat_map (class_ref pool) c.interfaces ++ members_bytes pool c))))))
 
+-- ACC_LIBRARY for a library, else no flag
 abbrev pub library_flag : Bool → ℕ
 library_flag library = if library then 1 else 0
 
