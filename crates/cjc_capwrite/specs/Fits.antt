@@ -54,7 +54,7 @@ abbrev pub StaticFits : StaticRef → Type 0
 StaticFits (static_refs.Inside offset) = Fits2 offset
 StaticFits (static_refs.Outside imported class token) = imported < 0x80
 
--- the AID and the name of the package have lengths of one byte
+-- an AID and a name of the package whose lengths fit one byte
 pub record HeaderFits (x : Header) : Type 0 where
   pub aid : Fits1 (length x.aid)
   pub name : Fits1 (length x.name)
@@ -67,7 +67,7 @@ pub record DirectoryFits (x : Directory) : Type 0 where
   pub array_init_count : Fits2 x.array_init_count
   pub array_init_size : Fits2 x.array_init_size
 
--- an AID with a length of one byte, and the offset of the install method in two
+-- an AID whose length fits one byte, and the offset of the install method in two bytes
 pub record AppletEntryFits (x : AppletEntry) : Type 0 where
   pub aid : Fits1 (length x.aid)
   pub install_method : Fits2 x.install_method
@@ -77,7 +77,7 @@ pub record AppletFits (x : Applet) : Type 0 where
   pub count : Fits1 (length x.applets)
   pub applets : AllByRecursion AppletEntryFits x.applets
 
--- an AID with a length of one byte
+-- an AID whose length fits one byte
 pub record ImportedPackageFits (x : ImportedPackage) : Type 0 where
   pub aid : Fits1 (length x.aid)
 

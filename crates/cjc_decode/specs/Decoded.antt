@@ -65,7 +65,7 @@ pub record IsAtFront (i : Insn) (bytes : List ℕ) : Type 0 where
   pub some : 1 ≤ i.size
   pub within : i.size ≤ length bytes
 
--- what a decoded method header stands for
+-- the method header that was decoded: its stack, arguments and locals, whether it is abstract, and its bytes
 abbrev pub header_of : Header → MethodHeader
 header_of h = record {
   max_stack = h.max_stack;

@@ -38,7 +38,7 @@ given_by value element op locals s = gives (λ _. value) op [] locals s
 abbrev pub behind_by : (value : Option ℤ) → (element : Span) → JOp → (locals stack : List Span) → List Span
 behind_by value element op locals s = given_by value element op locals s ++ drop (takes op) s
 
--- the stack behind an instruction as it is kept: a clash stays one
+-- the stack behind an instruction; a clash stays one, and a stack higher than any of a least type table becomes one
 abbrev pub stack_by : (value : Option ℤ) → (element : Span) → JOp → (locals : List Span) → StackOf Span → StackOf Span
 stack_by value element op locals Clash = Clash
 stack_by value element op locals (Cells s) = stack_of (behind_by value element op locals s)

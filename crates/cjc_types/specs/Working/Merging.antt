@@ -130,7 +130,7 @@ insert_more n xs k x h e o = subst (λ (m : ℕ). insert n xs ≡ take m xs ++ i
 pub compared_is : (n x y : List ℕ) (o p : Ordering) → y ≡ x → o ≡ compare n y → o ≡ p → compare n x ≡ p
 compared_is n x y o p same is e = ap (compare n) (sym same) ∙ sym is ∙ e
 
--- a set with no place for one more name is the same with it
+-- where a search finds no place to put a name, the set with the name is the same set
 pub none_found : (n : List ℕ) (set : List (List ℕ)) (o : Option ℕ) → MatchOption o (insert n set ≡ set) (λ at. (at ≤ length set) × (insert n set ≡ take at set ++ n ∷ drop at set)) → is_some o ≡ false → insert n set ≡ set
 none_found n set None h e = h
 none_found n set (Some at) h e = absurd cc
@@ -148,7 +148,7 @@ union_next names all more i name given lt read same is =
     let split : drop i names ≡ name ∷ drop (i + 1) names = drop_more names i name lt ∙ ap (λ (n : List ℕ). n ∷ drop (i + 1) names) (sym read) in
     ap (union (drop (i + 1) names)) (is ∙ ap (λ (n : List ℕ). insert n all) same) ∙ ap (λ (zs : List (List ℕ)). union zs all) (sym split)
 
--- a step of the walk, behind what is gathered, leaves the union the same
+-- a step of the walk changes nothing of what is gathered with the union of the rest behind it
 pub merged_next : (xs ys set more : List (List ℕ)) (i k : ℕ) (x y a b : List ℕ) (o : Ordering) (p q : ℕ) → IsSet xs → i < length xs → k < length ys → x ≡ get_or xs i x → y ≡ get_or ys k y → a ≡ x → b ≡ y
     → o ≡ compare a b → more ≡ set ++ lesser (compare a b) a b ∷ [] → p ≡ steps_left o → q ≡ steps_right o → more ++ union (drop (i + p) xs) (drop (k + q) ys) ≡ set ++ union (drop i xs) (drop k ys)
 merged_next xs ys set more i k x y a b o p q own lt lt' read_x read_y same_a same_b is_o is_more is_p is_q =

@@ -45,7 +45,7 @@ insert_old n m (x ∷ xs) h = go (compare n x) h (insert_old n m xs)
     go Greater (inl is) rest = inl is
     go Greater (inr later) rest = inr (rest later)
 
--- a set with a name has but the name and what it had without
+-- a set with a name has nothing but the name and what it had without
 pub insert_cases : (n m : List ℕ) (xs : List (List ℕ)) → In m (insert n xs) → (n ≡ m) ⊎ In m xs
 insert_cases n m [] h = h
 insert_cases n m (x ∷ xs) h = go (compare n x) h (insert_cases n m xs)
