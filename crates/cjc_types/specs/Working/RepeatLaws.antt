@@ -90,6 +90,7 @@ alike_more insns cs n c p q bounds more sized lt read from to is_more known d ha
       ]
     ]
 
+-- without handlers, any bounds do
 pub alike_none : (insns : List JInsn) (bounds : List Bool) → CoverAlike insns bounds []
 alike_none insns bounds c has at i j is_i is_j off = absurd (contains_none c has)
 
