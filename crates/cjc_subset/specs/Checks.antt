@@ -28,6 +28,7 @@ use Rattle.cjc_subset.specs.Limits.{has_deep_stack, has_many_cells, has_many_exp
 
 -- ---- 310: an instruction names a field of an imported class that is no constant
 
+-- a field was found, and it is one of an imported class that is no constant
 abbrev pub is_imported_variable : Files → Option Found → Bool
 is_imported_variable files None = false
 is_imported_variable files (Some f) = f.imported && not (is_constant files f)
@@ -70,6 +71,7 @@ method_breaks settings f c i m =
 abbrev pub has_foreign : List MemberId → Bool
 has_foreign added = list_any (λ m. is_foreign_desc m.desc) added
 
+-- one of the methods that an abstract class gets has int in its descriptor
 abbrev pub has_int : List MemberId → Bool
 has_int added = list_any (λ m. is_int_desc m.desc) added
 

@@ -31,9 +31,11 @@ is_above w c d = is_subclass w c.name d.name && not (bytes_eq c.name d.name)
 abbrev pub listed_above : List Class → ClassTree → Class → List (List ℕ)
 listed_above w c d = if is_above w c d then d.interfaces else []
 
+-- the interfaces that those of these classes of the package list which stand above another
 abbrev pub listed_by_declared : List Class → ClassTree → List ClassTree → List (List ℕ)
 listed_by_declared w c ds = flat_map (λ d. listed_above w c (declared 0 d)) ds
 
+-- the interfaces that those of these imported classes list which stand above another
 abbrev pub listed_by_imported : List Class → ClassTree → List ExportClass → List (List ℕ)
 listed_by_imported w c ds = flat_map (λ d. listed_above w c (imported 0 d)) ds
 
@@ -49,6 +51,7 @@ unfoldable pub noted : List (List ℕ) → List (List ℕ) → List (List ℕ)
 noted known [] = known
 noted known (x ∷ xs) = noted (if list_any (λ y. bytes_eq y x) known then known else known ++ x ∷ []) xs
 
+-- how many interfaces a class may have, or an interface
 abbrev pub most_interfaces : ClassTree → ℕ
 most_interfaces c = if is_interface c.flags then 14 else 15
 
@@ -57,10 +60,12 @@ has_many_interfaces files c = nat_lt (most_interfaces c) (length (noted [] (list
 
 -- ---- 404 and 405
 
+-- the code of a method has more than 255 local variables
 abbrev pub has_many_locals : Option CodeTree → Bool
 has_many_locals None = false
 has_many_locals (Some code) = nat_lt 255 code.max_locals
 
+-- the code of a method has an operand stack of more than 255 words
 abbrev pub has_deep_stack : Option CodeTree → Bool
 has_deep_stack None = false
 has_deep_stack (Some code) = nat_lt 255 code.max_stack
@@ -76,9 +81,11 @@ has_many_cells c = nat_lt 255 (sum_by cells c.fields)
 
 -- ---- 407: more than 255 entries in all exception tables together
 
+-- how many entries a method's exception table has, 0 without code
 abbrev pub handlers : MethodTree → ℕ
 handlers m = length (catches_of m.code)
 
+-- how many entries the exception tables of the methods of a class have together
 abbrev pub handlers_of_class : ClassTree → ℕ
 handlers_of_class c = sum_by handlers c.methods
 

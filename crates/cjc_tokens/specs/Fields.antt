@@ -18,6 +18,7 @@ is_open_static f = is_static f.flags && is_exposed f.flags && not (is_constant f
 
 -- ---- instance fields
 
+-- a field that is not static
 abbrev pub is_instance : FieldTree → Bool
 is_instance f = not (is_static f.flags)
 
@@ -34,6 +35,7 @@ group f = if is_exposed f.flags then (if is_reference f.desc then 1 else 0) else
 abbrev pub cells : FieldTree → ℕ
 cells f = if bytes_eq f.desc (codes "I") then 2 else 1
 
+-- how many cells the fields take that pass the test
 abbrev pub cells_of : (FieldTree → Bool) → List FieldTree → ℕ
 cells_of test fs = sum_by (λ f. if test f then cells f else 0) fs
 

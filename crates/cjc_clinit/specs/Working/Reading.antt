@@ -24,6 +24,7 @@ use Rattle.cjc_clinit.specs.Rules.{is_wrong_class}
 
 -- ---- one instruction that puts nothing
 
+-- the stage where it is so, else none
 abbrev pub stage_if : Bool → Stage → Option Stage
 stage_if true s = Some s
 stage_if false s = None
@@ -40,10 +41,12 @@ after_number z (stages.Copied kind items) = option_map (λ i. stages.Indexed kin
 after_number z (stages.Indexed kind items i) = stage_if (fits kind z) (stages.Valued kind items i z)
 after_number z _ = None
 
+-- null, which is put
 abbrev pub after_null : Stage → Option Stage
 after_null stages.Free = Some stages.Null
 after_null _ = None
 
+-- the return, between statements alone
 abbrev pub after_return : ℕ → Stage → Option Stage
 after_return op stages.Free = stage_if (op == return) stages.Ended
 after_return op _ = None
@@ -53,6 +56,7 @@ abbrev pub after_stack : ℕ → Stage → Option Stage
 after_stack op (stages.Array kind items) = stage_if (op == dup && nat_lt 0 (length items)) (stages.Copied kind items)
 after_stack op _ = None
 
+-- a value into its item of the array, by the store of its kind
 abbrev pub after_store : ℕ → Stage → Option Stage
 after_store op (stages.Valued kind items i z) = stage_if (op == store kind) (stages.Array kind (slice_set items i z))
 after_store op _ = None
@@ -62,10 +66,12 @@ abbrev pub count_in : ℤ → Option ℕ
 count_in (pos n) = if nat_le n most_items then Some n else None
 count_in (negsuc n) = None
 
+-- an array of so many items of 0, where kind and count are allowed
 abbrev pub new_array : Option Kind → Option ℕ → Option Stage
 new_array (Some kind) (Some count) = Some (stages.Array kind (replicate count (pos 0)))
 new_array kind count = None
 
+-- an array of the type with this number, of as many items as the number before it says
 abbrev pub after_newarray : ℕ → Stage → Option Stage
 after_newarray number (stages.Number z) = new_array (element_kind number) (count_in z)
 after_newarray number _ = None
@@ -95,9 +101,11 @@ pub record State : Type 0 where
   pub arrays : List ArrayCell
   pub stage : Stage
 
+-- the three together
 abbrev pub state : List Held → List ArrayCell → Stage → State
 state fields arrays stage = record { fields = fields; arrays = arrays; stage = stage }
 
+-- what follows the state, or the offset where there is no state
 abbrev pub or_wrong : (at : ℕ) → Option State → (State → Result State ℕ) → Result State ℕ
 or_wrong at None go = Err at
 or_wrong at (Some s) go = go s
@@ -143,6 +151,7 @@ pub record Puts : Type 0 where
   pub fields : List (List Held)
   pub arrays : List ArrayCell
 
+-- the two together
 abbrev pub puts : List (List Held) → List ArrayCell → Puts
 puts fields arrays = record { fields = fields; arrays = arrays }
 
@@ -164,6 +173,7 @@ after_class files code before (Some c) = after_initialiser files c code before
 unfoldable pub after_code : Files → Puts → MethodCode → Result Puts ℕ
 after_code files before code = after_class files code before (initialised files code)
 
+-- what follows, or the offset with which an initialiser is none
 abbrev pub and_then : Result Puts ℕ → (Puts → Result Puts ℕ) → Result Puts ℕ
 and_then (Ok later) go = go later
 and_then (Err at) go = Err at
@@ -175,10 +185,12 @@ after_codes files before (code ∷ codes) = and_then (after_code files before co
 
 -- ---- what is broken
 
+-- the offset with which an initialiser is none, where it is so
 abbrev pub wrong_in : Result Puts ℕ → Option ℕ
 wrong_in (Ok later) = None
 wrong_in (Err at) = Some at
 
+-- what is broken at the offset, nothing where there is none
 abbrev pub breaks_at : (ℕ → List Break) → Option ℕ → List Break
 breaks_at breaks None = []
 breaks_at breaks (Some at) = breaks at
@@ -203,10 +215,12 @@ abbrev pub takes_from : Option Contents → (desc : List ℕ) → Bool
 takes_from None desc = false
 takes_from (Some contents) desc = takes contents desc
 
+-- what a field holds after the put; nothing, where it is not all that is put
 abbrev pub held_from : Option Contents → Held
 held_from None = held.Nothing
 held_from (Some contents) = held_by contents
 
+-- the array of a field, where what is put is one
 abbrev pub array_from : MemberId → Option Contents → List ArrayCell
 array_from field None = []
 array_from field (Some contents) = array_in field contents

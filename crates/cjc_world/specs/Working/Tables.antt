@@ -40,6 +40,7 @@ row_in orders.Line a = a.line
 row_in orders.Interfaces a = a.interfaces
 row_in orders.Fields a = a.fields
 
+-- that list of a row, empty where the row is not there
 abbrev pub row_at : Order → Option (Option Above) → List ℕ
 row_at order None = []
 row_at order (Some None) = []
@@ -62,11 +63,13 @@ above_at w rows p c = record {
   fields = joined (joined (p ∷ []) (pieces w orders.Fields false rows c.interfaces)) (pieces w orders.Fields false rows c.supers);
 }
 
+-- the row is there
 abbrev pub is_row : Option (Option Above) → Bool
 is_row None = false
 is_row (Some None) = false
 is_row (Some (Some a)) = true
 
+-- there is no class, or its row is there
 abbrev pub is_ready_at : List (Option Above) → Option ℕ → Bool
 is_ready_at rows None = true
 is_ready_at rows (Some q) = is_row (slice_get rows q)
