@@ -25,6 +25,7 @@ abbrev pub entry_by_offset : (Found → ℕ) → Option Found → ℕ
 entry_by_offset offset None = 0xFFFF
 entry_by_offset offset (Some f) = offset f
 
+-- an entry of a public table by the offsets of methods; 0xFFFF where no implementation is given
 abbrev pub entry_offset : List (List ℕ) → Option Found → ℕ
 entry_offset offsets f = entry_by_offset (offset_in offsets) f
 
