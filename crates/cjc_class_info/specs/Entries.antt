@@ -61,10 +61,12 @@ module _ (ref : List ℕ → ClassRef) where
       interfaces = map (implemented ref) t.maps;
     }
 
+    -- the entry of a class with its table, if there is such a class
     abbrev pub entry_where : List Class → ClassTable → Option ClassTree → List ClassEntry
     entry_where w t None = []
     entry_where w t (Some c) = entry_by w t c ∷ []
 
+    -- the entry of the class that a table is of
     abbrev pub entries_of_table : Files → ClassTable → List ClassEntry
     entries_of_table files t = entry_where (all_classes files) t (slice_get files.classes t.class)
 

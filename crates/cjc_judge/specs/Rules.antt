@@ -115,6 +115,7 @@ BreaksNames list files b = (trees : List FileTree) × AreWorld list files trees 
 unfoldable pub foreign_break : Files → Foreign → List Break
 foreign_break files x = of_code files x.class x.method (λ f c m. broken_at (at_method f c x.method m x.offset) 303 ∷ [])
 
+-- of all methods that have such an instruction
 unfoldable pub foreign_breaks : Files → List Foreign → List Break
 foreign_breaks files xs = each (λ _ x. foreign_break files x) xs
 
