@@ -103,7 +103,7 @@ module _ (ks : List PoolKey) (token_of : MemberId → Option ℕ) where
   call_bytes nargs m = 0x8E ∷ nargs ∷ (low_bytes 2 (index_in ks (keys.Class m.class)) ++ known (token_of m) ∷ [])
 
   module _ (to : ℕ → ℕ) where
-    -- an instruction at this offset, a jump of it wide or not
+    -- the bytes of an instruction at this offset, where its jump is wide or not
     abbrev pub written : (at : ℕ) → (wide : Bool) → NInsn → List ℕ
     written at wide (insns.Op op) = op ∷ []
     written at wide (insns.Push op value) = with_one op (bits value)
