@@ -165,7 +165,7 @@ table_cases place low (t ∷ targets) = record { value = low; target = place t }
 
 -- ---- fields and calls
 
--- a constant is pushed; a static field of the package or an import is read, and widened where it has one word
+-- a constant is pushed; any other static field is read, and widened where it has one word
 abbrev pub static_get : Resolution → MemberId → Option ℤ → List NInsn
 static_get r f (Some z) = pushed z ∷ []
 static_get r f None = let sort = field_sort f.desc in Named (static_access false sort) (keys.StaticField (r.field f)) ∷ widened sort
