@@ -44,6 +44,7 @@ behind_slash part (c ∷ rest) = if c == 47 then behind_slash rest rest else beh
 abbrev pub last_part : List ℕ → List ℕ
 last_part name = behind_slash name name
 
+-- a file with this name and these bytes
 abbrev pub named : List ℕ → List ℕ → File
 named name bytes = record { name = name; bytes = bytes }
 
