@@ -57,30 +57,43 @@ pub(crate) const FILES: [(&[u8], &[u8]); 13] = [
 /// are none.
 pub(crate) type Change = (&'static [u8], usize, &'static [u8]);
 
+/// The file name of the list.
 pub(crate) const LIST: &[u8] = b"list";
 
+/// The file name of the export file of java/lang.
 pub(crate) const LANG: &[u8] = b"lang.exp";
 
+/// The file name of the component Header.
 pub(crate) const HEADER: &[u8] = b"out/Header.cap";
 
+/// The file name of the component Directory.
 pub(crate) const DIRECTORY: &[u8] = b"out/Directory.cap";
 
+/// The file name of the component Applet.
 pub(crate) const APPLET: &[u8] = b"out/Applet.cap";
 
+/// The file name of the component Import.
 pub(crate) const IMPORT: &[u8] = b"out/Import.cap";
 
+/// The file name of the component ConstantPool.
 pub(crate) const POOL: &[u8] = b"out/ConstantPool.cap";
 
+/// The file name of the component Class.
 pub(crate) const CLASS: &[u8] = b"out/Class.cap";
 
+/// The file name of the component Method.
 pub(crate) const METHOD: &[u8] = b"out/Method.cap";
 
+/// The file name of the component StaticField.
 pub(crate) const STATICS: &[u8] = b"out/StaticField.cap";
 
+/// The file name of the component ReferenceLocation.
 pub(crate) const LOCATIONS: &[u8] = b"out/RefLocation.cap";
 
+/// The file name of the component Export.
 pub(crate) const EXPORT: &[u8] = b"out/Export.cap";
 
+/// The file name of the component Descriptor.
 pub(crate) const DESCRIPTOR: &[u8] = b"out/Descriptor.cap";
 
 /// What gives the method a handler of its first instruction, with these bytes of the handler: the method stands at 9 then, and its
