@@ -3,8 +3,8 @@ use Rattle.std.proofs.Common.{◌≡◌, ℕ, List}
 use Rattle.cjc_list.specs.Listed.{ListTree}
 use Rattle.cjc_command.proofs.OneAnswer.{IsOneAnswer}
 use Rattle.cjc_bytes.specs.declared.fault.Refusal.{Refusal}
-use Rattle.cjc_conversion.specs.Conversion.{IsBuilt, IsRefused}
-use Rattle.cjc_conversion.specs.declared.conversion.Converted.{Converted}
+use Rattle.cjc_convert.specs.Conversion.{IsBuilt, IsRefused}
+use Rattle.cjc_convert.specs.declared.conversion.Converted.{Converted}
 use Rattle.cjc_checking.proofs.OneAnswer.{one_refusal as one_broken, never_both}
 use Rattle.cjc_checking.specs.Check.{Checks}
 use Rattle.cjc_folder.specs.declared.folder.Folder.{Folder}

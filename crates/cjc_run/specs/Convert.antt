@@ -3,8 +3,8 @@ use Rattle.std.specs.Prelude.{◌≡◌, ◌==◌, ℕ, List, [], ◌∷◌, ◌
 use Rattle.cjc_bytes.specs.declared.fault.Refusal.{Refusal}
 use Rattle.cjc_list.specs.Listed.{ListTree, listed}
 use Rattle.cjc_capwrite.specs.declared.files.CapFiles.{CapFiles}
-use Rattle.cjc_conversion.specs.declared.conversion.Converted.{Converted}
-use Rattle.cjc_conversion.specs.Conversion.{IsBuilt, IsRefused}
+use Rattle.cjc_convert.specs.declared.conversion.Converted.{Converted}
+use Rattle.cjc_convert.specs.Conversion.{IsBuilt, IsRefused}
 use Rattle.cjc_command.specs.Plan.{Plan, has, ◌>>=◌, read, read_each, unless_refused}
 use Rattle.cjc_command.specs.declared.status.File.{File}
 use Rattle.cjc_command.specs.declared.status.Todo.{Todo}
