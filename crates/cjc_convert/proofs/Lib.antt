@@ -1,4 +1,3 @@
 mod Shapes
 mod Told
-mod Answered
 mod OneAnswer

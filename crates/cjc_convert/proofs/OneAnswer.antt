@@ -25,8 +25,7 @@ use Rattle.cjc_whole.specs.Conversion.{BreaksWritten, IsDraft, IsRefused, of_for
 use Rattle.cjc_world.specs.Files.{Files}
 use Rattle.cjc_converting.proofs.Stops.{none_written}
 use Rattle.cjc_convert.proofs.Told.{sizes_told, written_told}
-use Rattle.cjc_convert.specs.Conversion.{IsBuilt, IsConverted, have_interfaces}
-use Rattle.cjc_convert.specs.Conversion.{IsRefused as IsRefusedAtAll}
+use Rattle.cjc_convert.specs.Conversion.{IsConverted}
 use Rattle.cjc_convert.specs.declared.conversion.Converted.{Converted}
 
 -- as many classes as class files
@@ -78,20 +77,3 @@ module _ (list : ListTree) (files : List (List ℕ)) where
       by : OnLevels (Breach list files tested) (BreaksWritten list files) (let b = is.broken in b) → ⊥
       by (on_first breach) = f.unbroken is.broken breach
       by (on_second none broken) = none_written list files f.judged f.sound f.whole f.is_package f.limits is.broken broken
-
-  -- ---- with what is not built yet
-
-  pub one_answer_refused : (r s : Refusal) → IsRefusedAtAll list files r → IsRefusedAtAll list files s → r ≡ s
-  one_answer_refused r s (inl f) (inl g) = one_refused r s f g
-  one_answer_refused r s (inl f) (inr g) = absurd (not_refused g.made r g.converted f)
-  one_answer_refused r s (inr f) (inl g) = absurd (not_refused f.made s f.converted g)
-  one_answer_refused r s (inr f) (inr g) = f.is ∙ sym g.is
-
-  pub never_both : (m : Converted) (r : Refusal) → IsBuilt list files m → IsRefusedAtAll list files r → ⊥
-  never_both m r built (inl f) = not_refused m r built.converted f
-  never_both m r built (inr g) =
-      let one = built.converted in
-      let other = g.converted in
-      let same = one_package list files one.judged one.sound one.whole other.whole one.is_package other.is_package in
-      let clash : false ≡ true = sym built.plain ∙ ap (λ (p : Package). have_interfaces (let world = p.files in world.exports)) same ∙ g.asked in
-      cc

@@ -1,10 +1,8 @@
 //! What is written for a package, or the first broken rule. The trees of the components are let go as soon as their files are
 //! made; what was read of the package's files stands until the end.
 
-ghost use Rattle.std.specs.Prelude.{◌≡◌, ◌⊎◌, ◌≤◌, ◌^◌, ℕ, [], List as Items, length, All, IfOk, IfErr, OnOk, true, false};
-ghost use Rattle.std.specs.List.{list_any};
+ghost use Rattle.std.specs.Prelude.{◌≡◌, ◌⊎◌, ◌≤◌, ◌^◌, ℕ, [], List as Items, length, All, IfOk, IfErr};
 ghost use Rattle.cjc_bytes.specs.Format.{FileSpells};
-ghost use Rattle.cjc_bytes.specs.Refused.{refusal};
 ghost use Rattle.cjc_bytes.specs.declared.fault.Fault.TheVariants as faults;
 ghost use Rattle.cjc_bytes.specs.declared.fault.Refusal.{Refusal as Broken};
 ghost use Rattle.cjc_capwrite.specs.Files.{files_of};
@@ -13,17 +11,17 @@ ghost use Rattle.cjc_components.specs.Components.{components_of};
 ghost use Rattle.cjc_components.specs.ExportFile.{export_of};
 ghost use Rattle.cjc_components.specs.Limits.{size_breaks};
 ghost use Rattle.cjc_components.specs.Package.{Package};
-ghost use Rattle.cjc_convert.specs.Conversion.{IsBuilt, IsConverted, IsRefused, have_interfaces, is_asked};
+ghost use Rattle.cjc_convert.specs.Conversion.{IsConverted};
 ghost use Rattle.cjc_export.specs.ExportFile.{export_file};
 ghost use Rattle.cjc_export.specs.Written.{written};
 ghost use Rattle.cjc_judge.specs.Spelt.{IsRead};
 ghost use Rattle.cjc_prepared.specs.Prepared.{IsSound};
+ghost use Rattle.cjc_whole.specs.Conversion.{IsRefused};
 ghost use Rattle.cjc_whole.specs.Working.Shaped.{IsShaped, Stopped};
 
-use cjc_bytes::{Bytes, Fault, Row, is_interface, refused};
+use cjc_bytes::{Bytes, Fault, Row};
 use cjc_capwrite::CapFiles;
 use cjc_converting::{judge_files, shaped_components};
-use cjc_export::{ExportClass, ExportTree};
 use cjc_judge::Judged;
 use cjc_list::List;
 use cjc_whole::{Shaped, shape};
@@ -89,53 +87,19 @@ fn judged_files(alloc: Global, list: &List, judged: &Judged<'_>) -> Result<Conve
     shaped_files(alloc, list, judged, &shaped)
 }
 
-/// Whether it is an interface with a method.
-fn is_asked(class: &ExportClass) -> bool
-    ensures { result ≡ is_asked class.now }
-{
-    is_interface(class.flags) && !class.methods.items().is_empty()
-}
-
-fn has_interface(tree: &ExportTree) -> bool
-    ensures { let t = tree.now in result ≡ list_any is_asked t.classes }
-{
-    tree.classes.items().iter().any(|class| is_asked(class))
-}
-
-fn have_interfaces(exports: &[ExportTree]) -> bool
-    ensures { result ≡ have_interfaces exports.now }
-{
-    exports.iter().any(|tree| has_interface(tree))
-}
-
-/// Answers 801 where an export file has an interface with a method.
-fn test_built(alloc: Global, list: &List, exports: &[ExportTree]) -> Result<(), Fault>
-    ensures plain { OnOk result (have_interfaces exports.now ≡ false) }
-    ensures refused { IfErr result (λ e. (e ≡ faults.NoMemory) ⊎ ((have_interfaces exports.now ≡ true) × (let l = list.now in e ≡ faults.Refused (refusal l.name 801 0)))) }
-{
-    if have_interfaces(exports) {
-        Err(refused(alloc, list.name.items(), 801, 0))
-    } else {
-        Ok(())
-    }
-}
-
 /// What is written for the package of a list, whose files these are in list order, each of 512 MiB at most.
 ///
 /// # Errors
 ///
 /// The first rule that the files break: 101 to 104, else one of 201 to 208, 301 to 310, 401 to 409 and 413, 501 to 503, 601 to
-/// 609; where they break none, 417; else 311, 414 or 415; else 411 or 416. Where no rule is broken, 801, "not built yet", for an
-/// export file that has an interface with a method.
+/// 609; where they break none, 417; else 311, 414 or 415; else 411 or 416.
 pub fn convert(alloc: Global, list: &List, files: &Row<Bytes>) -> Result<Converted, Fault>
     requires read { IsRead list.now }
     requires count { length files.now ≡ length list.now.lines }
     requires files { All (λ bytes. length bytes ≤ 2 ^ 29) files.now }
-    ensures built { IfOk result (IsBuilt list.now files.now) }
+    ensures converted { IfOk result (IsConverted list.now files.now) }
     ensures refused { IfErr result (λ e. (e ≡ faults.NoMemory) ⊎ ((r : Broken) × IsRefused list.now files.now r × (e ≡ faults.Refused r))) }
 {
     let judged = judge_files(alloc, list, files)?;
-    let made = judged_files(alloc, list, &judged)?;
-    test_built(alloc, list, judged.world.exports().items())?;
-    Ok(made)
+    judged_files(alloc, list, &judged)
 }
