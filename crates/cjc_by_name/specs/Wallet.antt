@@ -24,15 +24,19 @@ use Rattle.cjc_by_name.specs.Worked.{id, method, virtual, class, field, object, 
 abbrev pub applet : List ℕ
 applet = codes "javacard/framework/Applet"
 
+-- the class of the command that process is given
 abbrev pub apdu : List ℕ
 apdu = codes "javacard/framework/APDU"
 
+-- the class of exceptions with a status word
 abbrev pub iso_exception : List ℕ
 iso_exception = codes "javacard/framework/ISOException"
 
+-- the applet's class
 abbrev pub wallet : List ℕ
 wallet = codes "p/Wallet"
 
+-- the descriptor of a method that takes an APDU and gives nothing
 abbrev pub of_apdu : List ℕ
 of_apdu = codes "(Ljavacard/framework/APDU;)V"
 

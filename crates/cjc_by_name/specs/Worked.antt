@@ -194,6 +194,7 @@ class_f = class 0x0021 (codes "p/F") (codes "lib/K") [] [] [] (virtual (codes "j
 abbrev pub class_d : ClassTree
 class_d = class 0x0421 (codes "p/D") object (codes "p/I" ∷ []) [] [] []
 
+-- p/E, the class that extends p/D
 abbrev pub class_e : ClassTree
 class_e = class 0x0021 (codes "p/E") (codes "p/D") [] [] [] (virtual (codes "i") (codes "()S") 1 1 (0x06 ∷ 0xAC ∷ []) ∷ [])
 
@@ -405,6 +406,7 @@ library_tree = record {
 abbrev pub library_package : Files
 library_package = record { package_name = codes "lib"; lines = record { class_file = false; name = [] } ∷ record { class_file = true; name = [] } ∷ []; classes = library_class ∷ []; exports = lang ∷ [] }
 
+-- package app, which imports java/lang and lib
 abbrev pub app_package : Files
 app_package = record {
   package_name = codes "app";

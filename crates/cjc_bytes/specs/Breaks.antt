@@ -56,6 +56,7 @@ unfoldable pub each_from : {A : Type 0} → (ℕ → A → List Break) → ℕ �
 each_from breaks i [] = []
 each_from breaks i (x ∷ xs) = breaks i x ++ each_from breaks (i + 1) xs
 
+-- the breaks of each item of a list in order, where items are numbered from 0
 abbrev pub each : {A : Type 0} → (ℕ → A → List Break) → List A → List Break
 each breaks xs = each_from breaks 0 xs
 

@@ -50,6 +50,7 @@ pub record Rank : Type 0 where
   pub offset : ℕ
   pub rule : ℕ
 
+-- the numbers by which two broken rules are compared, the weightiest first
 abbrev pub numbers : Rank → List ℕ
 numbers r = r.family ∷ r.file ∷ r.class ∷ r.member ∷ r.offset ∷ r.rule ∷ []
 

@@ -33,6 +33,7 @@ after (spots.Name is_param) b =
     else None
 after spots.End b = None
 
+-- how many bytes stand from a byte on before the first bad one, if there is one: none where the byte itself is bad
 abbrev pub one_more : Option Spot → (Spot → Option ℕ) → Option ℕ
 one_more None bad = Some 0
 one_more (Some spot) bad = option_map suc (bad spot)
@@ -57,6 +58,7 @@ role_of false b =
     else if b == 41 then roles.Between
     else roles.Last
 
+-- the types from a byte on, by its role: it begins or goes on with a type, ends it, or stands between types
 abbrev pub cut_by : Role → List ℕ → (List ℕ → Bool → List (List ℕ)) → List (List ℕ)
 cut_by roles.Between begun behind = behind [] false
 cut_by (roles.Inside in_name) begun behind = behind begun in_name
@@ -85,6 +87,7 @@ gathered is_method [] = record { is_method = is_method; params = []; result = pl
 gathered is_method (p ∷ []) = record { is_method = is_method; params = []; result = p }
 gathered is_method (p ∷ q ∷ ps) = let d = gathered is_method (q ∷ ps) in record { is_method = is_method; params = p ∷ d.params; result = d.result }
 
+-- whether the first byte is `(` (40), as in a descriptor of a method and of no field
 abbrev pub begins_method : List ℕ → Bool
 begins_method [] = false
 begins_method (b ∷ bs) = b == 40
@@ -93,6 +96,7 @@ begins_method (b ∷ bs) = b == 40
 unfoldable pub parts_of : List ℕ → Parts
 parts_of bytes = gathered (begins_method bytes) (map part_of (types bytes))
 
+-- the parts, where no bad byte was found
 abbrev pub where_none : Option ℕ → Parts → Option Parts
 where_none None d = Some d
 where_none (Some at) d = None

@@ -39,6 +39,7 @@ kept_lines bytes = kept 0 bytes
 abbrev pub is_spaced : List ℕ → Bool
 is_spaced line = (slice_index line 0 == 32) || (slice_index line (length line - 1) == 32)
 
+-- one byte or more
 abbrev pub is_filled : List ℕ → Bool
 is_filled [] = false
 is_filled (b ∷ bs) = true

@@ -34,6 +34,8 @@ pub record IsConcrete (c : Class) : Type 0 where
   pub no_interface : is_interface c.flags ≡ false
   pub no_abstract : is_abstract c.flags ≡ false
 
+-- names find the classes of their numbers, methods that are not abstract have code, fields of interfaces are static,
+-- and a class of which objects may be has code for all that its supers ask for
 pub record IsSolid (files : Files) : Type 0 where
   pub ordered : IsOrdered (all_classes files)
   -- a class that is found by its name is the one of its number, of the package one of the class files, and no array

@@ -37,9 +37,11 @@ abbrev pub widths : List Operand → ℕ
 widths [] = 0
 widths (x ∷ xs) = width x + widths xs
 
+-- the form of an opcode that only these operands follow
 abbrev pub operands : List Operand → Option Form
 operands xs = Some (Fields xs)
 
+-- the form of an opcode that nothing follows
 abbrev pub bare : Option Form
 bare = operands []
 

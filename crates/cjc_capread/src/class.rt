@@ -160,6 +160,7 @@ fn read_entries(alloc: Global, end: u32, cursor: &mut Cursor<'_>) -> Result<Clas
     Ok(so_far)
 }
 
+/// The content of a Class component, its interfaces and classes up to where it ends.
 #[tactic(auto, unfolding(crate::specs::Class::class_info))]
 pub(crate) fn read_class_info(
     alloc: Global,

@@ -221,6 +221,7 @@ fn read_types(alloc: Global, end: u32, cursor: &mut Cursor<'_>) -> Result<Row<Ty
     Ok(types)
 }
 
+/// The content of a Descriptor component, its type descriptors up to where it ends.
 #[tactic(auto, unfolding(crate::specs::Descriptor::descriptor, cjc_bytes::specs::Format::u1, cjc_bytes::specs::Format::u2))]
 pub(crate) fn read_descriptor(
     alloc: Global,

@@ -41,6 +41,7 @@ fn read_exported_classes(
     Ok(classes)
 }
 
+/// The content of an Export component: the classes it exports.
 #[tactic(auto, unfolding(crate::specs::Export::export, cjc_bytes::specs::Format::u1))]
 pub(crate) fn read_export(alloc: Global, cursor: &mut Cursor<'_>) -> Result<Export, Stop>
     ensures { Reads (λ x. x) export cursor.old cursor.new result }

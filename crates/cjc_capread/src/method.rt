@@ -38,6 +38,7 @@ fn read_handlers(alloc: Global, count: u8, cursor: &mut Cursor<'_>) -> Result<Ro
     Ok(handlers)
 }
 
+/// The content of a Method component: its exception handlers, and the bytes of its methods up to where it ends.
 #[tactic(auto, unfolding(crate::specs::Method::method, cjc_bytes::specs::Format::u1))]
 pub(crate) fn read_method(alloc: Global, end: u32, cursor: &mut Cursor<'_>) -> Result<Method, Stop>
     ensures { Reads (λ x. x) (method end) cursor.old cursor.new result }

@@ -13,6 +13,7 @@ use crate::tree::{Applet, AppletEntry, Directory, Header, Import, ImportedPackag
 use cjc_bytes::{Cursor, Row, Stop};
 use std::alloc::Global;
 
+/// The content of a Header component of version 2.2: the flags, and the package with its version, AID and name.
 #[tactic(auto, unfolding(crate::specs::Header::header, cjc_bytes::specs::Format::u1))]
 pub(crate) fn read_header(alloc: Global, cursor: &mut Cursor<'_>) -> Result<Header, Stop>
     ensures { Reads (λ x. x) header cursor.old cursor.new result }
@@ -43,6 +44,7 @@ pub(crate) fn read_header(alloc: Global, cursor: &mut Cursor<'_>) -> Result<Head
     })
 }
 
+/// The content of a Directory component that counts no custom components.
 #[tactic(auto, unfolding(crate::specs::Directory::directory, cjc_bytes::specs::Format::u1, cjc_bytes::specs::Format::u2))]
 pub(crate) fn read_directory(alloc: Global, cursor: &mut Cursor<'_>) -> Result<Directory, Stop>
     ensures { Reads (λ x. x) directory cursor.old cursor.new result }
@@ -90,6 +92,7 @@ fn read_applets(alloc: Global, count: u8, cursor: &mut Cursor<'_>) -> Result<Row
     Ok(applets)
 }
 
+/// The content of an Applet component: the applets of the package.
 #[tactic(auto, unfolding(crate::specs::Applet::applet, cjc_bytes::specs::Format::u1))]
 pub(crate) fn read_applet(alloc: Global, cursor: &mut Cursor<'_>) -> Result<Applet, Stop>
     ensures { Reads (λ x. x) applet cursor.old cursor.new result }
@@ -124,6 +127,7 @@ fn read_packages(
     Ok(packages)
 }
 
+/// The content of an Import component: the packages it imports.
 #[tactic(auto, unfolding(crate::specs::Import::import, cjc_bytes::specs::Format::u1))]
 pub(crate) fn read_import(alloc: Global, cursor: &mut Cursor<'_>) -> Result<Import, Stop>
     ensures { Reads (λ x. x) import cursor.old cursor.new result }

@@ -86,6 +86,7 @@ fn class_of(n: u16) -> ClassRef
     }
 }
 
+/// A reference to a class, of this package or of an imported one.
 #[tactic(auto, unfolding(crate::specs::Parts::class_ref))]
 pub(crate) fn read_class_ref(cursor: &mut Cursor<'_>) -> Result<ClassRef, Stop>
     ensures { Reads (λ x. x) class_ref cursor.old cursor.new result }
@@ -143,6 +144,7 @@ fn read_static_rest(imported: Option<u8>, cursor: &mut Cursor<'_>) -> Result<Sta
     }
 }
 
+/// A reference to a static field or a method, of this package or of an imported one.
 #[tactic(auto, unfolding(crate::specs::Parts::static_ref))]
 pub(crate) fn read_static_ref(cursor: &mut Cursor<'_>) -> Result<StaticRef, Stop>
     ensures { Reads (λ x. x) static_ref cursor.old cursor.new result }

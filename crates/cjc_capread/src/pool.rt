@@ -90,6 +90,7 @@ fn read_entries(alloc: Global, count: u16, cursor: &mut Cursor<'_>) -> Result<Ro
     Ok(entries)
 }
 
+/// The content of a Constant Pool component: its entries.
 #[tactic(auto, unfolding(crate::specs::Pool::constant_pool, cjc_bytes::specs::Format::u2))]
 pub(crate) fn read_constant_pool(
     alloc: Global,

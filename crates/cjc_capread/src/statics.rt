@@ -39,6 +39,7 @@ fn read_array_inits(
     Ok(array_inits)
 }
 
+/// The content of a Static Field component: the sizes of the image and the values it starts with.
 #[tactic(auto, unfolding(crate::specs::StaticField::static_field, cjc_bytes::specs::Format::u2))]
 pub(crate) fn read_static_field(alloc: Global, cursor: &mut Cursor<'_>) -> Result<StaticField, Stop>
     ensures { Reads (λ x. x) static_field cursor.old cursor.new result }
@@ -58,6 +59,7 @@ pub(crate) fn read_static_field(alloc: Global, cursor: &mut Cursor<'_>) -> Resul
     })
 }
 
+/// The content of a Reference Location component: where one-byte and two-byte indices of the pool lie in the methods.
 #[tactic(auto, unfolding(crate::specs::ReferenceLocation::reference_location))]
 pub(crate) fn read_reference_location(
     alloc: Global,

@@ -33,6 +33,7 @@ pub record Infos : Type 0 where
   pub export : List ℕ
   pub descriptor : List ℕ
 
+-- the content of each component of a CAP file; an optional component that is absent has none
 abbrev pub infos_of : CapTree → Infos
 infos_of t = record {
   header = header_bytes t.header;

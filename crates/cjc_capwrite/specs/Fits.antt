@@ -40,21 +40,26 @@ use Rattle.cjc_bytes.specs.AccessFlags.{is_static}
 abbrev pub Fits1 : ℕ → Type 0
 Fits1 n = n < 2 ^ 8
 
+-- in two bytes
 abbrev pub Fits2 : ℕ → Type 0
 Fits2 n = n < 2 ^ 16
 
+-- an offset or a package token leaves the high bit free, which tells one from the other
 abbrev pub ClassFits : ClassRef → Type 0
 ClassFits (class_refs.Inside offset) = offset < 0x8000
 ClassFits (class_refs.Outside imported class) = (imported < 0x80) × (class < 2 ^ 8)
 
+-- an offset in two bytes, or a package token that leaves the high bit free
 abbrev pub StaticFits : StaticRef → Type 0
 StaticFits (static_refs.Inside offset) = Fits2 offset
 StaticFits (static_refs.Outside imported class token) = imported < 0x80
 
+-- an AID and a name of the package whose lengths fit one byte
 pub record HeaderFits (x : Header) : Type 0 where
   pub aid : Fits1 (length x.aid)
   pub name : Fits1 (length x.name)
 
+-- the sizes of twelve components and those of the static field image, each in two bytes
 pub record DirectoryFits (x : Directory) : Type 0 where
   pub twelve : length x.component_sizes ≡ 12
   pub component_sizes : AllByRecursion Fits2 x.component_sizes
@@ -62,21 +67,26 @@ pub record DirectoryFits (x : Directory) : Type 0 where
   pub array_init_count : Fits2 x.array_init_count
   pub array_init_size : Fits2 x.array_init_size
 
+-- an AID whose length fits one byte, and the offset of the install method in two bytes
 pub record AppletEntryFits (x : AppletEntry) : Type 0 where
   pub aid : Fits1 (length x.aid)
   pub install_method : Fits2 x.install_method
 
+-- no more applets than one byte counts
 pub record AppletFits (x : Applet) : Type 0 where
   pub count : Fits1 (length x.applets)
   pub applets : AllByRecursion AppletEntryFits x.applets
 
+-- an AID whose length fits one byte
 pub record ImportedPackageFits (x : ImportedPackage) : Type 0 where
   pub aid : Fits1 (length x.aid)
 
+-- no more imported packages than one byte counts
 pub record ImportFits (x : Import) : Type 0 where
   pub count : Fits1 (length x.packages)
   pub packages : AllByRecursion ImportedPackageFits x.packages
 
+-- the class or the static member that the entry refers to fits
 abbrev pub PoolEntryFits : PoolEntry → Type 0
 PoolEntryFits (entries.Classref class) = ClassFits class
 PoolEntryFits (entries.InstanceFieldref class token) = ClassFits class
@@ -85,6 +95,7 @@ PoolEntryFits (entries.SuperMethodref class token) = ClassFits class
 PoolEntryFits (entries.StaticFieldref member) = StaticFits member
 PoolEntryFits (entries.StaticMethodref member) = StaticFits member
 
+-- no more entries than two bytes count
 pub record PoolFits (x : ConstantPool) : Type 0 where
   pub count : Fits2 (length x.entries)
   pub entries : AllByRecursion PoolEntryFits x.entries
@@ -96,10 +107,12 @@ pub record InterfaceFits (x : InterfaceEntry) : Type 0 where
   pub count : length x.superinterfaces < 16
   pub superinterfaces : AllByRecursion ClassFits x.superinterfaces
 
+-- no more method tokens than one byte counts
 pub record ImplementedFits (x : ImplementedInterface) : Type 0 where
   pub interface : ClassFits x.interface
   pub index : Fits1 (length x.index)
 
+-- three bits of flags, tables of no more methods than one byte counts, and no more interfaces than four bits count
 pub record ClassEntryFits (x : ClassEntry) : Type 0 where
   pub flags : x.flags < 8
   pub superclass : ClassFits x.superclass
@@ -110,16 +123,19 @@ pub record ClassEntryFits (x : ClassEntry) : Type 0 where
   pub count : length x.interfaces < 16
   pub interfaces : AllByRecursion ImplementedFits x.interfaces
 
+-- all interfaces and all classes fit
 pub record ClassInfoFits (x : ClassInfo) : Type 0 where
   pub interfaces : AllByRecursion InterfaceFits x.interfaces
   pub classes : AllByRecursion ClassEntryFits x.classes
 
+-- offsets and the catch type in two bytes, and a range whose length leaves a bit for the stop flag
 pub record HandlerFits (x : Handler) : Type 0 where
   pub start : Fits2 x.start
   pub length : x.length < 0x8000
   pub handler : Fits2 x.handler
   pub catch_index : Fits2 x.catch_index
 
+-- no more exception handlers than one byte counts
 pub record MethodFits (x : Method) : Type 0 where
   pub count : Fits1 (length x.handlers)
   pub handlers : AllByRecursion HandlerFits x.handlers
@@ -130,6 +146,7 @@ pub record ArrayInitFits (x : ArrayInit) : Type 0 where
   pub greatest : x.type_ ≤ 5
   pub values : Fits2 (length x.values)
 
+-- sizes and counts in two bytes
 pub record StaticFieldFits (x : StaticField) : Type 0 where
   pub image_size : Fits2 x.image_size
   pub reference_count : Fits2 x.reference_count
@@ -138,10 +155,12 @@ pub record StaticFieldFits (x : StaticField) : Type 0 where
   pub default_value_count : Fits2 x.default_value_count
   pub values : Fits2 (length x.values)
 
+-- no more locations of each kind than two bytes count
 pub record LocationsFit (x : ReferenceLocation) : Type 0 where
   pub one_byte : Fits2 (length x.one_byte)
   pub two_byte : Fits2 (length x.two_byte)
 
+-- offsets in two bytes, and no more static fields and methods than one byte counts
 pub record ExportedClassFits (x : ExportedClass) : Type 0 where
   pub class_offset : Fits2 x.class_offset
   pub field_count : Fits1 (length x.fields)
@@ -149,6 +168,7 @@ pub record ExportedClassFits (x : ExportedClass) : Type 0 where
   pub fields : AllByRecursion Fits2 x.fields
   pub methods : AllByRecursion Fits2 x.methods
 
+-- no more exported classes than one byte counts
 pub record ExportFits (x : Export) : Type 0 where
   pub count : Fits1 (length x.classes)
   pub classes : AllByRecursion ExportedClassFits x.classes
@@ -158,14 +178,17 @@ abbrev pub PlaceFits : ℕ → FieldPlace → Type 0
 PlaceFits flags (places.Static offset) = (is_static flags ≡ true) × Fits2 offset
 PlaceFits flags (places.Instance class token) = (is_static flags ≡ false) × ClassFits class
 
+-- the offset of a type descriptor leaves the high bit free, which marks a primitive type
 abbrev pub TypeFits : FieldType → Type 0
 TypeFits (types.Described offset) = offset < 0x8000
 TypeFits type = Unit {0}
 
+-- the place and the type of the field fit
 pub record FieldFits (x : FieldDescriptor) : Type 0 where
   pub place : PlaceFits x.flags x.place
   pub type : TypeFits x.type_
 
+-- offsets and counts in two bytes
 pub record MethodDescriptorFits (x : MethodDescriptor) : Type 0 where
   pub offset : Fits2 x.offset
   pub type_offset : Fits2 x.type_offset
@@ -173,6 +196,7 @@ pub record MethodDescriptorFits (x : MethodDescriptor) : Type 0 where
   pub handler_count : Fits2 x.handler_count
   pub first_handler : Fits2 x.first_handler
 
+-- no more interfaces than one byte counts, and no more fields and methods than two bytes count
 pub record ClassDescriptorFits (x : ClassDescriptor) : Type 0 where
   pub this_class : ClassFits x.this_class
   pub interface_count : Fits1 (length x.interfaces)
@@ -182,10 +206,12 @@ pub record ClassDescriptorFits (x : ClassDescriptor) : Type 0 where
   pub fields : AllByRecursion FieldFits x.fields
   pub methods : AllByRecursion MethodDescriptorFits x.methods
 
+-- no more nibbles than one byte counts, each of four bits
 pub record TypeDescriptorFits (x : TypeDescriptor) : Type 0 where
   pub count : Fits1 (length x.nibbles)
   pub nibbles : AllByRecursion (λ n. n < 16) x.nibbles
 
+-- no more classes than one byte counts, and no more types of constant pool entries than two bytes count
 pub record DescriptorFits (x : Descriptor) : Type 0 where
   pub count : Fits1 (length x.classes)
   pub classes : AllByRecursion ClassDescriptorFits x.classes

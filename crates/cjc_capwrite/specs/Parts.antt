@@ -10,6 +10,7 @@ use Rattle.cjc_capread.specs.declared.tree.StaticRef.TheVariants as static_refs
 abbrev pub one : ℕ → List ℕ
 one n = n % 2 ^ 8 ∷ []
 
+-- the low two bytes of a number, the high one first
 abbrev pub two : ℕ → List ℕ
 two n = to_be_bytes w16 (n % 2 ^ 16)
 
@@ -17,6 +18,7 @@ two n = to_be_bytes w16 (n % 2 ^ 16)
 abbrev pub bytes1 : List ℕ → List ℕ
 bytes1 bytes = one (length bytes) ++ bytes
 
+-- bytes behind their number in two bytes
 abbrev pub bytes2 : List ℕ → List ℕ
 bytes2 bytes = two (length bytes) ++ bytes
 

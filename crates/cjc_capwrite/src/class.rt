@@ -85,6 +85,7 @@ fn put_classes(out: &mut Out, classes: &[ClassEntry]) -> Result<(), NoMemory>
     Ok(())
 }
 
+/// The content of a Class component: its interfaces, then its classes.
 #[tactic(auto, unfolding(crate::specs::Class::class_info_bytes))]
 pub(crate) fn put_class_info(out: &mut Out, info: &ClassInfo) -> Result<(), NoMemory>
     ensures { OnOk result (out.new ≡ out.old ++ class_info_bytes info.now) }

@@ -168,6 +168,7 @@ pub(crate) fn put_types_part(out: &mut Out, descriptor: &Descriptor) -> Result<(
     put_types(out, descriptor.types.items())
 }
 
+/// The content of a Descriptor component: its classes, then the types of the constant pool and the type descriptors.
 #[tactic(auto, unfolding(crate::specs::Descriptor::descriptor_bytes))]
 pub(crate) fn put_descriptor(out: &mut Out, descriptor: &Descriptor) -> Result<(), NoMemory>
     ensures { OnOk result (out.new ≡ out.old ++ descriptor_bytes descriptor.now) }

@@ -28,6 +28,7 @@ fn put_exported_classes(out: &mut Out, classes: &[ExportedClass]) -> Result<(), 
     Ok(())
 }
 
+/// The content of an Export component: the classes it exports.
 #[tactic(auto, unfolding(crate::specs::Export::export_bytes))]
 pub(crate) fn put_export(out: &mut Out, export: &Export) -> Result<(), NoMemory>
     ensures { OnOk result (out.new ≡ out.old ++ export_bytes export.now) }

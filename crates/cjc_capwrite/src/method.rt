@@ -35,6 +35,7 @@ fn put_handlers(out: &mut Out, handlers: &[Handler]) -> Result<(), NoMemory>
     Ok(())
 }
 
+/// The content of a Method component: its exception handlers, then the bytes of its methods.
 #[tactic(auto, unfolding(crate::specs::Method::method_bytes))]
 pub(crate) fn put_method(out: &mut Out, method: &Method) -> Result<(), NoMemory>
     ensures { OnOk result (out.new ≡ out.old ++ method_bytes method.now) }

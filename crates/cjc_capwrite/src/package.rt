@@ -9,6 +9,7 @@ use crate::parts::{put_bytes1, put_count1, put_numbers, put_two};
 use cjc_bytes::{NoMemory, Out};
 use cjc_capread::{Applet, AppletEntry, Directory, Header, Import, ImportedPackage};
 
+/// The content of a Header component of version 2.2.
 #[tactic(auto, unfolding(crate::specs::Package::header_bytes))]
 pub(crate) fn put_header(out: &mut Out, header: &Header) -> Result<(), NoMemory>
     ensures { OnOk result (out.new ≡ out.old ++ header_bytes header.now) }
@@ -23,6 +24,7 @@ pub(crate) fn put_header(out: &mut Out, header: &Header) -> Result<(), NoMemory>
     put_bytes1(out, header.name.items())
 }
 
+/// The content of a Directory component that counts no custom components.
 #[tactic(auto, unfolding(crate::specs::Package::directory_bytes))]
 pub(crate) fn put_directory(out: &mut Out, directory: &Directory) -> Result<(), NoMemory>
     ensures { OnOk result (out.new ≡ out.old ++ directory_bytes directory.now) }
@@ -53,6 +55,7 @@ fn put_applets(out: &mut Out, applets: &[AppletEntry]) -> Result<(), NoMemory>
     Ok(())
 }
 
+/// The content of an Applet component: the applets of the package.
 #[tactic(auto, unfolding(crate::specs::Package::applet_bytes))]
 pub(crate) fn put_applet(out: &mut Out, applet: &Applet) -> Result<(), NoMemory>
     ensures { OnOk result (out.new ≡ out.old ++ applet_bytes applet.now) }
@@ -79,6 +82,7 @@ fn put_packages(out: &mut Out, packages: &[ImportedPackage]) -> Result<(), NoMem
     Ok(())
 }
 
+/// The content of an Import component: the packages it imports.
 #[tactic(auto, unfolding(crate::specs::Package::import_bytes))]
 pub(crate) fn put_import(out: &mut Out, import: &Import) -> Result<(), NoMemory>
     ensures { OnOk result (out.new ≡ out.old ++ import_bytes import.now) }

@@ -44,6 +44,7 @@ pub(crate) fn put_count2<T>(out: &mut Out, items: &[T]) -> Result<(), NoMemory>
     put_two(out, items.len() as u64)
 }
 
+/// Bytes behind their number in one byte.
 pub(crate) fn put_bytes1(out: &mut Out, bytes: &[u8]) -> Result<(), NoMemory>
     ensures { OnOk result (out.new ≡ out.old ++ bytes1 bytes.now) }
 {
@@ -51,6 +52,7 @@ pub(crate) fn put_bytes1(out: &mut Out, bytes: &[u8]) -> Result<(), NoMemory>
     out.put_slice(bytes)
 }
 
+/// Bytes behind their number in two bytes.
 pub(crate) fn put_bytes2(out: &mut Out, bytes: &[u8]) -> Result<(), NoMemory>
     ensures { OnOk result (out.new ≡ out.old ++ bytes2 bytes.now) }
 {
@@ -58,6 +60,7 @@ pub(crate) fn put_bytes2(out: &mut Out, bytes: &[u8]) -> Result<(), NoMemory>
     out.put_slice(bytes)
 }
 
+/// The low two bytes of each number.
 pub(crate) fn put_numbers(out: &mut Out, numbers: &[u64]) -> Result<(), NoMemory>
     ensures { OnOk result (out.new ≡ out.old ++ flat_map two numbers.now) }
 {
@@ -67,6 +70,7 @@ pub(crate) fn put_numbers(out: &mut Out, numbers: &[u64]) -> Result<(), NoMemory
     Ok(())
 }
 
+/// A reference to a class, of this package or of an imported one.
 pub(crate) fn put_class_ref(out: &mut Out, class: ClassRef) -> Result<(), NoMemory>
     ensures { OnOk result (out.new ≡ out.old ++ class_bytes class) }
 {
@@ -79,6 +83,7 @@ pub(crate) fn put_class_ref(out: &mut Out, class: ClassRef) -> Result<(), NoMemo
     }
 }
 
+/// References to classes, one behind another.
 pub(crate) fn put_class_refs(out: &mut Out, classes: &[ClassRef]) -> Result<(), NoMemory>
     ensures { OnOk result (out.new ≡ out.old ++ flat_map class_bytes classes.now) }
 {
@@ -88,6 +93,7 @@ pub(crate) fn put_class_refs(out: &mut Out, classes: &[ClassRef]) -> Result<(), 
     Ok(())
 }
 
+/// A reference to a static field or a method, of this package or of an imported one.
 pub(crate) fn put_static_ref(out: &mut Out, member: StaticRef) -> Result<(), NoMemory>
     ensures { OnOk result (out.new ≡ out.old ++ static_bytes member) }
 {

@@ -53,6 +53,7 @@ fn put_entries(out: &mut Out, entries: &[PoolEntry]) -> Result<(), NoMemory>
     Ok(())
 }
 
+/// The content of a Constant Pool component: its entries behind their number.
 #[tactic(auto, unfolding(crate::specs::Pool::pool_bytes))]
 pub(crate) fn put_pool(out: &mut Out, pool: &ConstantPool) -> Result<(), NoMemory>
     ensures { OnOk result (out.new ≡ out.old ++ pool_bytes pool.now) }

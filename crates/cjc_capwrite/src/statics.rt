@@ -25,6 +25,7 @@ fn put_array_inits(out: &mut Out, arrays: &[ArrayInit]) -> Result<(), NoMemory>
     Ok(())
 }
 
+/// The content of a Static Field component: the sizes of the image and the values it starts with.
 #[tactic(auto, unfolding(crate::specs::Statics::static_field_bytes))]
 pub(crate) fn put_static_field(out: &mut Out, image: &StaticField) -> Result<(), NoMemory>
     ensures { OnOk result (out.new ≡ out.old ++ static_field_bytes image.now) }
@@ -37,6 +38,7 @@ pub(crate) fn put_static_field(out: &mut Out, image: &StaticField) -> Result<(),
     put_bytes2(out, image.values.items())
 }
 
+/// The content of a Reference Location component: where one-byte and two-byte indices of the pool lie.
 #[tactic(auto, unfolding(crate::specs::Statics::reference_location_bytes))]
 pub(crate) fn put_reference_location(
     out: &mut Out,

@@ -21,9 +21,11 @@ use Rattle.cjc_script.specs.declared.value.Value.TheVariants.{Num}
 abbrev pub EffectByToken : Type 0
 EffectByToken = Effect Class Field Callee (List Image)
 
+-- the heap and the static field images of the machine by token
 abbrev pub MemoryByToken : Type 0
 MemoryByToken = Memory Class Field (List Image)
 
+-- the arrays and objects of the machine by token, by their numbers
 abbrev pub Heap : Type 0
 Heap = List (HeapObject Class Field)
 

@@ -12,10 +12,12 @@ abbrev pub numbers_of : Option (HeapObject Class Field) → List ℤ
 numbers_of (Some (Numbers element items)) = items
 numbers_of thing = []
 
+-- the elements of an array of references; none of anything else
 abbrev pub references_of : Option (HeapObject Class Field) → List Value
 references_of (Some (References class items)) = items
 references_of thing = []
 
+-- the fields of an object with their values; none of anything else
 abbrev pub slots_of : Option (HeapObject Class Field) → List (Slot Field)
 slots_of (Some (Object class slots)) = slots
 slots_of thing = []

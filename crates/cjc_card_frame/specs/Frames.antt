@@ -63,6 +63,7 @@ numbers_at n stack = pair_of (number_at (n + 1) stack) (number_at n stack)
 abbrev pub int_by : ℤ × ℤ → ℤ
 int_by p = spelt_by p.0 p.1
 
+-- the number of 32 bits that two words from a depth on spell
 abbrev pub int_at : (depth : ℕ) → List Value → Option ℤ
 int_at n stack = option_map int_by (numbers_at n stack)
 

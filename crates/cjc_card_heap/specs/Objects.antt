@@ -22,24 +22,29 @@ use Rattle.cjc_card_heap.specs.declared.object.Parts.TheVariants as parts
 
 -- ---- what data stands for
 
+-- a class of a loaded part by its offset, or one of an export file by its token
 abbrev pub class_of : ClassData → Class
 class_of (classes.Own part offset) = Classes.Own part offset
 class_of (classes.Foreign tree token) = Classes.Foreign tree token
 
+-- an instance field by its class and token
 abbrev pub field_of : FieldData → Field
 field_of f = record { class = class_of f.class; token = f.token }
 
+-- the kind of numbers that an array has: booleans, bytes, shorts or ints
 abbrev pub element_of : ElementData → Element
 element_of elements.Booleans = Sorts.Booleans
 element_of elements.Bytes = Sorts.Bytes
 element_of elements.Shorts = Sorts.Shorts
 element_of elements.Ints = Sorts.Ints
 
+-- the type of an object, of an array of numbers, or of an array of references
 abbrev pub shape_of : ShapeData → Sorts.Shape Class
 shape_of (shapes.OfClass class) = Sorts.OfClass (class_of class)
 shape_of (shapes.OfNumbers element) = Sorts.OfNumbers (element_of element)
 shape_of (shapes.OfReferences class) = Sorts.OfReferences (class_of class)
 
+-- a field of an object with its value
 abbrev pub slot_by : SlotData → Slot Field
 slot_by s = record { key = field_of s.field; value = s.value }
 
@@ -47,11 +52,13 @@ slot_by s = record { key = field_of s.field; value = s.value }
 abbrev pub ObjectByToken : Type 0
 ObjectByToken = HeapObject Class Field
 
+-- the array or object that a body stands for
 abbrev pub object_of : Body → ObjectByToken
 object_of (bodies.Numbers element items) = Effects.Numbers (element_of element) items.items
 object_of (bodies.References class items) = Effects.References (class_of class) items.items
 object_of (bodies.Object class slots) = Effects.Object (class_of class) (map slot_by slots.items)
 
+-- the array or object that these parts, which code holds, stand for
 abbrev pub object_by : Parts → ObjectByToken
 object_by (parts.Numbers element items) = Effects.Numbers (element_of element) items.now
 object_by (parts.References class items) = Effects.References (class_of class) items.now
@@ -83,8 +90,10 @@ with_slot object f v = object
 abbrev pub number_put : List ObjectByToken → (array place : ℕ) → ℤ → List ObjectByToken
 number_put heap k place z = with_some heap (slice_get heap k) (λ o. slice_set heap k (with_number o place z))
 
+-- with another reference at a place of an array
 abbrev pub reference_put : List ObjectByToken → (array place : ℕ) → Value → List ObjectByToken
 reference_put heap k place v = with_some heap (slice_get heap k) (λ o. slice_set heap k (with_reference o place v))
 
+-- with another value under a field of an object
 abbrev pub slot_put : List ObjectByToken → (object : ℕ) → Field → Value → List ObjectByToken
 slot_put heap k f v = with_some heap (slice_get heap k) (λ o. slice_set heap k (with_slot o f v))

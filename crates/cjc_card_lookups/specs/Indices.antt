@@ -16,6 +16,7 @@ use Rattle.cjc_card_lookups.specs.declared.indices.Places.{Places}
 
 -- ---- names as keys
 
+-- names that have the same bytes are equal, which is an equivalence
 pub names-equivalence : IsEquivalence bytes_eq
 names-equivalence = decided bytes_eq bytes_eq-Decides
 
@@ -23,6 +24,7 @@ names-equivalence = decided bytes_eq bytes_eq-Decides
 abbrev pub fed : List ℕ → writes.HashWrites
 fed name = writes.slice writes.u8 name
 
+-- equal names are fed to a hasher alike
 pub same-fed : (a b : List ℕ) → IsTrue (bytes_eq a b) → fed a ≡ fed b
 same-fed a b h = ap fed ((bytes_eq-Decides a b).0 h)
 

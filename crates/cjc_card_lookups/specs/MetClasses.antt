@@ -33,6 +33,7 @@ same_class-Decides (Foreign p x) (Foreign q y) = (
 same_class-Decides (Own p x) (Foreign q y) = differ (Own p x) (Foreign q y) (λ e. cc)
 same_class-Decides (Foreign p x) (Own q y) = differ (Foreign p x) (Own q y) (λ e. cc)
 
+-- being the same class by offset or by token is an equivalence
 pub classes-equivalence : IsEquivalence same_class
 classes-equivalence = decided same_class same_class-Decides
 
@@ -45,6 +46,7 @@ number_in (Foreign tree token) = token
 abbrev pub fed : Class → writes.HashWrites
 fed class = writes.u32 (number_in class)
 
+-- the same classes are fed to a hasher alike
 pub same-fed : (a b : Class) → IsTrue (same_class a b) → fed a ≡ fed b
 same-fed a b h = ap fed ((same_class-Decides a b).0 h)
 

@@ -8,6 +8,7 @@ use Rattle.cjc_sentences.specs.Instructions.{index_spots, jump_spots}
 use Rattle.cjc_sentences.specs.Handlers.{handler_spots}
 use Rattle.cjc_sentences.specs.Locations.{location_spots}
 
+-- the places kept are the first where 709 to 712 and 714 are broken
 pub record AreCoded (r : Coded) (c : Complete) : Type 0 where
   pub whole : r.whole ≡ first (whole_spots c)
   pub jumps : r.jumps ≡ first (jump_spots c)

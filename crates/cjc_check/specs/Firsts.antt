@@ -17,11 +17,13 @@ use Rattle.cjc_sentences.specs.Locations.{location_spots}
 use Rattle.cjc_sentences.specs.Spots.{first}
 use Rattle.cjc_sentences.specs.Statics.{image_spots, install_spots}
 
+-- the places kept are the first where 703, 713 and 716 are broken
 pub record AreCounted (r : Counted) (c : Complete) (exports : List ExportTree) : Type 0 where
   pub imports : r.imports ≡ first (import_spots c.import exports)
   pub stops : r.stops ≡ first (stop_spots c.method)
   pub image : r.image ≡ first (image_spots c.statics)
 
+-- the places kept are the first where each of 703 to 718 is broken
 pub record AreFirsts (r : Firsts) (c : Complete) (exports : List ExportTree) : Type 0 where
   pub counted : AreCounted r.counted c exports
   pub linked : AreFirst r.linked c exports

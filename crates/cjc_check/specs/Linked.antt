@@ -11,6 +11,7 @@ use Rattle.cjc_sentences.specs.Statics.{install_spots}
 use Rattle.cjc_sentences.specs.Exports.{export_spots}
 use Rattle.cjc_sentences.specs.Described.{descriptor_spots}
 
+-- the places kept are the first where 704 to 708, 715, 717 and 718 are broken
 pub record AreFirst (r : Linked) (c : Complete) (exports : List ExportTree) : Type 0 where
   pub class_refs : r.class_refs ≡ first (class_ref_spots c exports)
   pub supers : r.supers ≡ first (super_spots c exports)

@@ -57,30 +57,43 @@ pub(crate) const FILES: [(&[u8], &[u8]); 13] = [
 /// are none.
 pub(crate) type Change = (&'static [u8], usize, &'static [u8]);
 
+/// The name of the list.
 pub(crate) const LIST: &[u8] = b"list";
 
+/// The name of the export file of java/lang.
 pub(crate) const LANG: &[u8] = b"lang.exp";
 
+/// The name of Header's file.
 pub(crate) const HEADER: &[u8] = b"out/Header.cap";
 
+/// The name of Directory's file.
 pub(crate) const DIRECTORY: &[u8] = b"out/Directory.cap";
 
+/// The name of Applet's file.
 pub(crate) const APPLET: &[u8] = b"out/Applet.cap";
 
+/// The name of Import's file.
 pub(crate) const IMPORT: &[u8] = b"out/Import.cap";
 
+/// The name of ConstantPool's file.
 pub(crate) const POOL: &[u8] = b"out/ConstantPool.cap";
 
+/// The name of Class's file.
 pub(crate) const CLASS: &[u8] = b"out/Class.cap";
 
+/// The name of Method's file.
 pub(crate) const METHOD: &[u8] = b"out/Method.cap";
 
+/// The name of StaticField's file.
 pub(crate) const STATICS: &[u8] = b"out/StaticField.cap";
 
+/// The name of ReferenceLocation's file.
 pub(crate) const LOCATIONS: &[u8] = b"out/RefLocation.cap";
 
+/// The name of Export's file.
 pub(crate) const EXPORT: &[u8] = b"out/Export.cap";
 
+/// The name of Descriptor's file.
 pub(crate) const DESCRIPTOR: &[u8] = b"out/Descriptor.cap";
 
 /// What gives the method a handler of its first instruction, with these bytes of the handler: the method stands at 9 then, and its

@@ -25,6 +25,7 @@ abbrev pub entry_by_offset : (Found → ℕ) → Option Found → ℕ
 entry_by_offset offset None = 0xFFFF
 entry_by_offset offset (Some f) = offset f
 
+-- an entry of a public table by the offsets of methods; 0xFFFF where no implementation is given
 abbrev pub entry_offset : List (List ℕ) → Option Found → ℕ
 entry_offset offsets f = entry_by_offset (offset_in offsets) f
 
@@ -60,10 +61,12 @@ module _ (ref : List ℕ → ClassRef) where
       interfaces = map (implemented ref) t.maps;
     }
 
+    -- the entry of a class with its table, if there is such a class
     abbrev pub entry_where : List Class → ClassTable → Option ClassTree → List ClassEntry
     entry_where w t None = []
     entry_where w t (Some c) = entry_by w t c ∷ []
 
+    -- the entry of the class that a table is of
     abbrev pub entries_of_table : Files → ClassTable → List ClassEntry
     entries_of_table files t = entry_where (all_classes files) t (slice_get files.classes t.class)
 

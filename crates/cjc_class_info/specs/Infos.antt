@@ -25,6 +25,7 @@ abbrev pub bytes_of : List Class → Option Class → ℕ
 bytes_of w None = 0
 bytes_of w (Some i) = interface_bytes w i
 
+-- the bytes in Class of the interface of a number; 0 where there is none
 abbrev pub bytes_at : List Class → List ClassTree → (number : ℕ) → ℕ
 bytes_at w trees n = bytes_of w (declared_at trees n)
 
@@ -33,6 +34,7 @@ abbrev pub is_named : Option Class → (name : List ℕ) → Bool
 is_named None name = false
 is_named (Some c) name = bytes_eq c.name name
 
+-- there is a class of this number, and it has the name
 abbrev pub number_named : List ClassTree → (number : ℕ) → (name : List ℕ) → Bool
 number_named trees n name = is_named (declared_at trees n) name
 

@@ -44,6 +44,7 @@ shape_known known (OfClass class) = known class
 shape_known known (OfReferences class) = known class
 shape_known known (OfNumbers element) = true
 
+-- the class that a type names is known; a primitive names none
 abbrev pub sort_known : (known : List ℕ → Bool) → Sort → Bool
 sort_known known Boolean = true
 sort_known known Byte = true
@@ -52,6 +53,7 @@ sort_known known Int = true
 sort_known known (Reference shape) = shape_known known shape
 sort_known known NoValue = true
 
+-- the class that a result names is known; void names none
 abbrev pub result_known : (known : List ℕ → Bool) → Option Sort → Bool
 result_known known None = true
 result_known known (Some sort) = sort_known known sort

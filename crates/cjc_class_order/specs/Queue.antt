@@ -33,6 +33,7 @@ pub record AreSubs (listed subs : List (List ℕ)) : Type 0 where
 abbrev pub unplaced : (placed : List ℕ) → List ℕ → ℕ
 unplaced placed xs = count_by (λ x. not (is_in placed x)) xs
 
+-- there is a class file, and its class is an interface or a class that is none, as asked
 abbrev pub is_kind_of : (interfaces : Bool) → ℕ → Option ClassTree → Bool
 is_kind_of i k None = false
 is_kind_of i k (Some t) = is_of_kind i (declared k t)

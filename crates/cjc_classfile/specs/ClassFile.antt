@@ -16,6 +16,7 @@ use Rattle.cjc_classfile.specs.Methods.{method_tree}
 abbrev pub version : ℕ → Option ℕ
 version n = if nat_le 45 n && nat_le n 52 then Some n else None
 
+-- a count that is at least 1
 abbrev pub not_zero : ℕ → Option ℕ
 not_zero n = if nat_lt 0 n then Some n else None
 
@@ -45,6 +46,7 @@ back_part major pool items = do
   free ← in_a_row attribute_count (attribute pool)
   gives (record { major = major; flags = flags; name = name; superclass = superclass; interfaces = interfaces; pool = items; fields = fields; methods = methods })
 
+-- a whole class file; what the entries of its pool mean is settled before what stands behind the pool is read
 unfoldable pub class_file : Format ClassTree
 class_file = do
   front ← front_part

@@ -9,9 +9,11 @@ use Rattle.cjc_classfile.specs.Entry.{Entry}
 use Rattle.cjc_classfile.specs.Items.{class_name_at}
 use Rattle.cjc_classfile.specs.Members.{exactly, attribute}
 
+-- a number that is at most the limit
 abbrev pub at_most : ℕ → ℕ → Option ℕ
 at_most m n = if nat_le n m then Some n else None
 
+-- a number that is less than the limit
 abbrev pub below : ℕ → ℕ → Option ℕ
 below m n = if nat_lt n m then Some n else None
 
@@ -19,6 +21,7 @@ below m n = if nat_lt n m then Some n else None
 unfoldable pub catch_class_at : List Entry → ℕ → Option (Option (List ℕ))
 catch_class_at pool i = if i == 0 then Some None else option_map Some (class_name_at pool i)
 
+-- the index of the class that a handler catches; index 0 gives none
 unfoldable pub catch_class : List Entry → Format (Option (List ℕ))
 catch_class pool = number w16 (catch_class_at pool)
 

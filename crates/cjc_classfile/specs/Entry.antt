@@ -2,6 +2,7 @@
 use Rattle.std.specs.Prelude.{ℕ, ℤ, Bool, List, Option}
 use Rattle.cjc_classfile.specs.declared.pool.Index.{Index}
 
+-- an entry: its tag, and what it says where that is of use; an index comes with the place where it stands
 pub data Entry : Type 0 where
   -- a Utf8: its bytes; if they are a descriptor, whether it is a method's
   text : List ℕ → Option Bool → Entry

@@ -10,19 +10,23 @@ use Rattle.cjc_classfile.specs.Code.{CodeTree}
 abbrev pub IsText : List ℕ → Type 0
 IsText text = length text ≤ 65535
 
+-- the code of a method has from 1 to 65,535 bytes
 pub record CodeFits (code : CodeTree) : Type 0 where
   pub some : 0 < length code.bytes
   pub bytes : length code.bytes ≤ 65535
 
+-- the name and the descriptor of a field are texts of the constant pool
 pub record FieldFits (field : FieldTree) : Type 0 where
   pub name : IsText field.name
   pub desc : IsText field.desc
 
+-- the name and the descriptor of a method are texts of the constant pool, and its code fits where it has some
 pub record MethodFits (method : MethodTree) : Type 0 where
   pub name : IsText method.name
   pub desc : IsText method.desc
   pub code : IfSome method.code CodeFits
 
+-- all names of a class are texts of the constant pool, its members fit, and of each kind there are at most 65,535
 pub record ClassFits (class : ClassTree) : Type 0 where
   pub name : IsText class.name
   pub superclass : IsText class.superclass

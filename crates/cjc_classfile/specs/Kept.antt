@@ -3,6 +3,7 @@ use Rattle.cjc_classfile.specs.declared.pool.EntryKind.{EntryKind}
 use Rattle.cjc_classfile.specs.declared.pool.EntryKind.TheVariants as kinds
 use Rattle.cjc_classfile.specs.Entry.{Entry, text, integer, float, wide, class, string, field, method, interface_method, name_and_type, other}
 
+-- the entry of the constant pool that the code's kind is
 abbrev pub entry_of : EntryKind → Entry
 entry_of (kinds.Utf8 bytes desc) = text bytes.now desc
 entry_of (kinds.Integer n) = integer n

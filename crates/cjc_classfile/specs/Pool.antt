@@ -100,6 +100,7 @@ unfoldable pub entry : Bool → ℕ → Format Entry
 entry true behind = gives other
 entry false behind = number w8 (tag_of behind) >>= content
 
+-- whether it is a CONSTANT_Long or CONSTANT_Double, which takes two indices
 abbrev pub is_wide : Entry → Bool
 is_wide wide = true
 is_wide _ = false

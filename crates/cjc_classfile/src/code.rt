@@ -81,6 +81,7 @@ fn read_catches(
     Ok(catches)
 }
 
+/// Passes over so many attributes, whatever they say.
 #[tactic(auto, using(cjc_bytes::proofs::Loops::skipped_more, cjc_bytes::proofs::Loops::skipped_stops, cjc_bytes::proofs::Loops::skipped_all))]
 pub(crate) fn skip_attributes(
     pool: &[Entry<'_>],
@@ -123,6 +124,7 @@ fn read_code_content<'a>(
     })
 }
 
+/// Reads a Code attribute behind its name; its length has to be exact.
 #[tactic(auto, unfolding(crate::specs::CodeAttribute::code, cjc_bytes::specs::Format::u4))]
 pub(crate) fn read_code<'a>(
     alloc: Global,

@@ -12,6 +12,7 @@ use crate::tree::FieldTree;
 use cjc_bytes::{Bytes, Cursor, Row, Stop, is_static};
 use std::alloc::Global;
 
+/// Reads an index of the constant pool, and answers the text that it names.
 #[tactic(auto, unfolding(crate::specs::Members::text_field))]
 pub(crate) fn read_text<'a>(pool: &[Entry<'a>], cursor: &mut Cursor<'_>) -> Result<&'a [u8], Stop>
     ensures { Reads (λ bytes. bytes.now) (text_field pool.now) cursor.old cursor.new result }
@@ -21,6 +22,7 @@ pub(crate) fn read_text<'a>(pool: &[Entry<'a>], cursor: &mut Cursor<'_>) -> Resu
     text_at(pool, index).ok_or(Stop::Broken(at))
 }
 
+/// Reads an index of the constant pool, and answers the descriptor of a field or of a method that it names.
 #[tactic(auto, unfolding(crate::specs::Members::desc_field))]
 pub(crate) fn read_desc<'a>(
     pool: &[Entry<'a>],
@@ -34,6 +36,7 @@ pub(crate) fn read_desc<'a>(
     desc_of_at(pool, is_method, index).ok_or(Stop::Broken(at))
 }
 
+/// Reads an index of the constant pool, and answers the name of the class that it names.
 #[tactic(auto, unfolding(crate::specs::Members::class_field))]
 pub(crate) fn read_class<'a>(pool: &[Entry<'a>], cursor: &mut Cursor<'_>) -> Result<&'a [u8], Stop>
     ensures { Reads (λ bytes. bytes.now) (class_field pool.now) cursor.old cursor.new result }
@@ -43,6 +46,7 @@ pub(crate) fn read_class<'a>(pool: &[Entry<'a>], cursor: &mut Cursor<'_>) -> Res
     class_name_at(pool, index).ok_or(Stop::Broken(at))
 }
 
+/// Passes over what stands in an attribute behind its name.
 #[tactic(auto, unfolding(crate::specs::Members::skipped, cjc_bytes::specs::Format::u4, cjc_bytes::specs::Format::raw))]
 pub(crate) fn skip_content(cursor: &mut Cursor<'_>) -> Result<(), Stop>
     ensures { Reads (λ x. x) skipped cursor.old cursor.new result }
@@ -52,6 +56,7 @@ pub(crate) fn skip_content(cursor: &mut Cursor<'_>) -> Result<(), Stop>
     Ok(())
 }
 
+/// Passes over an attribute, whatever it says; its name has to be a text.
 #[tactic(auto, unfolding(crate::specs::Members::attribute))]
 pub(crate) fn skip_attribute(pool: &[Entry<'_>], cursor: &mut Cursor<'_>) -> Result<(), Stop>
     ensures { Reads (λ x. x) (attribute pool.now) cursor.old cursor.new result }
@@ -163,6 +168,7 @@ fn read_field(alloc: Global, pool: &[Entry<'_>], cursor: &mut Cursor<'_>) -> Res
     })
 }
 
+/// Reads so many fields of a class.
 #[tactic(auto, using(cjc_bytes::proofs::Loops::repeated_more, cjc_bytes::proofs::Loops::repeated_stops, cjc_bytes::proofs::Loops::repeated_all, cjc_bytes::proofs::Loops::with_none))]
 pub(crate) fn read_fields(
     alloc: Global,

@@ -10,6 +10,7 @@ use crate::tree::PoolItem;
 use cjc_bytes::{Bytes, MemberId, Row, Stop};
 use std::alloc::Global;
 
+/// The text at an index of the constant pool, if there is one.
 #[tactic(auto, unfolding(crate::specs::Items::text_at))]
 pub(crate) fn text_at<'a>(pool: &[Entry<'a>], index: u16) -> Option<&'a [u8]>
     ensures { option_copied result ≡ text_at pool.now index }
@@ -32,6 +33,7 @@ fn desc_at<'a>(pool: &[Entry<'a>], index: u16) -> Option<&'a [u8]>
     }
 }
 
+/// The descriptor of a field or of a method at an index of the constant pool, if there is one.
 #[tactic(auto, unfolding(crate::specs::Items::desc_of_at))]
 pub(crate) fn desc_of_at<'a>(pool: &[Entry<'a>], is_method: bool, index: u16) -> Option<&'a [u8]>
     ensures { option_copied result ≡ desc_of_at pool.now is_method index }
@@ -73,6 +75,7 @@ fn pair_at(pool: &[Entry<'_>], index: u16) -> Option<(Index, Index)>
     }
 }
 
+/// The name of the class at an index of the constant pool, if there is one that is not empty.
 #[tactic(auto, unfolding(crate::specs::Items::class_name_at))]
 pub(crate) fn class_name_at<'a>(pool: &[Entry<'a>], index: u16) -> Option<&'a [u8]>
     ensures { option_copied result ≡ class_name_at pool.now index }

@@ -113,6 +113,7 @@ fn read_method<'a>(
     })
 }
 
+/// Reads so many methods of a class.
 #[tactic(auto, using(cjc_bytes::proofs::Loops::repeated_more, cjc_bytes::proofs::Loops::repeated_stops, cjc_bytes::proofs::Loops::repeated_all, cjc_bytes::proofs::Loops::with_none))]
 pub(crate) fn read_methods<'a>(
     alloc: Global,

@@ -205,6 +205,7 @@ impl Entry<'_> {
     }
 }
 
+/// Reads the entries of so many indices of the constant pool; index 0, which is none of them, has no entry.
 #[tactic(auto, using(crate::proofs::Entries::entries_more, crate::proofs::Entries::entries_stop, crate::proofs::Entries::entries_all), unfolding(crate::specs::Pool::pool_of))]
 pub(crate) fn read_pool<'a>(
     alloc: Global,

@@ -33,10 +33,12 @@ abbrev pub arrays_of : ClassTree → List Put → List ArrayCell
 arrays_of c [] = []
 arrays_of c (p ∷ ps) = array_in (own_field c p.field) p.contents ++ arrays_of c ps
 
+-- the class, where there is a method and it is an initialiser
 abbrev pub if_initialiser : ClassTree → Option MethodTree → Option ClassTree
 if_initialiser c None = None
 if_initialiser c (Some m) = if is_initialiser m then Some c else None
 
+-- the class, where there is one and its method of this number is an initialiser
 abbrev pub class_where : (method : ℕ) → Option ClassTree → Option ClassTree
 class_where method None = None
 class_where method (Some c) = if_initialiser c (slice_get c.methods method)
@@ -76,12 +78,14 @@ start_by f held.Array = None
 abbrev pub start_of : FieldTree → Held → Option Start
 start_of f h = if is_cell f then start_by f h else None
 
+-- what a field holds; nothing was put where it is not told
 abbrev pub held_in : Option Held → Held
 held_in None = held.Nothing
 held_in (Some h) = h
 
 -- ---- images
 
+-- the image of a package without static fields
 abbrev pub empty : StaticImage
 empty = record { arrays = []; nulls = []; zeros = []; others = [] }
 
@@ -95,6 +99,7 @@ of_start id None = empty
 of_start id (Some starts.Null) = record empty { nulls = id ∷ [] }
 of_start id (Some (starts.Number z)) = if int_eq z (pos 0) then record empty { zeros = id ∷ [] } else record empty { others = record { field = id; value = z } ∷ [] }
 
+-- a field by the name of its class, its own name and its descriptor
 abbrev pub field_id : (class : List ℕ) → FieldTree → MemberId
 field_id class f = record { class = class; name = f.name; desc = f.desc }
 
@@ -103,6 +108,7 @@ abbrev pub of_fields : (class : List ℕ) → List Held → (place : ℕ) → Li
 of_fields class fields k [] = empty
 of_fields class fields k (f ∷ fs) = joined (of_start (field_id class f) (start_of f (held_in (slice_get fields k)))) (of_fields class fields (k + 1) fs)
 
+-- what the fields of a class hold, nothing where there is no class
 abbrev pub fields_in : Option (List Held) → List Held
 fields_in None = []
 fields_in (Some fields) = fields

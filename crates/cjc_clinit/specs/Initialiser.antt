@@ -26,6 +26,7 @@ is_initialiser m = bytes_eq m.name (codes "<clinit>") && bytes_eq m.desc (codes 
 
 -- ---- the instructions
 
+-- the opcode of dup
 abbrev pub dup : ℕ
 dup = 0x59
 
@@ -61,6 +62,7 @@ abbrev pub is_open : Option FieldTree → Option Held → Bool
 is_open (Some f) (Some held.Nothing) = is_cell f
 is_open f h = false
 
+-- the place where it is so, else none
 abbrev pub only_if : Bool → ℕ → Option ℕ
 only_if true k = Some k
 only_if false k = None
@@ -123,6 +125,7 @@ pub data IsBeginning (files : Files) (number : ℕ) (c : ClassTree) : (before : 
 abbrev pub op_of : JInsn → JOp
 op_of i = i.op
 
+-- the same of all instructions, in their order
 abbrev pub ops_of : List JInsn → List JOp
 ops_of insns = map op_of insns
 

@@ -19,6 +19,7 @@ use Rattle.cjc_clinit.specs.Initialiser.{IsWrongAt, is_initialiser}
 abbrev pub is_wrong_class : ClassTree → Bool
 is_wrong_class c = (is_interface c.flags && list_any is_initialiser c.methods) || list_any has_unfit_value c.fields
 
+-- At the class: it is an interface with an initialiser, or has a field whose ConstantValue does not fit.
 pub record BreaksClass (files : Files) (number : ℕ) (c : ClassTree) (b : Break) : Type 0 where
   pub is_wrong : is_wrong_class c ≡ true
   pub is : b ≡ broken_at (at_class (file_of files.lines number) c) 308

@@ -19,6 +19,7 @@ use Rattle.cjc_clinit.specs.Image.{IsImage}
 abbrev pub id : (name desc : List ℕ) → MemberId
 id name desc = record { class = codes "p/T"; name = name; desc = desc }
 
+-- a field of a class file, with the number of its ConstantValue where it has one
 abbrev pub field : (flags : ℕ) → (name desc : List ℕ) → Option ℤ → FieldTree
 field flags name desc value = record { flags = flags; name = name; desc = desc; constant = value }
 
@@ -73,12 +74,15 @@ IsImageAfter ops image = IsImage files (initialiser ops) image
 
 -- ---- instructions
 
+-- an instruction that puts a number on the stack
 abbrev pub number : ℕ → JOp
 number n = jop.Number (pos n)
 
+-- putstatic of a field of p/T
 abbrev pub put : (name desc : List ℕ) → JOp
 put name desc = jop.Static true (id name desc)
 
+-- the return of a method without result
 abbrev pub return : JOp
 return = jop.Return 0xB1
 
@@ -116,5 +120,6 @@ replaced_image = record {
   others = [];
 }
 
+-- what the fields hold after it
 abbrev pub replaced_held : List Held
 replaced_held = held.Nothing ∷ held.Nothing ∷ held.Nothing ∷ held.Nothing ∷ held.Nothing ∷ held.Number (pos 0) ∷ []

@@ -45,6 +45,7 @@ pub(crate) fn array_desc(kind: Kind) -> &'static [u8]
     }
 }
 
+/// Whether a field of this type holds a reference to an object or array.
 pub(crate) fn is_reference(desc: &[u8]) -> bool
     ensures { result ≡ is_reference desc.now }
 {

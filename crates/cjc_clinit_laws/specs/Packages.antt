@@ -29,6 +29,7 @@ value_or number value zero = zero
 abbrev pub first_value : FieldTree → Value
 first_value f = value_or (is_some (number_kind f.desc)) f.constant (zero_of (field_sort f.desc))
 
+-- the static cells of a class, in the order of its fields
 abbrev pub first_in : (class : List ℕ) → List FieldTree → List FieldValue
 first_in class [] = []
 first_in class (f ∷ fields) = if is_cell f then record { field = field_id class f; value = first_value f } ∷ first_in class fields else first_in class fields

@@ -21,6 +21,7 @@ abbrev pub least_of : ℕ → List ℕ → ℕ
 least_of k [] = k
 least_of k (j ∷ ks) = least_of (min k j) ks
 
+-- the least of these numbers, none where there are no numbers
 unfoldable pub least : List ℕ → Option ℕ
 least [] = None
 least (k ∷ ks) = Some (least_of k ks)
@@ -30,10 +31,12 @@ pub record IsLeast (numbers : List ℕ) (k : ℕ) : Type 0 where
   pub one : Contains numbers k
   pub least : All (λ j. k ≤ j) numbers
 
+-- the instructions, or rule 303 at the place of the first that breaks it
 abbrev pub unless_foreign : Result (List JInsn) ℕ → Result (List JInsn) BrokenAt
 unless_foreign (Ok insns) = Ok insns
 unless_foreign (Err k) = Err (record { rule = 303; offset = k })
 
+-- what is found, or rule 103 at its place where it is broken
 abbrev pub unless_unfit : Option ℕ → Result (List JInsn) BrokenAt → Result (List JInsn) BrokenAt
 unless_unfit (Some k) found = Err (record { rule = 103; offset = k })
 unless_unfit None found = found
@@ -44,6 +47,7 @@ unfoldable pub decoding : ClassTree → MethodTree → CodeTree → Result (List
 decoding class method code =
     unless_unfit (least (unfit_code class method code)) (unless_foreign (all_named class.pool (cut code.bytes).insns))
 
+-- the instructions, and none where a rule is broken
 abbrev pub insns_of : Result (List JInsn) BrokenAt → List JInsn
 insns_of (Ok insns) = insns
 insns_of (Err broken) = []
@@ -60,10 +64,12 @@ Answers found (Err errors.NoMemory) = Unit {0}
 
 -- ---- what a call is asked for
 
+-- what the code of a method is decoded to; without code there is no instruction
 abbrev pub of_code : ClassTree → MethodTree → Option CodeTree → Result (List JInsn) BrokenAt
 of_code class method (Some code) = decoding class method code
 of_code class method None = Ok []
 
+-- what the code of a method of the class is decoded to; where there is none, no instruction
 abbrev pub of_method : ClassTree → Option MethodTree → Result (List JInsn) BrokenAt
 of_method class (Some method) = of_code class method method.code
 of_method class None = Ok []
@@ -81,6 +87,7 @@ pub record HasCode (class : ClassTree) (k : ℕ) : Type 0 where
   pub bytes : length code.bytes ≤ 65535
   pub desc : length method.desc < 2 ^ 32
 
+-- a method without name, flags or code, for a place that has none
 abbrev pub no_method : MethodTree
 no_method = record { flags = 0; name = []; desc = []; code = None }
 

@@ -11,6 +11,7 @@ use Rattle.cjc_code.specs.declared.table.Family.{Family}
 use Rattle.cjc_code.specs.declared.table.Family.TheVariants as family
 use Rattle.cjc_code.specs.Table.{row, heads, padding, tails, wide}
 
+-- the number that the bytes of one operand spell, signed or unsigned
 unfoldable pub operand : Operand → Format ℤ
 operand Unsigned1 = number w8 (λ n. Some (pos n))
 operand Signed1 = number w8 (λ n. Some (cast_signed w8 n))
@@ -26,14 +27,17 @@ operands (o ∷ os) = do
   zs ← operands os
   gives (z ∷ zs)
 
+-- whether it is no opcode of the Java Virtual Machine
 abbrev pub is_unknown : Family → Bool
 is_unknown family.Unknown = true
 is_unknown _ = false
 
+-- whether it is the prefix `wide`
 abbrev pub is_prefix : Family → Bool
 is_prefix family.Wide = true
 is_prefix _ = false
 
+-- the value, where the test does not hold
 abbrev pub unless : {A : Type 0} → Bool → A → Option A
 unless true x = None
 unless false x = Some x
@@ -42,6 +46,7 @@ unless false x = Some x
 unfoldable pub opcode_at : ℕ → Option Opcode
 opcode_at n = unless (is_unknown (row n).1) (record { number = n; operands = (row n).0; family = (row n).1 })
 
+-- an opcode with the operands that it has behind the prefix, where it may stand there
 abbrev pub widened : ℕ → Family → Option Operands → Option Opcode
 widened n f (Some os) = Some (record { number = n; operands = os; family = f })
 widened n f None = None

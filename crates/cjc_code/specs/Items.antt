@@ -23,18 +23,22 @@ needed major family.InstanceOf = needs.Class
 needed major family.ForeignClass = needs.Class
 needed major _ = needs.Nothing
 
+-- whether it is a CONSTANT_Class
 abbrev pub is_class : Option PoolItem → Bool
 is_class (Some (items.Class name)) = true
 is_class _ = false
 
+-- whether it is a CONSTANT_Fieldref
 abbrev pub is_field : Option PoolItem → Bool
 is_field (Some (items.Field id)) = true
 is_field _ = false
 
+-- whether it is a CONSTANT_Methodref
 abbrev pub is_method : Option PoolItem → Bool
 is_method (Some (items.Method id)) = true
 is_method _ = false
 
+-- whether it is a CONSTANT_InterfaceMethodref
 abbrev pub is_interface_method : Option PoolItem → Bool
 is_interface_method (Some (items.InterfaceMethod id)) = true
 is_interface_method _ = false

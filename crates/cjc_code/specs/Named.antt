@@ -17,21 +17,26 @@ use Rattle.cjc_code.specs.Numbers.{first, second, u16_of, u8_of, i16_of, target}
 
 -- ---- what an index names, where the entry is of the kind
 
+-- the number of a CONSTANT_Integer
 abbrev pub int_of : Option PoolItem → Option ℤ
 int_of (Some (items.Int z)) = Some z
 int_of _ = None
 
+-- the name of a CONSTANT_Class, and no name of another entry
 abbrev pub class_of : Option PoolItem → List ℕ
 class_of (Some (items.Class name)) = name
 class_of _ = []
 
+-- a member without a name, for an entry that names none
 abbrev pub no_member : MemberId
 no_member = record { class = []; name = []; desc = [] }
 
+-- the field that a CONSTANT_Fieldref names
 abbrev pub field_of : Option PoolItem → MemberId
 field_of (Some (items.Field id)) = id
 field_of _ = no_member
 
+-- the method that a CONSTANT_Methodref or CONSTANT_InterfaceMethodref names
 abbrev pub method_of : Option PoolItem → MemberId
 method_of (Some (items.Method id)) = id
 method_of (Some (items.InterfaceMethod id)) = id
@@ -43,10 +48,12 @@ item pool zs = slice_get pool (u16_of (first zs))
 
 -- ---- rule 303
 
+-- there is no number
 abbrev pub is_no_integer : Option ℤ → Bool
 is_no_integer (Some z) = false
 is_no_integer None = true
 
+-- the instruction is none that is converted, or an ldc or ldc_w of something other than an Integer
 abbrev pub is_foreign : List PoolItem → Family → List ℤ → Bool
 is_foreign pool family.Constant zs = is_no_integer (int_of (item pool zs))
 is_foreign pool family.Foreign zs = true
@@ -65,21 +72,26 @@ is_foreign pool _ zs = false
 abbrev pub place : (at : ℕ) → (offset : ℤ) → ℕ
 place at offset = count (target at offset)
 
+-- the places of several targets
 abbrev pub places : (at : ℕ) → List ℤ → List ℕ
 places at offsets = map (place at) offsets
 
+-- the cases of a lookupswitch, from its pairs of a value and an offset
 abbrev pub cases : (at : ℕ) → List ℤ → List JCase
 cases at (value ∷ offset ∷ zs) = record { value = value; target = place at offset } ∷ cases at zs
 cases at zs = []
 
+-- a tableswitch, by its default offset, its lowest and highest value and the offset of each value
 abbrev pub table : (at : ℕ) → List ℤ → JOp
 table at (other ∷ low ∷ high ∷ zs) = jop.TableSwitch (place at other) low (places at zs)
 table at zs = jop.Nop
 
+-- a lookupswitch, by its default offset, the count of its pairs and the pairs
 abbrev pub lookup : (at : ℕ) → List ℤ → JOp
 lookup at (other ∷ pairs ∷ zs) = jop.LookupSwitch (place at other) (cases at zs)
 lookup at zs = jop.Nop
 
+-- the number, or 0 where there is none
 abbrev pub number_of : Option ℤ → ℤ
 number_of (Some z) = z
 number_of None = pos 0

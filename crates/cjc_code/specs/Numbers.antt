@@ -8,6 +8,7 @@ abbrev pub first : List ℤ → ℤ
 first [] = pos 0
 first (z ∷ zs) = z
 
+-- the second number
 abbrev pub second : List ℤ → ℤ
 second [] = pos 0
 second (z ∷ zs) = first zs
@@ -17,6 +18,7 @@ abbrev pub u16_of : ℤ → ℕ
 u16_of (pos n) = if nat_lt n 65536 then n else 0
 u16_of (negsuc n) = 0
 
+-- a number of one byte without sign, which such an operand always is
 abbrev pub u8_of : ℤ → ℕ
 u8_of (pos n) = if nat_lt n 256 then n else 0
 u8_of (negsuc n) = 0

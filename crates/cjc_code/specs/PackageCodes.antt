@@ -15,6 +15,7 @@ code_with class method (Err broken) = []
 
 -- ---- of all methods that have code, by what it is decoded to
 
+-- what is made of the decoded code of a method, and nothing where it has no code
 abbrev pub where_code : {A : Type 0} → (Result (List JInsn) BrokenAt → List A) → ClassTree → MethodTree → Option CodeTree → List A
 where_code f tree m (Some code) = f (decoding tree m code)
 where_code f tree m None = []

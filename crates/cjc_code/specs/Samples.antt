@@ -14,6 +14,7 @@ use Rattle.cjc_code.specs.declared.insn.JOp.{JOp}
 use Rattle.cjc_code.specs.declared.insn.JOp.TheVariants as jop
 use Rattle.cjc_code.specs.Decoded.{decoding}
 
+-- the method m of class q, without parameters and result
 abbrev pub member : MemberId
 member = record { class = codes "q"; name = codes "m"; desc = codes "()V" }
 
@@ -21,12 +22,15 @@ member = record { class = codes "q"; name = codes "m"; desc = codes "()V" }
 abbrev pub pool : List PoolItem
 pool = items.Other ∷ items.Int (pos 7) ∷ items.Class (codes "q") ∷ items.Field member ∷ items.Method member ∷ items.InterfaceMethod member ∷ items.Other ∷ items.Other ∷ []
 
+-- the public class p/T of this version, with the pool above
 abbrev pub class : (major : ℕ) → ClassTree
 class major = record { major = major; flags = 33; name = codes "p/T"; superclass = codes "q"; interfaces = []; pool = pool; fields = []; methods = [] }
 
+-- code of these bytes and handlers, with a stack of 4 and one local
 abbrev pub code : List Catch → List ℕ → CodeTree
 code catches bytes = record { max_stack = 4; max_locals = 1; bytes = bytes; catches = catches }
 
+-- the method f with these flags and this descriptor
 abbrev pub method : (flags : ℕ) → (desc : List ℕ) → MethodTree
 method flags desc = record { flags = flags; name = codes "f"; desc = desc; code = None }
 
@@ -34,6 +38,7 @@ method flags desc = record { flags = flags; name = codes "f"; desc = desc; code 
 abbrev pub sample : List ℕ → Result (List JInsn) BrokenAt
 sample bytes = decoding (class 52) (method 9 (codes "()V")) (code [] bytes)
 
+-- this rule is broken at this offset
 abbrev pub broken : (rule offset : ℕ) → Result (List JInsn) BrokenAt
 broken rule offset = Err (record { rule = rule; offset = offset })
 
@@ -93,6 +98,7 @@ foreign =
     ∷ (0x09 ∷ 0xAD ∷ [], 0)  -- lreturn: the first of two
     ∷ []
 
+-- the instruction that begins at this place
 abbrev pub insn : (at : ℕ) → JOp → JInsn
 insn at op = record { at = at; op = op }
 
@@ -158,6 +164,7 @@ good = (
 
 -- ---- methods whose arguments or handlers break the rule
 
+-- what a lone return is decoded to in a method with these flags and this descriptor
 abbrev pub with_method : (flags : ℕ) → (desc : List ℕ) → Result (List JInsn) BrokenAt
 with_method flags desc = decoding (class 52) (method flags desc) (code [] (0xB1 ∷ []))
 
@@ -165,9 +172,11 @@ with_method flags desc = decoding (class 52) (method flags desc) (code [] (0xB1 
 abbrev pub with_catch : (start end target : ℕ) → Result (List JInsn) BrokenAt
 with_catch start end target = decoding (class 52) (method 9 (codes "()V")) (code (record { start = start; end = end; target = target; class = None } ∷ []) (0x11 ∷ 0 ∷ 1 ∷ 0x57 ∷ 0xB1 ∷ []))
 
+-- a lone return
 abbrev pub returns : Result (List JInsn) BrokenAt
 returns = Ok (insn 0 (jop.Return 0xB1) ∷ [])
 
+-- sipush 1, pop and return
 abbrev pub pushes : Result (List JInsn) BrokenAt
 pushes = Ok (insn 0 (jop.Number (pos 1)) ∷ insn 3 (jop.Stack 0x57) ∷ insn 4 (jop.Return 0xB1) ∷ [])
 

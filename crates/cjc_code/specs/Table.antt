@@ -16,6 +16,7 @@ pub record Range : Type 0 where
   pub last : ℕ
   pub row : ℕ → Operands × Family
 
+-- the opcodes between two, with the row of each
 abbrev pub range : (first last : ℕ) → (ℕ → Operands × Family) → Range
 range first last row = record { first = first; last = last; row = row }
 
@@ -23,6 +24,7 @@ range first last row = record { first = first; last = last; row = row }
 abbrev pub alike : (first last : ℕ) → Operands → Family → Range
 alike first last operands f = range first last (λ k. (operands, f))
 
+-- one opcode, with what follows it and what its instruction is
 abbrev pub single : (opcode : ℕ) → Operands → Family → Range
 single opcode operands f = alike opcode opcode operands f
 

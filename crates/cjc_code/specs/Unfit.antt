@@ -44,6 +44,7 @@ has_wrong_item major pool i = not (meets pool (u16_of (first i.numbers)) (needed
 abbrev pub has_wrong_jump : List Bool → Raw → Bool
 has_wrong_jump starts i = not (list_all (λ offset. is_start starts (target i.at offset)) (offsets i.family i.numbers))
 
+-- there is a number, and it is at the limit or above
 abbrev pub is_from : ℕ → Option ℕ → Bool
 is_from limit (Some n) = nat_le limit n
 is_from limit None = false
@@ -101,6 +102,7 @@ may_go_on family.ForeignReturn = false
 may_go_on family.Ret = false
 may_go_on _ = true
 
+-- the place of the instruction, if there is one and another may follow it
 abbrev pub where_it_may : Option Raw → List ℕ
 where_it_may (Some i) = where_true (may_go_on i.family) i.at
 where_it_may None = []
@@ -109,9 +111,11 @@ where_it_may None = []
 abbrev pub last_places : List Raw → List ℕ
 last_places insns = where_it_may (slice_get insns (length insns - 1))
 
+-- the last instruction, where it may fall off the end of a code that was cut to its end
 abbrev pub fall_places : Cut → (size : ℕ) → List ℕ
 fall_places c size = if c.stop == size then last_places c.insns else []
 
+-- how many parameters a descriptor has
 abbrev pub params_of : Option Parts → ℕ
 params_of (Some d) = length d.params
 params_of None = 0

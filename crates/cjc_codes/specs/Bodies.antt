@@ -32,6 +32,7 @@ pub record IsAt (a : At) : Type 0 where
   pub size : a.insn.size ≡ size (instruction_of a.insn)
   pub room : 3 + a.at + a.insn.size < 2 ^ 32
 
+-- so it is of all these instructions
 abbrev pub AllAt : List At → Type 0
 AllAt insns = (k : ℕ) (d : At) → k < length insns → IsAt (get_or insns k d)
 
@@ -43,9 +44,11 @@ pub record IsBody (b : Body) : Type 0 where
   pub first : 3 + b.first < 2 ^ 32
   pub end : 3 + b.end < 2 ^ 32
 
+-- so it is of the code of all these methods
 abbrev pub AreBodies : List Body → Type 0
 AreBodies bodies = (k : ℕ) (d : Body) → k < length bodies → IsBody (get_or bodies k d)
 
+-- so it is of what was cut, or the offset where cutting ended has 32 bits
 abbrev pub IsCut : Cutting → Type 0
 IsCut (cuts.Whole bodies) = AreBodies bodies
 IsCut (cuts.Ends at) = 3 + at < 2 ^ 32

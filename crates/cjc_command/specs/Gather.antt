@@ -20,6 +20,7 @@ StopCause old new status.Done = ⊥
 StopCause old new status.Usage = ⊥
 StopCause old new status.SinkFault = ⊥
 
+-- Why the reading half ended as it did, over each shelf. All that was asked for needs no cause.
 abbrev pub GatherCause : {T : Type 0} → Shelved → Shelved → Result T Status → Type 0
 GatherCause old new (Ok made) = Unit {0}
 GatherCause old new (Err end) = StopCause old new end

@@ -11,6 +11,7 @@ pub data Plan (X : Type 0) : Type 0 where
   has : X → Plan X
 
 infixl 10 ◌>>=◌
+-- the reads of a plan and then those of the plan that its value chooses; a refusal ends both
 abbrev pub ◌>>=◌ : {X Y : Type 0} → Plan X → (X → Plan Y) → Plan Y
 (reads name next) >>= f = reads name (λ bytes. next bytes >>= f)
 (refuses r) >>= f = refuses r
@@ -59,6 +60,7 @@ verdict files (reads name next) = at_file name (λ bytes. verdict files (next by
 verdict files (refuses r) = refused r
 verdict files (has x) = complete x
 
+-- the names that are read behind a file, where it is there and not too long, else none
 abbrev pub reads_after : (List ℕ → List (List ℕ)) → Option (List ℕ) → List (List ℕ)
 reads_after next None = []
 reads_after next (Some bytes) = if nat_lt longest_file (length bytes) then [] else next bytes

@@ -36,10 +36,12 @@ abbrev pub EndTold : List File → Files → Shelved → ℕ → WriteEnd → Ty
 EndTold list files new at write.Failed = (new.last ≡ name_at list at) × IsSomeAnd new.files (SameBut (name_at list at) (written_files (take at list) files))
 EndTold list files new at write.NoMemory = new.files ≡ Some (written_files (take at list) files)
 
+-- What the writes make of the files: all are written, or those before the one that stopped them.
 abbrev pub WriteAllTold : {T : Type 0} → List File → Files → Shelved → Result T Stop → Type 0
 WriteAllTold list files new (Ok done) = new.files ≡ Some (written_files list files)
 WriteAllTold list files new (Err stop) = EndTold list files new stop.at stop.end
 
+-- The files are written in order: all of them, or up to one of them at which a write failed or wanted memory.
 pub record WritesAll {T : Type 0} (list : List File) (old new : Shelved) (result : Result T Stop) : Type 0 where
   pub goes_on : GoesOn old new
   pub within : IfErr result (λ stop. stop.at < length list)
@@ -102,6 +104,7 @@ Quiet from to (status.TooLong name) = to ≡ from
 Quiet from to (status.ShelfFault name) = to ≡ from
 Quiet from to status.NoMemory = to ≡ from
 
+-- Why the writing half ended as it did, over each shelf and sink. The other answers are no such end.
 abbrev pub PublishCause : Shelved → Shelved → Sunk → Sunk → Status → Type 0
 PublishCause old new from to status.Done = Unit {0}
 PublishCause old new from to status.SinkFault = Rose from.faults to.faults
@@ -123,6 +126,7 @@ PublishEnds told todo new from to (status.Refused r) = ⊥
 PublishEnds told todo new from to (status.Absent name) = ⊥
 PublishEnds told todo new from to (status.TooLong name) = ⊥
 
+-- The files are written and then the text is printed, or the status says what stopped that; no count falls.
 pub record Publishes (todo : Todo) (old new : Shelved) (from to : Sunk) (status : Status) : Type 0 where
   pub goes_on : GoesOn old new
   pub sink_goes_on : from.faults ≤ to.faults

@@ -36,6 +36,7 @@ is_shareable w c = is_among (interfaces_at w c) shareable || (is_interface c.fla
 abbrev pub acc_interface : ℕ
 acc_interface = 8
 
+-- the flag of an interface, or a class, that is shareable
 abbrev pub acc_shareable : ℕ
 acc_shareable = 4
 

@@ -109,6 +109,7 @@ described_by p token m e = record {
   first_handler = e.first_handler;
 }
 
+-- a method of a class with its token, and where it stands in Method
 abbrev pub method_descriptor : Package → Class → Found → MethodDescriptor
 method_descriptor p c f = described_by p (member_token p (Some f)) (method_in (world p) c f.member) (extent_of p f)
 
@@ -132,6 +133,7 @@ abbrev pub type_by : Package → List (List ℕ) → ℕ
 type_by p [] = 0xFFFF
 type_by p (desc ∷ rest) = type_offset p desc
 
+-- the type of the member that a key names, 0xFFFF for a class
 abbrev pub pool_type : Package → PoolKey → ℕ
 pool_type p key = type_by p (desc_of_key key)
 

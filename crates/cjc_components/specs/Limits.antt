@@ -48,6 +48,7 @@ abbrev pub layout_breaks : Package → Class → LaidMethod → List Break
 layout_breaks p c m = let f = m.member in let code = m.code in let place = method_spot p c f (method_in (world p) c f.member) in
     order_breaks place (least (overtaking [] code.catches)) ++ at (is_too_long m) (place 0) 415
 
+-- 417 of a method of a class
 abbrev pub word_breaks : Package → Class → LaidMethod → List Break
 word_breaks p c m = let f = m.member in let member = method_in (world p) c f.member in
     at (has_many_words member) (method_spot p c f member 0) 417
@@ -57,6 +58,7 @@ abbrev pub in_class : (Class → LaidMethod → List Break) → LaidMethod → O
 in_class breaks m None = []
 in_class breaks m (Some c) = breaks c m
 
+-- what is broken of all methods that are laid out, each beside its class
 abbrev pub of_methods : Package → (Class → LaidMethod → List Break) → List Break
 of_methods p breaks = flat_map (λ m. let f = m.member in in_class breaks m (class_at (world p) f.imported f.class)) p.methods
 

@@ -49,6 +49,7 @@ abbrev pub ref_to : CardClass → ClassRef
 ref_to (Own part offset) = Inside offset
 ref_to (Foreign file token) = Outside file token
 
+-- the class_ref of a class by its name
 abbrev pub class_ref : Package → (name : List ℕ) → ClassRef
 class_ref p name = ref_to (class_at p name)
 
@@ -70,6 +71,7 @@ signature_of m = record { name = m.name; desc = m.desc }
 abbrev pub token_in : Line → Signature → ℕ
 token_in line s = if finds_hidden line s then with_high_bit (or_zero (token (hidden_slots line) s)) else or_zero (token (slots line) s)
 
+-- the token of a virtual method in the class that the member names
 abbrev pub virtual_token : Package → MemberId → ℕ
 virtual_token p m = token_in (line_of (world p) m.class) (signature_of m)
 
@@ -78,6 +80,7 @@ abbrev pub token_in_interface : List Class → Signature → Option Class → �
 token_in_interface w s None = 0
 token_in_interface w s (Some i) = or_zero (position (λ t. same t s) (interface_methods w i))
 
+-- the token of a method in the interface that the member names
 abbrev pub interface_token : Package → MemberId → ℕ
 interface_token p m = token_in_interface (world p) (signature_of m) (class_named (world p) m.class)
 

@@ -91,6 +91,7 @@ types_of p = each_once [] (map (nibbles_of p) (all_descs p))
 
 -- ---- their offsets
 
+-- nibbles as a type descriptor
 abbrev pub type_descriptor : List ℕ → TypeDescriptor
 type_descriptor nibbles = record { nibbles = nibbles }
 

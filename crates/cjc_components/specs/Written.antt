@@ -44,6 +44,7 @@ abbrev pub is_abstract_by : Option Method → Bool
 is_abstract_by None = true
 is_abstract_by (Some m) = m.is_abstract
 
+-- a method of Method is abstract
 abbrev pub is_abstract_at : Files → Found → Bool
 is_abstract_at files f = is_abstract_by (method_at files f)
 

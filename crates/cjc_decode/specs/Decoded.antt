@@ -19,9 +19,11 @@ values (few.One a) = a ∷ []
 values (few.Two a b) = a ∷ b ∷ []
 values (few.Three a b c) = a ∷ b ∷ c ∷ []
 
+-- the number with sign that two bytes spell, the high one first
 abbrev pub two : (a b : ℕ) → ℤ
 two a b = signed 32768 (256 * a + b)
 
+-- the number with sign that four bytes spell, the high one first
 abbrev pub four : (a b c d : ℕ) → ℤ
 four a b c d = signed (2 ^ 31) (16777216 * a + 65536 * b + 256 * c + d)
 
@@ -32,6 +34,7 @@ numbers Short (a ∷ b ∷ c ∷ d ∷ bytes) = two a b ∷ two c d ∷ numbers 
 numbers Int (a ∷ b ∷ c ∷ d ∷ e ∷ f ∷ bytes) = four a b c d ∷ two e f ∷ numbers Int bytes
 numbers matches bytes = []
 
+-- the numbers that the entries of a table spell
 abbrev pub numbers_of : Entries → List ℤ
 numbers_of t = numbers t.matches t.entries.now
 
@@ -50,6 +53,7 @@ abbrev pub kinds_in : Option Form → (operands : List ℤ) → ℕ
 kinds_in None operands = 0
 kinds_in (Some f) operands = widths (in_table f operands)
 
+-- the opcode, the operands and the numbers of the table that a decoded instruction stands for
 abbrev pub instruction_of : Insn → Instruction
 instruction_of i = record { opcode = i.opcode; operands = values i.operands; table = numbers_of i.table }
 
@@ -61,6 +65,7 @@ pub record IsAtFront (i : Insn) (bytes : List ℕ) : Type 0 where
   pub some : 1 ≤ i.size
   pub within : i.size ≤ length bytes
 
+-- the method header that was decoded: its stack, arguments and locals, whether it is abstract, and its bytes
 abbrev pub header_of : Header → MethodHeader
 header_of h = record {
   max_stack = h.max_stack;

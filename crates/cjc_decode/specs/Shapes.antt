@@ -59,6 +59,7 @@ abbrev pub matches_of : (wide : Bool) → Matches
 matches_of true = Int
 matches_of false = Short
 
+-- a match of a lookup switch, of four bytes or of two
 abbrev pub match_of : (wide : Bool) → Operand
 match_of true = Signed4
 match_of false = Signed2

@@ -58,10 +58,12 @@ label_at places end label = if nat_lt label (length places) then slice_index pla
 -- ---- switches
 
 module _ (to : ℕ → ℕ) (at : ℕ) where
+  -- of each case the distance to its target, of two bytes
   abbrev pub offset_bytes : List NCase → List ℕ
   offset_bytes [] = []
   offset_bytes (c ∷ cases) = low_bytes 2 (bits (distance at (to c.target))) ++ offset_bytes cases
 
+  -- of each case its match, of so many bytes, and the distance to its target, of two
   abbrev pub match_bytes : (width : ℕ) → List NCase → List ℕ
   match_bytes width [] = []
   match_bytes width (c ∷ cases) = low_bytes width (bits c.value) ++ (low_bytes 2 (bits (distance at (to c.target))) ++ match_bytes width cases)
@@ -80,6 +82,7 @@ module _ (to : ℕ → ℕ) (at : ℕ) where
       if op == 0x73 then range_bytes 2 low cases else (if op == 0x74 then range_bytes 4 low cases
       else (if op == 0x75 then lookup_bytes 2 cases else lookup_bytes 4 cases))
 
+  -- a switch: its opcode, the distance to the default's target, and what stands behind that
   abbrev pub switch_bytes : (op other : ℕ) → (low : ℤ) → List NCase → List ℕ
   switch_bytes op other low cases = op ∷ (low_bytes 2 (bits (distance at (to other))) ++ table_bytes op low cases)
 
@@ -100,6 +103,7 @@ module _ (ks : List PoolKey) (token_of : MemberId → Option ℕ) where
   call_bytes nargs m = 0x8E ∷ nargs ∷ (low_bytes 2 (index_in ks (keys.Class m.class)) ++ known (token_of m) ∷ [])
 
   module _ (to : ℕ → ℕ) where
+    -- the bytes of an instruction at this offset, where its jump is wide or not
     abbrev pub written : (at : ℕ) → (wide : Bool) → NInsn → List ℕ
     written at wide (insns.Op op) = op ∷ []
     written at wide (insns.Push op value) = with_one op (bits value)

@@ -5,6 +5,7 @@ use Rattle.std.specs.Hash as writes
 use Rattle.cjc_export.specs.declared.constants.Kind.{Kind}
 use Rattle.cjc_export.specs.declared.constants.Kind.TheVariants as kinds
 
+-- a constant: a text, a number, a class by its name, or the package itself
 pub data Constant : Type 0 where
   text : List ℕ → Constant
   -- a number by its 32 bits

@@ -2,6 +2,7 @@
 use Rattle.std.specs.Prelude.{ℕ, ℤ, Bool, List}
 use Rattle.cjc_export.specs.declared.pool.Index.{Index}
 
+-- an entry: its tag and what it says; an index comes with the place where it stands
 pub data Entry : Type 0 where
   text : List ℕ → Entry
   integer : ℤ → Entry

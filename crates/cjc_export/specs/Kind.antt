@@ -4,6 +4,7 @@ use Rattle.cjc_export.specs.declared.pool.Kind.{Kind}
 use Rattle.cjc_export.specs.declared.pool.Kind.TheVariants as kinds
 use Rattle.cjc_export.specs.Entry.{Entry, text, integer, class, package_info}
 
+-- the entry of the constant pool that the code's kind is
 abbrev pub entry_of : Kind → Entry
 entry_of (kinds.Text bytes) = text bytes.now
 entry_of (kinds.Integer n) = integer n

@@ -14,15 +14,19 @@ in_32_bits None = None
 abbrev pub name_place : List ExportClass → List ℕ → Option ℕ
 name_place classes name = position (λ c. bytes_eq c.name name) classes
 
+-- the first class of a token
 abbrev pub token_place : List ExportClass → ℕ → Option ℕ
 token_place classes token = position (λ c. c.token == token) classes
 
+-- the first field of this name and descriptor
 abbrev pub field_place : List ExportField → List ℕ → List ℕ → Option ℕ
 field_place fields name desc = position (λ f. bytes_eq f.name name && bytes_eq f.desc desc) fields
 
+-- the first method of this name and descriptor
 abbrev pub method_place : List ExportMethod → List ℕ → List ℕ → Option ℕ
 method_place methods name desc = position (λ m. bytes_eq m.name name && bytes_eq m.desc desc) methods
 
+-- the first place, or the second where there is no first
 abbrev pub or_else : Option ℕ → Option ℕ → Option ℕ
 or_else (Some i) second = Some i
 or_else None second = second

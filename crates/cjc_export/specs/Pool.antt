@@ -9,6 +9,7 @@ use Rattle.cjc_export.specs.declared.pool.Tag.TheVariants as tags
 use Rattle.cjc_bytes.specs.AccessFlags.{has}
 use Rattle.cjc_export.specs.Entry.{Entry, text, integer, class, package_info}
 
+-- the tags that there are: CONSTANT_Utf8, CONSTANT_Integer, CONSTANT_Classref and CONSTANT_Package
 abbrev pub tag_of : ℕ → Option Tag
 tag_of n =
     if n == 1 then Some tags.Utf8
@@ -58,11 +59,13 @@ content tags.Package = do
   aid ← raw n
   gives (package_info (is_library flags) name minor major aid)
 
+-- an entry of the pool: its tag and what stands behind it
 unfoldable pub entry : Format Entry
 entry = number w8 tag_of >>= content
 
 -- ---- what the entries mean
 
+-- the bytes of a CONSTANT_Utf8
 abbrev pub as_text : Entry → Option (List ℕ)
 as_text (text bytes) = Some bytes
 as_text _ = None
@@ -75,11 +78,13 @@ text_at pool i = option_and_then as_text (slice_get pool i)
 unfoldable pub tested_name : List Entry → Index → Result Unit ℕ
 tested_name pool name = kept name.at (text_at pool name.to) >>> λ n. Ok tt
 
+-- the name of a class or package is a text of the pool; else the place of the name's index
 unfoldable pub tested : List Entry → Entry → Result Unit ℕ
 tested pool (class name) = tested_name pool name
 tested pool (package_info library name minor major aid) = tested_name pool name
 tested pool _ = Ok tt
 
+-- the index of the name of a CONSTANT_Classref
 abbrev pub as_class : Entry → Option Index
 as_class (class name) = Some name
 as_class _ = None

@@ -64,6 +64,7 @@ is_virtual m = not (is_static m.flags || is_private m.flags || bytes_eq m.name (
 abbrev pub virtual_method : (token : ℕ) → ExportClass → Option ExportMethod
 virtual_method token c = find (λ m. is_virtual m && (m.token == token)) c.methods
 
+-- it lists a virtual method with this token
 abbrev pub lists_virtual : (token : ℕ) → ExportClass → Bool
 lists_virtual token c = list_any (λ m. is_virtual m && (m.token == token)) c.methods
 

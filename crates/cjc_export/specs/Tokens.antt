@@ -4,10 +4,12 @@ use Rattle.std.specs.List.{list_all}
 use Rattle.cjc_export.specs.declared.tree.ExportClass.{ExportClass}
 use Rattle.cjc_export.specs.declared.tree.ExportTree.{ExportTree}
 
+-- one of the classes has the token
 abbrev pub has_token : ℕ → List ExportClass → Bool
 has_token token [] = false
 has_token token (c ∷ classes) = c.token == token || has_token token classes
 
+-- no two of the classes have the same token
 abbrev pub own_tokens : List ExportClass → Bool
 own_tokens [] = true
 own_tokens (c ∷ classes) = not (has_token c.token classes) && own_tokens classes

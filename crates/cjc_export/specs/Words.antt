@@ -1,6 +1,7 @@
 -- Words on numbers and flags that the tables use.
 use Rattle.std.specs.Prelude.{ℕ, Bool, true, false, nat_lt, ◌==◌, if◌then◌else◌, Option, Some, None, Result, Ok, Err, bit_and}
 
+-- the one number that may stand there
 abbrev pub exactly : ℕ → ℕ → Option ℕ
 exactly m n = if n == m then Some n else None
 

@@ -14,6 +14,7 @@ use std::alloc::Global;
 use std::hash::{Hash, Hasher};
 use std::marker::Model;
 
+/// A constant, as the code keeps it.
 #[derive(Drop)]
 pub(crate) enum Kind<'a> {
     Text(&'a [u8]),
@@ -38,6 +39,7 @@ impl<'a> Model for Constant<'a> {
 }
 
 impl<'a> Constant<'a> {
+    /// The constant that is this text.
     pub(crate) fn text(bytes: &'a [u8]) -> Constant<'a>
         ensures { result ≡ text bytes.now }
     {
@@ -46,6 +48,7 @@ impl<'a> Constant<'a> {
         }
     }
 
+    /// The constant that is the number of these 32 bits.
     pub(crate) fn integer(bits: u32) -> Constant<'a>
         ensures { result ≡ integer bits }
     {
@@ -54,6 +57,7 @@ impl<'a> Constant<'a> {
         }
     }
 
+    /// The constant that is the class of this name.
     pub(crate) fn class(name: &'a [u8]) -> Constant<'a>
         ensures { result ≡ class name.now }
     {
@@ -62,6 +66,7 @@ impl<'a> Constant<'a> {
         }
     }
 
+    /// The constant that is the package that is described.
     pub(crate) fn this() -> Constant<'a>
         ensures { result ≡ this }
     {
@@ -119,6 +124,7 @@ impl<'a> Model for Pool<'a> {
 }
 
 impl<'a> Pool<'a> {
+    /// No constants so far.
     pub(crate) fn new(alloc: Global) -> Pool<'a>
         ensures { result ≡ [] }
     {

@@ -13,6 +13,7 @@ use crate::tree::{ExportField, ExportMethod};
 use cjc_bytes::{Bytes, Cursor, Desc, Row, Stop, is_final, is_static};
 use std::alloc::Global;
 
+/// Reads an index of the constant pool, and answers the text that it names.
 #[tactic(auto, unfolding(crate::specs::Members::text_field))]
 pub(crate) fn read_text<'a>(pool: &[Entry<'a>], cursor: &mut Cursor<'_>) -> Result<&'a [u8], Stop>
     ensures { Reads (λ bytes. bytes.now) (text_field pool.now) cursor.old cursor.new result }
@@ -22,6 +23,7 @@ pub(crate) fn read_text<'a>(pool: &[Entry<'a>], cursor: &mut Cursor<'_>) -> Resu
     text_at(pool, index).ok_or(Stop::Broken(at))
 }
 
+/// Reads an index of the constant pool, and answers the name of the class that it names.
 #[tactic(auto, unfolding(crate::specs::Members::class_field))]
 pub(crate) fn read_class<'a>(pool: &[Entry<'a>], cursor: &mut Cursor<'_>) -> Result<&'a [u8], Stop>
     ensures { Reads (λ bytes. bytes.now) (class_field pool.now) cursor.old cursor.new result }
@@ -220,6 +222,7 @@ fn read_field(
     })
 }
 
+/// Reads so many fields of a class. Which token a field may have depends on those before it.
 #[tactic(auto, using(crate::proofs::Grown::grown_more, cjc_bytes::proofs::Loops::iterated_all))]
 pub(crate) fn read_fields(
     alloc: Global,
@@ -366,6 +369,7 @@ fn read_method(
     }
 }
 
+/// Reads so many methods of a class or an interface. Which token a method may have depends on those before it.
 #[tactic(auto, using(crate::proofs::Grown::grown_more, cjc_bytes::proofs::Loops::iterated_all))]
 pub(crate) fn read_methods(
     alloc: Global,

@@ -28,6 +28,7 @@ fn need_classes<'a>(names: &'a [Bytes], pool: &mut Pool<'a>) -> Result<(), NoMem
     Ok(())
 }
 
+/// The name of the attribute that holds a constant's value.
 #[tactic(auto, unfolding(crate::specs::Written::value_name))]
 pub(crate) fn value_name<'a>() -> Constant<'a>
     ensures { result ≡ value_name }

@@ -27,6 +27,7 @@ enum Tag {
     Package,
 }
 
+/// An entry of the pool, as the code keeps it.
 #[derive(Drop)]
 pub(crate) enum Kind<'a> {
     Text(&'a [u8]),
@@ -122,6 +123,7 @@ fn read_entry<'a>(cursor: &mut Cursor<'a>) -> Result<Entry<'a>, Stop>
     }
 }
 
+/// Reads so many entries of the constant pool.
 #[tactic(auto, using(cjc_bytes::proofs::Loops::repeated_more, cjc_bytes::proofs::Loops::repeated_stops, cjc_bytes::proofs::Loops::repeated_all, cjc_bytes::proofs::Loops::with_none))]
 pub(crate) fn read_pool<'a>(
     alloc: Global,
@@ -137,6 +139,7 @@ pub(crate) fn read_pool<'a>(
     Ok(pool)
 }
 
+/// The text at an index of the constant pool, if there is one.
 #[tactic(auto, unfolding(crate::specs::Pool::text_at))]
 pub(crate) fn text_at<'a>(pool: &[Entry<'a>], index: u16) -> Option<&'a [u8]>
     ensures text { option_copied result ≡ text_at pool.now index }
@@ -149,6 +152,7 @@ pub(crate) fn text_at<'a>(pool: &[Entry<'a>], index: u16) -> Option<&'a [u8]>
     }
 }
 
+/// The name of the class at an index of the constant pool, if there is one.
 #[tactic(auto, unfolding(crate::specs::Pool::class_name_at))]
 pub(crate) fn class_name_at<'a>(pool: &[Entry<'a>], index: u16) -> Option<&'a [u8]>
     ensures { option_copied result ≡ class_name_at pool.now index }

@@ -33,6 +33,7 @@ pub(crate) fn is_exposed(flags: u16) -> bool
     is_public(flags) || is_protected(flags)
 }
 
+/// Whether a method of this name is a class initialiser.
 pub(crate) fn is_initialiser(name: &[u8]) -> bool
     ensures { result ≡ is_initialiser name.now }
 {

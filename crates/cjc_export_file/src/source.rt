@@ -56,6 +56,7 @@ fn class_in<'w, 'a>(classes: &[Known<'w, 'a>], number: u32) -> Option<Known<'w, 
 }
 
 impl<'w, 'a> Source<'w, 'a> {
+    /// What an export file is made from: a list, its world, and the tokens of the package.
     pub(crate) fn new(
         alloc: Global,
         list: &'w List,

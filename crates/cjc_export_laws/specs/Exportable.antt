@@ -47,6 +47,7 @@ pub record ListIsRead (list : ListTree) : Type 0 where
 
 -- ---- the package
 
+-- a package whose list and files can be told in an export file, and that breaks none of 202, 401, 406, 413 and 414
 pub record IsExportable (p : Package) : Type 0 where
   pub list : ListIsRead p.list
   pub classes : (n : ℕ) (c : ClassTree) → slice_get (let files = p.files in files.classes) n ≡ Some c → ClassIsRead c

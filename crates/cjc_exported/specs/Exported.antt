@@ -12,6 +12,7 @@ use Rattle.cjc_sentences.specs.Complete.{Complete}
 use Rattle.cjc_sentences.specs.Exports.{class_for, in_exported}
 use Rattle.cjc_sentences.specs.Members.{is_cell_at, is_constructor}
 
+-- where the offsets of an exported class are broken, beside the class of Descriptor with its token and start
 abbrev pub exported_spot : Complete → (token at : ℕ) → ExportedClass → List Spot
 exported_spot c token at e = in_exported c at e (class_for c token e.class_offset)
 
@@ -33,6 +34,7 @@ abbrev pub place_from : (at : ℕ) → List ClassDescriptor → (token offset : 
 place_from at [] token offset = None
 place_from at (d ∷ classes) token offset = if d.token == token && is_inside d.this_class offset then Some at else place_from (at + 1) classes token offset
 
+-- the place of the first class of Descriptor with this token and this start
 abbrev pub first_place : List ClassDescriptor → (token offset : ℕ) → Option ℕ
 first_place classes token offset = place_from 0 classes token offset
 

@@ -61,6 +61,7 @@ CellsAreDescribed p = length (cell_order p.image) ≤ sum_by (λ (c : Class). le
 
 -- ---- the package
 
+-- a package that keeps the limits of what is written for it: in its list, classes, methods and components
 pub record IsLimited (p : Package) : Type 0 where
   pub list : ListIsShort p.list
   -- the list has at most 128 export files, and they are of their format

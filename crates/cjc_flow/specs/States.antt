@@ -3,6 +3,7 @@ use Rattle.std.specs.Prelude.{List, Option, Some, None}
 use Rattle.cjc_range.specs.Span.{Span}
 use Rattle.cjc_range_flow.specs.Frames.{StackOf, Cells, Clash}
 
+-- the stack of the intervals that are kept, or a clash where there are none
 abbrev pub stack_in : Option (List Span) → StackOf Span
 stack_in None = Clash
 stack_in (Some cells) = Cells cells

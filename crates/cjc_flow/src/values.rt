@@ -29,6 +29,7 @@ pub(crate) fn exact_short(number: i16) -> Interval
     exact(i32::from(number))
 }
 
+/// The numbers of a boolean.
 pub(crate) fn boolean() -> Interval
     ensures { result ≡ boolean_range }
 {

@@ -44,6 +44,7 @@ unfoldable pub component_breaks : (tags : List ℕ) → List (List ℕ) → List
 component_breaks (tag ∷ tags) (bytes ∷ files) = break_in 106 (component_place tag) (read_component tag bytes) ++ component_breaks tags files
 component_breaks _ _ = []
 
+-- 106: Header, Directory and the other components that Directory says are there
 abbrev pub part_breaks : Parts → List Break
 part_breaks p = component_breaks (1 ∷ 2 ∷ p.tags) (p.header ∷ p.directory ∷ p.others)
 
@@ -58,6 +59,7 @@ file_breaks f = unless_broken (export_breaks (export_places 0 f.list.lines) f.ex
 
 -- ---- what the files say, where none breaks
 
+-- what a file says, if it does not break its format
 abbrev pub kept_tree : {A : Type 0} → Result A ℕ → List A
 kept_tree (Ok tree) = tree ∷ []
 kept_tree (Err place) = []
@@ -96,6 +98,7 @@ with_component cap tag x =
     else if tag == 10 then record cap { export = export_of x }
     else record cap { descriptor = descriptor_of x }
 
+-- with what was read as the component of a tag; unchanged where its format is broken
 abbrev pub with_read : CapTree → (tag : ℕ) → Result Component ℕ → CapTree
 with_read cap tag (Ok x) = with_component cap tag x
 with_read cap tag (Err place) = cap
@@ -105,6 +108,7 @@ unfoldable pub with_components : CapTree → (tags : List ℕ) → List (List �
 with_components cap (tag ∷ tags) (bytes ∷ files) = with_components (with_read cap tag (read_component tag bytes)) tags files
 with_components cap _ _ = cap
 
+-- the components, where Header and Directory were read
 abbrev pub cap_of : (header directory : Result Component ℕ) → (tags : List ℕ) → List (List ℕ) → Option CapTree
 cap_of (Ok (components.Header h)) (Ok (components.Directory d)) tags files = Some (with_components (front h d) tags files)
 cap_of _ _ tags files = None
@@ -119,11 +123,13 @@ cap_in p = cap_of (read_component 1 p.header) (read_component 2 p.directory) p.t
 abbrev pub IsShort : List ℕ → Type 0
 IsShort bytes = length bytes < 2 ^ 32
 
+-- so it is with the file of each component
 pub record ArePartsShort (p : Parts) : Type 0 where
   pub header : IsShort p.header
   pub directory : IsShort p.directory
   pub others : All IsShort p.others
 
+-- so it is with each export file and the file of each component
 pub record AreShort (f : Folder) : Type 0 where
   pub exports : All IsShort f.exports
   pub parts : ArePartsShort f.parts

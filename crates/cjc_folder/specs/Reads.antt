@@ -61,16 +61,19 @@ plan_of_others dir header directory = do
   others ← read_each (map (component_name dir) (tags_of directory))
   has (record { header = header; directory = directory; tags = tags_of directory; others = others })
 
+-- behind Header, Directory and then the components that it says are there
 abbrev pub plan_behind_header : (dir header : List ℕ) → Plan Parts
 plan_behind_header dir header = do
   directory ← read (component_name dir 2)
   plan_of_others dir header directory
 
+-- all components of a folder, Header first
 abbrev pub plan_of_parts : (dir : List ℕ) → Plan Parts
 plan_of_parts dir = do
   header ← read (component_name dir 1)
   plan_behind_header dir header
 
+-- behind the export files, the components of the folder
 abbrev pub plan_behind_exports : (dir : List ℕ) → ListTree → List (List ℕ) → Plan Folder
 plan_behind_exports dir list exports = do
   parts ← plan_of_parts dir
@@ -82,6 +85,7 @@ plan_behind_list dir list = do
   exports ← read_each (export_names list.lines)
   plan_behind_exports dir list exports
 
+-- what is read behind the text of a list, unless the text is refused
 abbrev pub plan_behind_text : (name dir text : List ℕ) → Plan Folder
 plan_behind_text name dir text = do
   list ← unless_refused (listed name text)

@@ -24,9 +24,11 @@ by_token test classes = map (λ token. map (test token) classes) all_tokens
 abbrev pub has_field : List ExportClass → (token : ℕ) → ExportClass → Bool
 has_field classes token c = lists_field token c || list_any (lists_field token) (upwards classes c.supers)
 
+-- the class itself lists a static method or constructor with this token
 abbrev pub static_method : (token : ℕ) → ExportClass → Bool
 static_method token c = has_static_method (Some c) token
 
+-- the class itself lists a static field with this token that is no constant
 abbrev pub static_field : (token : ℕ) → ExportClass → Bool
 static_field token c = has_static_field (Some c) token
 
@@ -35,6 +37,7 @@ abbrev pub file_starts : (from : ℕ) → List ExportTree → List ℕ
 file_starts from [] = []
 file_starts from (t ∷ exports) = from ∷ file_starts (from + length t.classes) exports
 
+-- the answers kept are those of the classes of these export files, and the starts those of the files
 pub record AreTokens (exports : List ExportTree) (t : Tokens) : Type 0 where
   pub starts : t.starts ≡ file_starts 0 exports
   pub virtuals : t.virtuals ≡ by_token (has_virtual (classes_of exports)) (classes_of exports)

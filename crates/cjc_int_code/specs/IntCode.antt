@@ -61,6 +61,7 @@ is_short _ = false
 abbrev pub widened : Sort → List NInsn
 widened sort = if is_short sort then Op 0x5C ∷ [] else []
 
+-- i2s in front of a store or a hand-over of a value of such a type
 abbrev pub narrowed : Sort → List NInsn
 narrowed sort = if is_short sort then Op 0x5E ∷ [] else []
 
@@ -74,10 +75,12 @@ abbrev pub loads : (reference : Bool) → (word : ℕ) → List NInsn
 loads false n = local 0x20 0x17 n
 loads true n = local 0x18 0x15 n
 
+-- istore or astore of the word; an istore takes the word behind it too
 abbrev pub stores : (reference : Bool) → (word : ℕ) → List NInsn
 stores false n = local 0x33 0x2A n
 stores true n = local 0x2B 0x28 n
 
+-- a type whose values are references
 abbrev pub is_reference : Sort → Bool
 is_reference (Reference shape) = true
 is_reference _ = false
@@ -94,6 +97,7 @@ abbrev pub moved_from : Frame → (word l : ℕ) → List Sort → List NInsn
 moved_from f word l [] = []
 moved_from f word l (sort ∷ sorts) = moved f sort word l ++ moved_from f (word + widths (sort ∷ [])) (l + 1) sorts
 
+-- the arguments go to the locals of the class file, from the first word and the first local on
 abbrev pub prologue : Frame → List NInsn
 prologue f = moved_from f 0 0 f.params
 
@@ -113,6 +117,7 @@ element_read op = if op == 0x2E then Op 0x27 ∷ [] else (if op == 0x32 then Op 
 abbrev pub index_of_one : (inside : Bool) → (here : ℕ) → List NInsn
 index_of_one inside here = Words 0x40 1 2 ∷ (guard inside (here + 1) ++ Words 0x40 1 1 ∷ [])
 
+-- the same with a value of two words
 abbrev pub index_of_two : (inside : Bool) → (here : ℕ) → List NInsn
 index_of_two inside here = Words 0x40 2 2 ∷ (guard inside (here + 1) ++ Words 0x40 1 2 ∷ [])
 
@@ -160,16 +165,20 @@ table_cases place low (t ∷ targets) = record { value = low; target = place t }
 
 -- ---- fields and calls
 
+-- a constant is pushed; any other static field is read, and widened where it has one word
 abbrev pub static_get : Resolution → MemberId → Option ℤ → List NInsn
 static_get r f (Some z) = pushed z ∷ []
 static_get r f None = let sort = field_sort f.desc in Named (static_access false sort) (keys.StaticField (r.field f)) ∷ widened sort
 
+-- a static field is written, with i2s before where it has one word
 abbrev pub static_put : Resolution → MemberId → List NInsn
 static_put r f = let sort = field_sort f.desc in narrowed sort ++ Named (static_access true sort) (keys.StaticField (r.field f)) ∷ []
 
+-- an instance field is read, and widened where it has one word
 abbrev pub field_get : Resolution → MemberId → List NInsn
 field_get r f = let sort = field_sort f.desc in Named (field_access false (r.is_near f) sort) (keys.Field (r.field f)) ∷ widened sort
 
+-- an instance field is written, with i2s before where it has one word
 abbrev pub field_put : Resolution → MemberId → List NInsn
 field_put r f = let sort = field_sort f.desc in narrowed sort ++ Named (field_access true (r.is_near f) sort) (keys.Field (r.field f)) ∷ []
 
@@ -191,14 +200,17 @@ abbrev pub taken_back : Frame → (number : ℕ) → List Sort → List NInsn
 taken_back f j [] = []
 taken_back f j (sort ∷ sorts) = loads (is_reference sort) (scratch f j) ++ narrowed sort ++ taken_back f (j + 1) sorts
 
+-- how the parameters of a call are cut: by scratch pairs, by i2s of the last alone, or not at all
 abbrev pub handed_over : Frame → List Sort → List NInsn
 handed_over f params =
     if is_by_scratch params then put_aside f 0 params ++ taken_back f 0 params else (if list_any is_short params then Op 0x5E ∷ [] else [])
 
+-- s2i behind a call whose result has one word
 abbrev pub widened_result : Option Sort → List NInsn
 widened_result None = []
 widened_result (Some sort) = widened sort
 
+-- a call, with its parameters cut before it and its result widened behind it, where its descriptor can be read
 abbrev pub called_with : Frame → Resolution → (op : ℕ) → MemberId → Option Signature → List NInsn
 called_with f r op m None = call_by r op m
 called_with f r op m (Some types) = handed_over f types.params ++ call_by r op m ++ widened_result types.result
@@ -250,6 +262,7 @@ abbrev pub place_from : Frame → Resolution → List Reached → (offset : ℕ)
 place_from f r [] offset = 0
 place_from f r (i ∷ reached) offset = (if nat_lt (let j = i.insn in j.at) offset then size f r i else 0) + place_from f r reached offset
 
+-- the place of what is written for an offset, behind the prologue
 abbrev pub place_in : Frame → Resolution → List Reached → (offset : ℕ) → ℕ
 place_in f r reached offset = length (prologue f) + place_from f r reached offset
 
@@ -269,6 +282,7 @@ abbrev pub scratch_pairs_by : Option Signature → ℕ
 scratch_pairs_by None = 0
 scratch_pairs_by (Some types) = if is_by_scratch types.params then length types.params else 0
 
+-- the scratch pairs of an instruction: those of a call, else none
 abbrev pub scratch_pairs_of : JOp → ℕ
 scratch_pairs_of (jop.Call op m) = scratch_pairs_by (signature_of m.desc)
 scratch_pairs_of _ = 0
@@ -280,10 +294,12 @@ scratch_pairs (i ∷ reached) = let j = i.insn in max (scratch_pairs_of j.op) (s
 
 -- ---- the widest sizes, in bytes
 
+-- the number of parameters of a descriptor, 0 where it cannot be read
 abbrev pub params_by : Option Signature → ℕ
 params_by None = 0
 params_by (Some types) = length types.params
 
+-- the most bytes that what is written for an instruction can have
 abbrev pub widest : JOp → ℕ
 widest jop.Nop = 0
 widest jop.Null = 1

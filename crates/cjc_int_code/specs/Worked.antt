@@ -19,9 +19,11 @@ reached at op references = record { insn = record { at = at; op = op }; before =
 
 -- ---- a short: whether a + 1 is less than 10
 
+-- a short in, a short out, one local
 abbrev pub is_less_frame : Frame
 is_less_frame = record { params = Short ∷ []; result = Some Short; max_locals = 1 }
 
+-- its instructions in the class file
 abbrev pub is_less : List Reached
 is_less =
     reached 0 (jop.Load false 0) []
@@ -45,12 +47,15 @@ is_less_written =
 
 -- ---- an element of a byte array at an int
 
+-- the type of an array of bytes
 abbrev pub bytes : Sort
 bytes = Reference (OfNumbers Bytes)
 
+-- a byte array and an int in, a byte out, two locals
 abbrev pub element_frame : Frame
 element_frame = record { params = bytes ∷ Int ∷ []; result = Some Byte; max_locals = 2 }
 
+-- its instructions in the class file
 abbrev pub element : List Reached
 element =
     reached 0 (jop.Load true 0) []
@@ -70,9 +75,11 @@ element_written =
 
 -- ---- a loop over a byte array up to a short
 
+-- a byte array and a short in, a byte out, three locals
 abbrev pub loop_frame : Frame
 loop_frame = record { params = bytes ∷ Short ∷ []; result = Some Byte; max_locals = 3 }
 
+-- its instructions in the class file
 abbrev pub loop : List Reached
 loop =
     reached 0 (jop.Number (pos 0)) []
@@ -109,5 +116,6 @@ loop_written =
 abbrev pub call : (desc : List ℕ) → JOp
 call desc = jop.Call 0xB8 (id (codes "p/T") (codes "m") desc)
 
+-- no parameters, no result and no locals
 abbrev pub call_frame : Frame
 call_frame = record { params = []; result = None; max_locals = 0 }

@@ -45,6 +45,7 @@ use Rattle.cjc_judge.specs.Spelt.{FileTree, SpellTrees, classes_of, exports_of}
 abbrev pub CodeBreaks : ClassTree → (method rule offset : ℕ) → Type 0
 CodeBreaks tree method rule offset = decoding_at tree method ≡ Err (record { rule = rule; offset = offset })
 
+-- the refusal of this rule at this offset of a method's code, in the file of this line
 abbrev pub code_refusal : (line : FileLine) → ClassTree → (method rule offset : ℕ) → Refusal
 code_refusal line tree method rule offset = decoded.refusal_of line.name tree method (record { rule = rule; offset = offset })
 
@@ -61,6 +62,7 @@ pub data FileBreach (line : FileLine) (bytes : List ℕ) : Type 0 where
   -- 104: the bytes spell no export file
   no_export_file : (place : ℕ) → line.class_file ≡ false → FileBreaks export_file bytes place → FileBreach line bytes
 
+-- the refusal that tells the breach, in the file of this line
 abbrev pub file_refusal : (line : FileLine) (bytes : List ℕ) → FileBreach line bytes → Refusal
 file_refusal line bytes (no_class_file place is breaks) = refusal_at line.name bytes place
 file_refusal line bytes (no_instructions tree method offset is spelt breaks) = code_refusal line tree method 103 offset
@@ -85,6 +87,7 @@ pub record FileAt (lines : List FileLine) (files : List (List ℕ)) (index : ℕ
 abbrev pub file_break : (index : ℕ) (line : FileLine) (bytes : List ℕ) → FileBreach line bytes → Break
 file_break index line bytes breach = record { rank = file_rank index line bytes breach; refusal = file_refusal line bytes breach }
 
+-- a line's file breaks one of 101 to 104 by itself
 abbrev pub BreaksFile : List FileLine → List (List ℕ) → Break → Type 0
 BreaksFile lines files b = (index : ℕ) × (at : FileAt lines files index) × (breach : FileBreach at.line at.bytes) × (b ≡ file_break index at.line at.bytes breach)
 
@@ -92,9 +95,11 @@ BreaksFile lines files b = (index : ℕ) × (at : FileAt lines files index) × (
 abbrev pub world_files : ListTree → List ClassTree → List ExportTree → Files
 world_files list classes exports = files_of list.«package» list.lines classes exports
 
+-- the package and its world by a list and what its files spell
 abbrev pub files_spelt : ListTree → List FileTree → Files
 files_spelt list trees = world_files list (classes_of trees) (exports_of trees)
 
+-- the classes and the export files together break one of 201, 202, 203, 204, 207 and 208
 abbrev pub BreaksWorld : ListTree → List (List ℕ) → Break → Type 0
 BreaksWorld list files b = (trees : List FileTree) × SpellTrees list.lines files trees × Among b (breaks list.name (files_spelt list trees))
 
@@ -110,9 +115,11 @@ BreaksNames list files b = (trees : List FileTree) × AreWorld list files trees 
 unfoldable pub foreign_break : Files → Foreign → List Break
 foreign_break files x = of_code files x.class x.method (λ f c m. broken_at (at_method f c x.method m x.offset) 303 ∷ [])
 
+-- of all methods that have such an instruction
 unfoldable pub foreign_breaks : Files → List Foreign → List Break
 foreign_breaks files xs = each (λ _ x. foreign_break files x) xs
 
+-- a method of the package has an instruction that is not converted
 abbrev pub BreaksForeign : ListTree → List (List ℕ) → Break → Type 0
 BreaksForeign list files b = (trees : List FileTree) × SpellTrees list.lines files trees × Among b (foreign_breaks (files_spelt list trees) (all_foreigns (classes_of trees)))
 
@@ -120,6 +127,7 @@ BreaksForeign list files b = (trees : List FileTree) × SpellTrees list.lines fi
 abbrev pub settings_of : ListTree → Settings
 settings_of list = record { ints = list.ints; applets = list.applets }
 
+-- the package breaks one of 301 to 310 but 303, or of 401 to 409, under the settings of its list
 abbrev pub BreaksSubset : ListTree → List (List ℕ) → Break → Type 0
 BreaksSubset list files b = (trees : List FileTree) × AreWorld list files trees × Among b (check_breaks list.name (files_spelt list trees) (all_codes (classes_of trees)) (settings_of list))
 
@@ -127,6 +135,7 @@ BreaksSubset list files b = (trees : List FileTree) × AreWorld list files trees
 abbrev pub has_applets : ListTree → Bool
 has_applets list = nat_lt 0 (length list.applets)
 
+-- the package breaks 413
 abbrev pub BreaksTokens : ListTree → List (List ℕ) → Break → Type 0
 BreaksTokens list files b = (trees : List FileTree) × AreWorld list files trees × Among b (tested_breaks (has_applets list) (files_spelt list trees))
 
@@ -134,6 +143,7 @@ BreaksTokens list files b = (trees : List FileTree) × AreWorld list files trees
 abbrev pub IsOfThirdHundred : Break → Type 0
 IsOfThirdHundred b = b.rank.family ≡ 3
 
+-- the package breaks one of 301, 302, 304 to 307, 309 and 310
 abbrev pub BreaksLanguage : ListTree → List (List ℕ) → Break → Type 0
 BreaksLanguage list files b = BreaksSubset list files b × IsOfThirdHundred b
 
@@ -163,12 +173,15 @@ pub record BreaksMethod (Breaks : Files → Body → BrokenAt → Type 0) (files
 abbrev pub HasWrongTypes : Files → Body → BrokenAt → Type 0
 HasWrongTypes files b broken = IsBrokenBy (all_classes files) b broken
 
+-- a method of the package breaks one of 501 to 503
 abbrev pub BreaksType : Files → MethodCode → Break → Type 0
 BreaksType files code b = BreaksMethod HasWrongTypes files code b
 
+-- some one of these methods breaks one of 501 to 503
 abbrev pub BreaksAnyType : Files → List MethodCode → Break → Type 0
 BreaksAnyType files codes b = AnyBreaks (BreaksType files) codes b
 
+-- some method of the package breaks one of 501 to 503
 abbrev pub BreaksTypes : ListTree → List (List ℕ) → Break → Type 0
 BreaksTypes list files b = (trees : List FileTree) × AreWorld list files trees × BreaksAnyType (files_spelt list trees) (all_codes (classes_of trees)) b
 
@@ -176,9 +189,11 @@ BreaksTypes list files b = (trees : List FileTree) × AreWorld list files trees 
 abbrev pub BreaksRange : Files → MethodCode → Break → Type 0
 BreaksRange files code b = BreaksMethod IsOutOfRange files code b
 
+-- some one of these methods breaks one of 601 to 609
 abbrev pub BreaksAnyRange : Files → List MethodCode → Break → Type 0
 BreaksAnyRange files codes b = AnyBreaks (BreaksRange files) codes b
 
+-- some method of the package breaks one of 601 to 609
 abbrev pub BreaksRanges : ListTree → List (List ℕ) → Break → Type 0
 BreaksRanges list files b = (trees : List FileTree) × AreWorld list files trees × BreaksAnyRange (files_spelt list trees) (all_codes (classes_of trees)) b
 
@@ -227,6 +242,7 @@ IsFirstFault Breaks e = (e ≡ faults.NoMemory) ⊎ ((r : Refusal) × IsFirstRef
 abbrev pub IsListOf : (Break → Type 0) → List Break → Type 0
 IsListOf Breaks bs = (b : Break) → (Among b bs → Breaks b) × (Breaks b → Among b bs)
 
+-- some list has exactly these breaks, and this is the first of it, if it has one
 abbrev pub IsFirstIn : (Break → Type 0) → Option Break → Type 0
 IsFirstIn Breaks o = (bs : List Break) × IsListOf Breaks bs × FirstOfList bs o
 

@@ -33,6 +33,7 @@ asks_types groups.Types = true
 asks_types groups.Ranges = true
 asks_types _ = false
 
+-- 601 to 609 alone ask for the intervals of numbers
 abbrev pub asks_ranges : Group → Bool
 asks_ranges groups.Ranges = true
 asks_ranges _ = false

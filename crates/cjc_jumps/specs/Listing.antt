@@ -4,9 +4,11 @@ use Rattle.cjc_capread.specs.declared.tree.Handler.{Handler}
 use Rattle.cjc_sentences.specs.Instructions.{IndexOperand}
 use Rattle.cjc_sentences.specs.Locations.{catch_places, distances, places_of}
 
+-- the distances of the indices of one byte
 abbrev pub wanted_ones : List IndexOperand → List ℕ
 wanted_ones indices = distances 0 (places_of 1 indices)
 
+-- the distances of the indices of two bytes: catch indices, then those of instructions
 abbrev pub wanted_twos : List Handler → List IndexOperand → List ℕ
 wanted_twos handlers indices = distances 0 (catch_places 1 handlers ++ places_of 2 indices)
 

@@ -17,6 +17,7 @@ offsets_in Counted numbers = numbers
 offsets_in Short numbers = pair_offsets numbers
 offsets_in Int numbers = pair_offsets numbers
 
+-- the shape is that of stableswitch, itableswitch, slookupswitch or ilookupswitch
 abbrev pub is_switch : Shape → Bool
 is_switch ShortTable = true
 is_switch IntTable = true
@@ -29,10 +30,12 @@ abbrev pub index_in : Option Form → List ℤ → Option ℕ
 index_in (Some (Fields kinds)) values = index_among kinds values
 index_in _ values = None
 
+-- how far behind its opcode an index stands by the form, 0 without a form
 abbrev pub index_place_in : Option Form → ℕ
 index_place_in None = 0
 index_place_in (Some f) = (info f).index_at
 
+-- how many bytes an index has by the form, 0 without a form
 abbrev pub index_size_in : Option Form → ℕ
 index_size_in None = 0
 index_size_in (Some f) = (info f).index_bytes
@@ -50,9 +53,11 @@ abbrev pub natural : Option ℤ → Option ℕ
 natural (Some (pos n)) = Some n
 natural _ = None
 
+-- an index that is kept, as an index of an instruction
 abbrev pub operand_at : IndexAt → IndexOperand
 operand_at x = record { opcode = x.opcode; at = x.at; size = x.size; index = x.index }
 
+-- what is there, as a list of at most one
 abbrev pub optional : {A : Type 0} → Option A → List A
 optional None = []
 optional (Some x) = x ∷ []
@@ -61,6 +66,7 @@ optional (Some x) = x ∷ []
 abbrev pub IsNear : IndexAt → Type 0
 IsNear x = 3 + x.at < 2 ^ 32
 
+-- the places of all these indices have 32 bits
 abbrev pub AreNear : List IndexAt → Type 0
 AreNear xs = (k : ℕ) (d : IndexAt) → k < length xs → IsNear (get_or xs k d)
 

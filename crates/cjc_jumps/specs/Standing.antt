@@ -13,6 +13,7 @@ use Rattle.cjc_sentences.specs.Instructions.{has_start}
 abbrev pub range_ends : Code → Handler → Bool
 range_ends code h = has_start code (h.start + h.length) || h.start + h.length == code.end
 
+-- where a handler by itself is broken: its start, length, target or catch index
 abbrev pub handler_stands : List Code → List PoolEntry → (at : ℕ) → Handler → List Spot
 handler_stands codes entries at h =
     in_code at h (find (λ code. has_start code h.start) codes)

@@ -8,6 +8,7 @@ use Rattle.cjc_tokens.specs.Methods.{with_high_bit}
 use Rattle.cjc_tokens.specs.Slots.{hidden_slots, slots, token}
 use Rattle.cjc_vtable.specs.Calls.{any_method, finds_hidden}
 
+-- a name and a descriptor as a signature
 abbrev pub called : (name desc : List ℕ) → Signature
 called name desc = record { name = name; desc = desc }
 

@@ -26,6 +26,7 @@ pub(crate) enum Name<'a> {
     StaticMethod(&'a MemberId),
 }
 
+/// A key whose names are lent, or one that is kept.
 #[derive(Drop)]
 pub(crate) enum Kind<'a> {
     Lent(Name<'a>),

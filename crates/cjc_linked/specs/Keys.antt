@@ -37,6 +37,7 @@ same_field-Decides a b = (
       ((bytes_eq-Decides a.class b.class).1 (ap (λ x. x.class) e)) ((bytes_eq-Decides a.name b.name).1 (ap (λ x. x.name) e)) ((bytes_eq-Decides a.desc b.desc).1 (ap (λ x. x.desc) e)),
 )
 
+-- being the same field is an equivalence
 pub fields-equivalence : IsEquivalence is_same_field
 fields-equivalence = decided is_same_field same_field-Decides
 
@@ -44,5 +45,6 @@ fields-equivalence = decided is_same_field same_field-Decides
 abbrev pub fed : MemberId → writes.HashWrites
 fed id = writes.slice writes.u8 id.name
 
+-- the same fields are fed to a hasher alike
 pub same-fed : (a b : MemberId) → IsTrue (is_same_field a b) → fed a ≡ fed b
 same-fed a b h = ap fed ((same_field-Decides a b).0 h)

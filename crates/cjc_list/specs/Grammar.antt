@@ -52,6 +52,7 @@ begun name owner digits numbers = do
   version ← version_of numbers
   if is_name owner then Some (record { name = name; «package» = owner; aid = aid; major = version.0; minor = version.1; ints = false; applets = []; lines = [] }) else None
 
+-- the list of this name that begins with a package line of these words: the package, its AID and its version
 unfoldable pub package_of : List ℕ → List (List ℕ) → Option Listing
 package_of name (keyword ∷ owner ∷ digits ∷ numbers ∷ []) = if bytes_eq keyword (codes "package") then begun name owner digits numbers else None
 package_of name _ = None
@@ -75,6 +76,7 @@ item_of _ = None
 abbrev pub class_count : List FileLine → ℕ
 class_count files = count_by (λ f. f.class_file) files
 
+-- how many export files are named
 abbrev pub export_count : List FileLine → ℕ
 export_count files = count_by (λ f. not f.class_file) files
 

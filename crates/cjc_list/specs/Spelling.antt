@@ -46,11 +46,13 @@ AllSay [] (l ∷ ls) = ⊥
 AllSay (i ∷ is) [] = ⊥
 AllSay (i ∷ is) (l ∷ ls) = HasWords l (Says i) × AllSay is ls
 
+-- the applet lines among the items, in order
 abbrev pub applets_of : List Item → List AppletLine
 applets_of [] = []
 applets_of (Applet a ∷ is) = a ∷ applets_of is
 applets_of (File f ∷ is) = applets_of is
 
+-- the class and export lines among the items, in order
 abbrev pub files_of : List Item → List FileLine
 files_of [] = []
 files_of (Applet a ∷ is) = files_of is

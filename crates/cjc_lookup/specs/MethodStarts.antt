@@ -16,6 +16,7 @@ use Rattle.cjc_lookup.specs.Parts.{complete_of}
 abbrev pub is_asked : (only_static : Bool) → MethodDescriptor → Bool
 is_asked only m = not only || is_static m.flags
 
+-- the offset of a method's header, where the method is asked for
 abbrev pub offset_of : (only_static : Bool) → MethodDescriptor → List ℕ
 offset_of only m = if is_asked only m then m.offset ∷ [] else []
 
@@ -28,6 +29,7 @@ offsets_of only (m ∷ methods) = offset_of only m ++ offsets_of only methods
 abbrev pub class_offsets : (only_static : Bool) → ClassInfo → ClassDescriptor → List ℕ
 class_offsets only info d = if is_own_class info d.this_class then offsets_of only d.methods else []
 
+-- of all classes of Descriptor, interfaces left out
 abbrev pub all_offsets : (only_static : Bool) → ClassInfo → List ClassDescriptor → List ℕ
 all_offsets only info [] = []
 all_offsets only info (d ∷ classes) = class_offsets only info d ++ all_offsets only info classes

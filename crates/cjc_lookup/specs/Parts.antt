@@ -2,6 +2,7 @@
 use Rattle.cjc_lookup.specs.declared.parts.Parts.{Parts}
 use Rattle.cjc_sentences.specs.Complete.{Complete}
 
+-- the components that are held, Header and Directory aside
 abbrev pub complete_of : Parts → Complete
 complete_of p = record {
   applet = p.applet.now;

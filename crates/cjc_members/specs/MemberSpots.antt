@@ -7,6 +7,7 @@ use Rattle.cjc_sentences.specs.Complete.{Complete}
 use Rattle.cjc_sentences.specs.PoolEntries.{pool_spots}
 use Rattle.cjc_sentences.specs.Tables.{map_spots}
 
+-- the places kept are the first where interface maps (707) and pool entries (708) are broken
 pub record AreMemberSpots (r : MemberSpots) (c : Complete) (exports : List ExportTree) : Type 0 where
   pub maps : r.maps ≡ first (map_spots c exports)
   pub entries : r.entries ≡ first (pool_spots c exports)

@@ -66,6 +66,7 @@ x = method 0 0 (insns.Op 0x00 ∷ [])
 abbrev pub v : NMethod
 v = method 1 1 (insns.Op 0x05 ∷ insns.Op 0x78 ∷ [])
 
+-- all of these methods
 abbrev pub methods : List NMethod
 methods = f ∷ g ∷ h ∷ e ∷ w ∷ x ∷ v ∷ []
 

@@ -123,6 +123,7 @@ test_of conditions.Always = at_once
 
 -- ---- meanings
 
+-- the kind of a value that an opcode moves: a reference, a byte, a short or an int
 abbrev pub letter_of : LetterData → Letter
 letter_of letters.Reference = Effects.Reference
 letter_of letters.Byte = Effects.Byte
@@ -134,6 +135,7 @@ abbrev pub letter_if : Option LetterData → Option Letter
 letter_if None = None
 letter_if (Some letter) = Some (letter_of letter)
 
+-- a load or a store of an array's element, arraylength, athrow or a return
 abbrev pub access_of : AccessData → Access
 access_of (accesses.Load letter) = Effects.Load (letter_of letter)
 access_of (accesses.Store letter) = Effects.Store (letter_of letter)
@@ -141,11 +143,13 @@ access_of accesses.Length = Effects.Length
 access_of accesses.Throw = Effects.Throw
 access_of (accesses.Return letter) = Effects.Return (letter_if letter)
 
+-- a call by invokevirtual, invokespecial or invokestatic
 abbrev pub mode_of : ModeData → Mode
 mode_of modes.Virtual = Meanings.Virtual
 mode_of modes.Special = Meanings.Special
 mode_of modes.Static = Meanings.Static
 
+-- a use of a pool entry: access to a field, a call, new or anewarray
 abbrev pub use_of : UseData → Use
 use_of (uses.Get this letter) = Meanings.Gets this (letter_of letter)
 use_of (uses.Put this letter) = Meanings.Puts this (letter_of letter)

@@ -30,6 +30,7 @@ use Rattle.cjc_world.specs.Order.{class_order, written}
 abbrev pub method_name : Member → MethodName
 method_name m = record { name = m.name; desc = m.desc }
 
+-- a signature as the name of a method
 abbrev pub signature_name : Signature → MethodName
 signature_name s = record { name = s.name; desc = s.desc }
 
@@ -76,6 +77,7 @@ abbrev pub files_from : (number : ℕ) → List ExportTree → List Import
 files_from k [] = []
 files_from k (t ∷ trees) = OfFile k ∷ files_from (k + 1) trees
 
+-- the classes that Export lists; none where it is absent
 abbrev pub exported_in : Option Export → List ExportedClass
 exported_in None = []
 exported_in (Some e) = e.classes

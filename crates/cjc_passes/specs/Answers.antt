@@ -12,6 +12,7 @@ pub record IsFirstBroken (b : Body) (types : List (Option State)) (ranges : List
   pub first : FirstBreach b types ranges place broken.rule
   pub is : broken.offset ≡ first.breach.insn.at
 
+-- Nothing is answered where each operand lies where its rules say, else the first breach.
 abbrev pub IsFound : Body → List (Option State) → List (Option RangeState) → Option BrokenAt → Type 0
 IsFound b types ranges None = Passes b types ranges
 IsFound b types ranges (Some broken) = IsFirstBroken b types ranges broken

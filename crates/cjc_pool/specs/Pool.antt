@@ -59,5 +59,6 @@ pub record IsPool (files : Files) (tokens : Assigned) (methods : List NMethod) (
 abbrev pub most_entries : ℕ
 most_entries = 16383
 
+-- 414 of the pool of these methods, at the list
 abbrev pub pool_breaks : (list : List ℕ) → List NMethod → List Break
 pool_breaks list methods = at (nat_lt most_entries (length (pool_order methods))) (list_spot list) 414

@@ -20,6 +20,7 @@ pub record IsClipped (low high : ℤ) (r : Span) : Type 0 where
 abbrev pub int_min_of : ℤ → ℤ → ℤ → ℤ → ℤ
 int_min_of a b c d = int_min (int_min a b) (int_min c d)
 
+-- the greatest of four numbers
 abbrev pub int_max_of : ℤ → ℤ → ℤ → ℤ → ℤ
 int_max_of a b c d = int_max (int_max a b) (int_max c d)
 

@@ -28,9 +28,11 @@ width s = unsigned_abs (s.high -ℤ s.low)
 abbrev pub byte_range : Span
 byte_range = span (negsuc 127) (pos 127)
 
+-- all numbers of 16 bits with a sign, the values of a short
 abbrev pub short_range : Span
 short_range = span (negsuc 32767) (pos 32767)
 
+-- all numbers of 32 bits with a sign, the values of an int
 abbrev pub full : Span
 full = span (negsuc 2147483647) (pos 2147483647)
 

@@ -15,6 +15,7 @@ pub struct Ends {
 }
 
 impl Ends {
+    /// The least of the four values.
     pub fn least(self) -> i64
         ensures { result ≡ int_min_of self.low_low self.low_high self.high_low self.high_high }
     {
@@ -23,6 +24,7 @@ impl Ends {
             .min(self.high_low.min(self.high_high))
     }
 
+    /// The greatest of the four values.
     pub fn greatest(self) -> i64
         ensures { result ≡ int_max_of self.low_low self.low_high self.high_low self.high_high }
     {

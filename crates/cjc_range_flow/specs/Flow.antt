@@ -27,6 +27,7 @@ abbrev pub rounded_stack : StackOf Span → StackOf Span
 rounded_stack (Cells s) = Cells (map round_row s)
 rounded_stack Clash = Clash
 
+-- each interval of the stack and of the locals is moved outwards to the landmarks
 abbrev pub rounded : RangeState → RangeState
 rounded x = record { stack = rounded_stack x.stack; locals = map round_row x.locals }
 
@@ -38,11 +39,13 @@ is_target b at = is_jumped_to b at || is_handler b at
 abbrev pub number_range : Cell → Span → Span
 number_range cell s = if is_number cell then s else full
 
+-- the same of each; an interval without a cell is full
 abbrev pub number_ranges : List Cell → List Span → List Span
 number_ranges cells [] = []
 number_ranges [] (s ∷ ss) = full ∷ number_ranges [] ss
 number_ranges (cell ∷ cells) (s ∷ ss) = number_range cell s ∷ number_ranges cells ss
 
+-- the same of a stack; a clash stays one
 abbrev pub stack_of_types : List Cell → StackOf Span → StackOf Span
 stack_of_types cells (Cells s) = Cells (number_ranges cells s)
 stack_of_types cells Clash = Clash
@@ -72,6 +75,7 @@ entry b types = arrival b types 0 (first_state b)
 
 -- ---- the flow
 
+-- the state, as it comes to this place
 abbrev pub edge : Body → (types : List (Option State)) → RangeState → ℕ → Edge RangeState
 edge b types x to = record { to = to; state = arrival b types to x }
 
@@ -79,10 +83,12 @@ edge b types x to = record { to = to; state = arrival b types to x }
 abbrev pub caught : RangeState → RangeState
 caught x = record { stack = Cells (full ∷ []); locals = x.locals }
 
+-- what an instruction at this offset hands to the handler: nothing if the handler does not cover it
 abbrev pub handler_edge : Body → (types : List (Option State)) → (offset : ℕ) → RangeState → Catch → Option (Edge RangeState)
 handler_edge b types offset x c = if covers c offset then option_map (edge b types (caught x)) (place_at b.insns c.target) else None
 
 module _ (b : Body) (constant : MemberId → Option ℤ) (types : List (Option State)) where
+  -- from an instruction with these types before it: to those that may follow, and to its handlers
   abbrev pub insn_edges : (at : ℕ) → JInsn → State → RangeState → List (Edge RangeState)
   insn_edges at insn t x = map (edge b types (after constant insn.op (cells_of t.stack) x)) (successors b.insns at insn.op) ++ filter_map (handler_edge b types insn.at x) b.catches
 

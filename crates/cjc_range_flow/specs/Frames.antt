@@ -11,6 +11,7 @@ pub use Rattle.cjc_types.specs.Stacks.{StackOf, Cells, Clash, stack_of, IsCellSt
 abbrev pub spans : Lattice Span
 spans = record { Own = IsWord; Below = Within; join = join_row; rank = width; height = 4294967295 }
 
+-- the intervals of a frame's operand stack, or that ways with stacks of different heights meet, and those of its locals
 pub record RangeState : Type 0 where
   pub stack : StackOf Span
   pub locals : List Span

@@ -33,6 +33,7 @@ range_of_kind kinds.Other = full
 range_of_kind kinds.Ref = full
 range_of_kind kinds.Void = full
 
+-- the numbers of the type of a field, a parameter or a result; what is no number is full
 abbrev pub range_of : Part → Span
 range_of p = range_of_kind p.kind
 

@@ -5,6 +5,7 @@ use Rattle.cjc_code.specs.declared.insn.JOp.{JOp}
 use Rattle.cjc_code.specs.declared.insn.JOp.TheVariants as jop
 use Rattle.cjc_range.specs.Span.{Holds, full, short_range}
 
+-- a number is among these
 abbrev pub is_one_of : ℕ → List ℕ → Bool
 is_one_of n ns = list_any (λ k. n == k) ns
 
@@ -27,6 +28,7 @@ NumbersFit (jop.Inc k z) = Holds short_range z
 NumbersFit (jop.NewArray n) = is_one_of n (4 ∷ 5 ∷ 6 ∷ 7 ∷ 8 ∷ 9 ∷ 10 ∷ 11 ∷ []) ≡ true
 NumbersFit _ = Unit {0}
 
+-- an instruction has an opcode of its kind, and its numbers fit
 pub record IsInstruction (op : JOp) : Type 0 where
   pub opcode : has_opcode op ≡ true
   pub numbers : NumbersFit op

@@ -5,6 +5,7 @@ use Rattle.cjc_jvm_report.specs.Runs.{Runs, plan_of_jvm}
 use Rattle.cjc_run.specs.Request.{Request, check, convert, jvm}
 use Rattle.cjc_run.specs.Convert.{plan_of_convert, Makes}
 
+-- of a request what is read, and what is made of that
 abbrev pub command_of : Request → Command
 command_of (convert list dir) = record { Inputs = _; plan = plan_of_convert list; Makes = Makes dir }
 command_of (check list dir) = record { Inputs = _; plan = plan_of_check list dir; Makes = Checks }

@@ -16,7 +16,7 @@ use Rattle.cjc_fair_exports.specs.Fair.{ExportsAreFair}
 use Rattle.cjc_capread.specs.declared.tree.CapTree.{CapTree}
 use Rattle.cjc_capwrite.specs.Writable.{IsSpelt}
 use Rattle.cjc_alike.specs.Alike.{BehaveAlike}
-use Rattle.cjc_conversion.specs.declared.conversion.Converted.{Converted}
+use Rattle.cjc_convert.specs.declared.conversion.Converted.{Converted}
 use Rattle.cjc_judge.specs.Rules.{world_files}
 use Rattle.cjc_sentences.specs.Consistent.{Consistent}
 use Rattle.cjc_run.specs.Convert.{files_made, below}
@@ -31,6 +31,8 @@ use Rattle.cjc_script_text.specs.Printed.{report_text}
 use Rattle.cjc_jvm_report.specs.Runs.{IsReport, plan_of_jvm}
 use Rattle.cjc_run.specs.Request.{Request, check, convert, jvm}
 
+-- by one line: a class file is there and spells the first of these classes, and the other lines the rest; an export
+-- file spells none of them
 abbrev pub SpellStep : Bool → Option (List ℕ) → (List ClassTree → Type 0) → List ClassTree → Type 0
 SpellStep true file rest [] = ⊥
 SpellStep true file rest (tree ∷ trees) = IsSomeAnd file (λ bytes. FileSpells class_file tree bytes) × rest trees
@@ -41,6 +43,8 @@ abbrev pub SpellClasses : Files → List FileLine → List ClassTree → Type 0
 SpellClasses files [] trees = trees ≡ []
 SpellClasses files (line ∷ lines) trees = SpellStep line.class_file (get files line.name) (SpellClasses files lines) trees
 
+-- by one line: an export file is there and spells the first of these trees, and the other lines the rest; a class
+-- file spells none of them
 abbrev pub ExportStep : Bool → Option (List ℕ) → (List ExportTree → Type 0) → List ExportTree → Type 0
 ExportStep true file rest trees = rest trees
 ExportStep false file rest [] = ⊥

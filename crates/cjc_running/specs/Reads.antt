@@ -10,6 +10,7 @@ use Rattle.cjc_running.specs.declared.input.Input.{Input}
 abbrev pub names_of : List FileLine → List (List ℕ)
 names_of lines = map (λ (line : FileLine). line.name) lines
 
+-- behind the files of a list, the script
 abbrev pub plan_behind_files : (script : List ℕ) → ListTree → List (List ℕ) → Plan Input
 plan_behind_files script list files = do
   text ← read script
@@ -21,6 +22,7 @@ plan_behind_list script list = do
   files ← read_each (names_of list.lines)
   plan_behind_files script list files
 
+-- what is read behind the text of a list, unless the text is refused
 abbrev pub plan_behind_text : (name script text : List ℕ) → Plan Input
 plan_behind_text name script text = do
   list ← unless_refused (listed name text)

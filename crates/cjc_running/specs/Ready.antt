@@ -23,6 +23,7 @@ script_break r = record {
   refusal = r;
 }
 
+-- a script breaks 105, and this is that break
 abbrev pub BreaksScript : (name text : List ℕ) → Break → Type 0
 BreaksScript name text b = (r : Refusal) × (scripted name text ≡ Err r) × (b ≡ script_break r)
 

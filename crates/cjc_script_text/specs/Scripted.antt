@@ -64,6 +64,7 @@ abbrev pub ended_by : List Act → Draft → Result Script ℕ
 ended_by [] d = Ok d.script
 ended_by (a ∷ acts) d = Err d.since
 
+-- the script of a draft, or the place of the first act at its end that nothing follows
 abbrev pub ended : Draft → Result Script ℕ
 ended d = ended_by d.acts d
 

@@ -30,6 +30,7 @@ abbrev pub of_method : Files → (near : List MemberId) → ClassTree → Method
 of_method files near class method None = []
 of_method files near class method (Some tree) = of_code files near class method tree ∷ []
 
+-- of the methods of a class
 abbrev pub of_class : Files → (near : List MemberId) → ClassTree → List NMethod
 of_class files near class = flat_map (λ m. of_method files near class m m.code) class.methods
 

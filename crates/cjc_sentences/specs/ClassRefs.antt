@@ -22,6 +22,7 @@ use Rattle.cjc_sentences.specs.Classes.{first_interface, first_class, is_there, 
 
 -- ---- where class_refs stand: the test of each with its offset. Each has two bytes.
 
+-- one class_ref at an offset: broken where the test fails
 abbrev pub one_ref : (test : ClassRef → Bool) → (tag at : ℕ) → ClassRef → List Spot
 one_ref test tag at r = unless (test r) (in_info tag at)
 
@@ -46,9 +47,11 @@ in_interface test at i = each_ref test 6 (at + 1) i.superinterfaces
 abbrev pub maps_begin : (at : ℕ) → ClassEntry → ℕ
 maps_begin at c = at + 10 + 2 * length c.public_methods + 2 * length c.package_methods
 
+-- the interface of one map, with which the map begins
 abbrev pub in_map : (test : ClassRef → Bool) → (at : ℕ) → ImplementedInterface → List Spot
 in_map test at m = unless (test m.interface) (in_info 6 at)
 
+-- the interfaces of all maps of a class that begins at this offset
 abbrev pub in_maps : (test : ClassRef → Bool) → (at : ℕ) → ClassEntry → List Spot
 in_maps test at c = along map_size (in_map test) (maps_begin at c) c.interfaces
 
@@ -61,6 +64,7 @@ abbrev pub in_place : (test : ClassRef → Bool) → (at : ℕ) → FieldPlace �
 in_place test at (Static offset) = []
 in_place test at (Instance class token) = unless (test class) (in_info 11 (at + 2))
 
+-- the class_ref of a field of Descriptor, if it is an instance field
 abbrev pub in_field : (test : ClassRef → Bool) → (at : ℕ) → FieldDescriptor → List Spot
 in_field test at f = in_place test at f.place
 
@@ -68,6 +72,7 @@ in_field test at f = in_place test at f.place
 abbrev pub fields_begin : (at : ℕ) → ClassDescriptor → ℕ
 fields_begin at d = at + 9 + 2 * length d.interfaces
 
+-- the class_refs of a class of Descriptor that begins at this offset
 abbrev pub in_described : (test : ClassRef → Bool) → (at : ℕ) → ClassDescriptor → List Spot
 in_described test at d =
     unless (test d.this_class) (in_info 11 (at + 2))
@@ -83,6 +88,7 @@ in_nibbles test at i (n ∷ a ∷ b ∷ c ∷ d ∷ nibbles) =
     else in_nibbles test at (i + 1) (a ∷ b ∷ c ∷ d ∷ nibbles)
 in_nibbles test at i _ = []
 
+-- the class_refs in a type descriptor that begins at this offset
 abbrev pub in_type : (test : ClassRef → Bool) → (at : ℕ) → TypeDescriptor → List Spot
 in_type test at t = in_nibbles test at 0 t.nibbles
 
@@ -90,6 +96,7 @@ in_type test at t = in_nibbles test at 0 t.nibbles
 abbrev pub pool_count_at : Descriptor → ℕ
 pool_count_at d = 1 + sum_by described_size d.classes
 
+-- where the first type descriptor stands, from the start of Descriptor's info
 abbrev pub types_begin : Descriptor → ℕ
 types_begin d = pool_count_at d + 2 + 2 * length d.pool_types
 
@@ -107,6 +114,7 @@ class_ref_spots c exports =
 
 -- ---- 705
 
+-- a class_ref inside is below this offset; one outside always is earlier
 abbrev pub stands_earlier : ClassRef → (at : ℕ) → Bool
 stands_earlier (Inside offset) at = nat_lt offset at
 stands_earlier (Outside import class) at = true

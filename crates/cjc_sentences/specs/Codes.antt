@@ -59,9 +59,11 @@ codes_from at (m ∷ ms) bytes =
 abbrev pub methods_begin : Complete → ℕ
 methods_begin c = 1 + 8 * length c.method.handlers
 
+-- the codes of all methods of classes, or the offset where Method is not filled by them
 abbrev pub cut : Complete → Result (List Code) ℕ
 cut c = codes_from (methods_begin c) (class_methods c) c.method.methods
 
+-- no place where everything is cut, else the offset in Method where it ends
 abbrev pub where_cut_ends : Result (List Code) ℕ → List Spot
 where_cut_ends (Ok codes) = []
 where_cut_ends (Err at) = in_info 7 at ∷ []
@@ -71,6 +73,7 @@ where_cut_ends (Err at) = in_info 7 at ∷ []
 abbrev pub whole_spots : Complete → List Spot
 whole_spots c = where_cut_ends (cut c)
 
+-- the codes that were cut; none where cutting ended early
 abbrev pub all_codes : Result (List Code) ℕ → List Code
 all_codes (Ok codes) = codes
 all_codes (Err at) = []

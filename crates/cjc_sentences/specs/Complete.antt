@@ -23,6 +23,7 @@ use Rattle.cjc_capread.specs.declared.tree.CapTree.{CapTree}
 
 -- ---- components
 
+-- the components beside Header and Directory, where none but Applet and Export is absent
 pub record Complete : Type 0 where
   pub applet : Option Applet
   pub import : Import
@@ -34,6 +35,7 @@ pub record Complete : Type 0 where
   pub export : Option Export
   pub descriptor : Descriptor
 
+-- these components with Applet and Export of a package; nothing where one of them is absent
 abbrev pub complete_with : CapTree → Option Import → Option ConstantPool → Option ClassInfo → Option Method → Option StaticField → Option ReferenceLocation → Option Descriptor → Option Complete
 complete_with cap (Some import) (Some pool) (Some class) (Some method) (Some statics) (Some locations) (Some descriptor) = Some (record {
   applet = cap.applet;
@@ -92,36 +94,47 @@ type_size t = 1 + suc (length t.nibbles) / 2
 
 -- ---- sizes of components: their infos
 
+-- eleven bytes with the lengths of the AID and the name, and these two
 abbrev pub header_size : Header → ℕ
 header_size h = 11 + length h.aid + length h.name
 
+-- twelve sizes, the three numbers of StaticField, and the numbers of imports, applets and custom components
 abbrev pub directory_size : ℕ
 directory_size = 33
 
+-- the number of applets, and these
 abbrev pub applets_size : Applet → ℕ
 applets_size a = 1 + sum_by applet_size a.applets
 
+-- the number of packages, and these
 abbrev pub import_size : Import → ℕ
 import_size i = 1 + sum_by package_size i.packages
 
+-- the number of entries, and four bytes for each
 abbrev pub pool_size : ConstantPool → ℕ
 pool_size p = 2 + 4 * length p.entries
 
+-- the length of the signature pool, the interfaces and the classes
 abbrev pub class_info_size : ClassInfo → ℕ
 class_info_size c = 2 + sum_by interface_size c.interfaces + sum_by class_size c.classes
 
+-- the number of handlers, eight bytes for each, and the methods
 abbrev pub method_size : Method → ℕ
 method_size m = 1 + 8 * length m.handlers + length m.methods
 
+-- five numbers of two bytes each, the arrays and the values that are not defaults
 abbrev pub statics_size : StaticField → ℕ
 statics_size s = 10 + sum_by array_size s.array_inits + length s.values
 
+-- two numbers of two bytes, and the distances behind each
 abbrev pub locations_size : ReferenceLocation → ℕ
 locations_size l = 4 + length l.one_byte + length l.two_byte
 
+-- the number of classes, and these
 abbrev pub export_size : Export → ℕ
 export_size e = 1 + sum_by exported_size e.classes
 
+-- the number of classes, these, the number of pool entries, an offset for each, and the types
 abbrev pub descriptor_size : Descriptor → ℕ
 descriptor_size d = 3 + sum_by described_size d.classes + 2 * length d.pool_types + sum_by type_size d.types
 

@@ -32,6 +32,7 @@ pub record Sentence : Type 0 where
   pub needed : Bool
   pub spots : List Spot
 
+-- a sentence by its number, whether those that it needs are true, and where it is broken
 abbrev pub sentence : ℕ → Bool → List Spot → Sentence
 sentence number needed spots = record { number = number; needed = needed; spots = spots }
 
@@ -70,6 +71,7 @@ abbrev pub where_complete : Option Complete → List ExportTree → List Sentenc
 where_complete None exports = []
 where_complete (Some c) exports = of_complete c exports
 
+-- all sentences on the components of a package beside the export files that it imports, in the order of numbers
 abbrev pub sentences : CapTree → List ExportTree → List Sentence
 sentences cap exports =
     sentence 701 true (directory_spots cap)
@@ -101,6 +103,7 @@ file_name tag =
 abbrev pub place_of : Spot → Place
 place_of s = record { file = keys.Component s.component; class = 0; member = 0; place = in_file (file_name s.component) s.offset }
 
+-- a rule broken at a place of a component
 abbrev pub break_at : (number : ℕ) → Spot → Break
 break_at number s = broken_at (place_of s) number
 

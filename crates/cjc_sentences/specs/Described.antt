@@ -39,6 +39,7 @@ classes_in_order classes starts =
 
 -- ---- methods: of twelve bytes each, with the offset of the header at 2 and that of the type at 4
 
+-- where the methods of a class of Descriptor begin, behind its fields of seven bytes each
 abbrev pub methods_begin : (at : ℕ) → ClassDescriptor → ℕ
 methods_begin at d = fields_begin at d + 7 * length d.fields
 
@@ -72,12 +73,15 @@ all_ascend info before at (d ∷ classes) = methods_in_class info before at d ++
 
 -- ---- types: they stand behind the number of pool entries and an offset of two bytes for each entry, and their offsets count from there
 
+-- the type descriptors, each with its offset from the pool count on
 abbrev pub types_at : Descriptor → List (Placed TypeDescriptor)
 types_at d = placed type_size (2 + 2 * length d.pool_types) d.types
 
+-- a type descriptor begins at this offset from the pool count on
 abbrev pub is_type : Descriptor → (offset : ℕ) → Bool
 is_type d offset = begins (types_at d) offset
 
+-- a type that is given by an offset is the start of a type descriptor; a primitive type always is there
 abbrev pub type_is_there : Descriptor → FieldType → Bool
 type_is_there d (Described offset) = is_type d offset
 type_is_there d _ = true
@@ -86,9 +90,11 @@ type_is_there d _ = true
 abbrev pub type_of_field : Descriptor → (at : ℕ) → FieldDescriptor → List Spot
 type_of_field d at f = unless (type_is_there d f.type_) (in_info 11 (at + 5))
 
+-- the offset of a method's type, where no type descriptor begins there
 abbrev pub type_of_method : Descriptor → (at : ℕ) → MethodDescriptor → List Spot
 type_of_method d at m = unless (is_type d m.type_offset) (in_info 11 (at + 4))
 
+-- the offsets of types of a class's fields and methods; the class begins at this offset
 abbrev pub types_in_class : Descriptor → (at : ℕ) → ClassDescriptor → List Spot
 types_in_class d at x = along (λ f. 7) (type_of_field d) (fields_begin at x) x.fields ++ along (λ m. 12) (type_of_method d) (methods_begin at x) x.methods
 
@@ -101,6 +107,7 @@ has_type d _ offset = not (offset == 0xFFFF) && is_type d offset
 abbrev pub type_of_entry : Descriptor → (at offset : ℕ) → PoolEntry → List Spot
 type_of_entry d at offset entry = unless (has_type d entry offset) (in_info 11 at)
 
+-- the offsets of types beside the pool entries that have them, the first at this offset
 abbrev pub types_in_pool : Descriptor → (at : ℕ) → (offsets : List ℕ) → List PoolEntry → List Spot
 types_in_pool d at offsets entries = beside (λ offset. 2) (type_of_entry d) at offsets entries
 

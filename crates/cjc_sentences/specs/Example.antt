@@ -34,9 +34,11 @@ use Rattle.cjc_sentences.specs.Consistent.{Sentence, sentences}
 abbrev pub told : (number : ℕ) → Spot → List ℕ
 told number s = number ∷ s.component ∷ s.offset ∷ []
 
+-- the places of a sentence that is false and whose needed sentences are true
 abbrev pub told_of : Sentence → List (List ℕ)
 told_of s = if s.needed then map (told s.number) s.spots else []
 
+-- all that is broken of a package beside its export files, in the order of the sentences
 abbrev pub broken : CapTree → List ExportTree → List (List ℕ)
 broken cap exports = flat_map told_of (sentences cap exports)
 
@@ -45,9 +47,11 @@ abbrev pub insns_of : Result (List (Placed Instruction)) ℕ → List (Placed In
 insns_of (Err at) = []
 insns_of (Ok is) = is
 
+-- the offsets of the instructions that these bytes are
 abbrev pub starts_of : List ℕ → List ℕ
 starts_of bytes = map (λ p. p.at) (insns_of (instructions (length bytes) (length bytes) 0 bytes))
 
+-- how far the instructions of these bytes may jump, in order
 abbrev pub jumps_of : List ℕ → List ℤ
 jumps_of bytes = flat_map (λ p. jumps p.item) (insns_of (instructions (length bytes) (length bytes) 0 bytes))
 
@@ -68,6 +72,7 @@ exported_class token name supers = record {
       ∷ [];
 }
 
+-- the export file of java/lang, with Object and ArithmeticException
 abbrev pub lang : ExportTree
 lang = record {
   name = codes "java/lang";
@@ -83,6 +88,7 @@ lang = record {
 
 -- ---- the package
 
+-- a method of Descriptor whose first handler is 0
 abbrev pub described : (token flags offset type_offset bytecode_count handler_count : ℕ) → MethodDescriptor
 described token flags offset type_offset bytecode_count handler_count = record {
   token = token;
@@ -97,9 +103,11 @@ described token flags offset type_offset bytecode_count handler_count = record {
 -- I with v()S; P, a field s:S, a constructor and v()S; R, a subclass of P, static fields t:[B and s:S, a constructor and a static f(S)S
 -- that divides in a range with a handler. The parameters are the items that the alterations below change.
 
+-- Header of the package p in version 1.0 with these flags
 abbrev pub header_of : (flags : ℕ) → Header
 header_of flags = record { flags = flags; minor = 0; major = 1; aid = 0xA0 ∷ 0 ∷ 0 ∷ 0 ∷ 1 ∷ []; name = codes "p" }
 
+-- Directory with the sizes of Applet and Descriptor and the number of applets given
 abbrev pub directory_of : (applet_size descriptor_size applet_count : ℕ) → Directory
 directory_of applet_size descriptor_size applet_count = record {
   component_sizes = 17 ∷ 33 ∷ applet_size ∷ 11 ∷ 22 ∷ 33 ∷ 40 ∷ 18 ∷ 9 ∷ 11 ∷ descriptor_size ∷ 0 ∷ [];
@@ -110,12 +118,15 @@ directory_of applet_size descriptor_size applet_count = record {
   applet_count = applet_count;
 }
 
+-- one applet whose install method has this offset
 abbrev pub applet_of : (install_method : ℕ) → Applet
 applet_of install_method = record { applets = record { aid = 0xA0 ∷ 0 ∷ 0 ∷ 0 ∷ 1 ∷ []; install_method = install_method } ∷ [] }
 
+-- java/lang alone, in this major version
 abbrev pub import_of : (major : ℕ) → Import
 import_of major = record { packages = record { minor = 0; major = major; aid = lang.aid } ∷ [] }
 
+-- five entries; the token of the instance field and the class token of the Classref are given
 abbrev pub pool_of : (field class : ℕ) → ConstantPool
 pool_of field class = record {
   entries =
@@ -127,6 +138,7 @@ pool_of field class = record {
       ∷ [];
 }
 
+-- I, P and R; the superclass of P, the entry of its public table and the index of its map are given
 abbrev pub class_of : (superclass : ClassRef) → (entry index : ℕ) → ClassInfo
 class_of superclass entry index = record {
   interfaces = record { flags = 8; superinterfaces = [] } ∷ [];
@@ -158,6 +170,7 @@ class_of superclass entry index = record {
       ∷ [];
 }
 
+-- the four methods and their handler; its stop bit and catch index, and three bytes of the code, are given
 abbrev pub method_of : (stop : Bool) → (catch_index load leave static : ℕ) → Method
 method_of stop catch_index load leave static = record {
   handlers = record { start = 33; stop = stop; length = 1; handler = 35; catch_index = catch_index } ∷ [];
@@ -173,6 +186,7 @@ method_of stop catch_index load leave static = record {
       ∷ [];
 }
 
+-- the image of t and s, with this number of references
 abbrev pub statics_of : (reference_count : ℕ) → StaticField
 statics_of reference_count = record {
   image_size = 4;
@@ -182,12 +196,15 @@ statics_of reference_count = record {
   values = 0 ∷ 7 ∷ [];
 }
 
+-- the place of the index of one byte at this distance, and those of the four of two bytes
 abbrev pub locations_of : (one_byte : ℕ) → ReferenceLocation
 locations_of one_byte = record { one_byte = one_byte ∷ []; two_byte = 7 ∷ 6 ∷ 13 ∷ 11 ∷ [] }
 
+-- R with its field s, its constructor and a static method at this offset
 abbrev pub export_of : (method : ℕ) → Export
 export_of method = record { classes = record { class_offset = 19; fields = 2 ∷ []; methods = 22 ∷ method ∷ [] } ∷ [] }
 
+-- I, P and R, with the offset of the type of the first pool entry given
 abbrev pub descriptor_of : (pool_type : ℕ) → Descriptor
 descriptor_of pool_type = record {
   classes =
@@ -232,6 +249,7 @@ descriptor_of pool_type = record {
       ∷ [];
 }
 
+-- the package with every item as it has to be
 abbrev pub example : CapTree
 example = record {
   header = header_of 2;
@@ -303,6 +321,7 @@ altered_at =
 
 -- ---- a smaller package: a public class with the static method f(S)S, sload_0, sconst_1, sadd, sreturn
 
+-- one class with this superclass, no tables' entries and no interfaces
 abbrev pub small_class : (superclass : ClassRef) → ClassInfo
 small_class superclass = record {
   interfaces = [];
@@ -322,12 +341,15 @@ small_class superclass = record {
       ∷ [];
 }
 
+-- one static method without handlers, with this code
 abbrev pub small_method : (code : List ℕ) → Method
 small_method code = record { handlers = []; methods = 0x02 ∷ 0x10 ∷ code }
 
+-- the class with one static method at this offset
 abbrev pub small_export : (method : ℕ) → Export
 small_export method = record { classes = record { class_offset = 2; fields = []; methods = method ∷ [] } ∷ [] }
 
+-- the smaller package with every item as it has to be
 abbrev pub small : CapTree
 small = record {
   header = header_of 2;
@@ -369,6 +391,7 @@ changed =
     ∷ record small { method = Some (small_method (0x1C ∷ 0x04 ∷ 0x41 ∷ [])) }
     ∷ []
 
+-- which sentences are false of each, and where
 abbrev pub changed_at : List (List (List ℕ))
 changed_at =
     ((704 ∷ 6 ∷ 6 ∷ []) ∷ [])

@@ -32,6 +32,7 @@ in_exported c at e (Some d) =
     ++ numbered (λ o. 2) (λ token at o. unless (has_field d token o) (in_info 10 at)) 0 (at + 4) e.fields
     ++ numbered (λ o. 2) (λ token at o. unless (is_method_start c o && has_method d token o) (in_info 10 at)) 0 (at + 4 + 2 * length e.fields) e.methods
 
+-- the classes that Export lists; none where it is absent
 abbrev pub exported_classes : Option Export → List ExportedClass
 exported_classes None = []
 exported_classes (Some e) = e.classes

@@ -22,6 +22,7 @@ in_code at h (Some code) =
     unless (has_start code (h.start + h.length) || h.start + h.length == code.end) (in_info 7 (at + 2))
     ++ unless (has_start code h.handler) (in_info 7 (at + 4))
 
+-- a pool entry is there and is a Classref
 abbrev pub is_classref : Option PoolEntry → Bool
 is_classref (Some (Classref class)) = true
 is_classref _ = false

@@ -45,6 +45,7 @@ has_start code offset = begins code.instructions offset
 abbrev pub lands : Code → (at : ℕ) → ℤ → Bool
 lands code at by = list_any (λ j. int_eq (pos j.at) (pos at +ℤ by)) code.instructions
 
+-- all jumps of an instruction land on instructions of its method
 abbrev pub jumps_land : Code → Placed Instruction → Bool
 jumps_land code p = list_all (lands code p.at) (jumps p.item)
 
@@ -58,6 +59,7 @@ in_code code [] = []
 in_code code (p ∷ []) = unless (jumps_land code p && ends_code p.item.opcode) (in_info 7 p.at)
 in_code code (p ∷ q ∷ ps) = unless (jumps_land code p) (in_info 7 p.at) ++ in_code code (q ∷ ps)
 
+-- a list has nothing in it
 abbrev pub is_empty : {A : Type 0} → List A → Bool
 is_empty [] = true
 is_empty (x ∷ xs) = false
@@ -96,10 +98,12 @@ is_type_of_numbers _ = false
 abbrev pub names_no_class : Instruction → Bool
 names_no_class i = lies_between 0x94 0x95 i.opcode && is_type_of_numbers i.operands
 
+-- an instruction's index with its place behind the opcode, if it has one
 abbrev pub index_in : Placed Instruction → OpInfo → Option ℕ → List IndexOperand
 index_in p o None = []
 index_in p o (Some index) = record { opcode = p.item.opcode; at = p.at + o.index_at; size = o.index_bytes; index = index } ∷ []
 
+-- the index of an instruction by the form of its opcode; switches have none
 abbrev pub index_by : Placed Instruction → Option Form → List IndexOperand
 index_by p (Some (Fields kinds)) = index_in p (info (Fields kinds)) (index_among kinds p.item.operands)
 index_by p _ = []
@@ -127,6 +131,7 @@ is_needed_by (StaticFieldref member) op = lies_between 0x7B 0x82 op
 -- invokespecial, invokestatic
 is_needed_by (StaticMethodref member) op = op == 0x8C || op == 0x8D
 
+-- a pool entry is there and has a tag that the opcode needs
 abbrev pub is_entry_for : Option PoolEntry → (opcode : ℕ) → Bool
 is_entry_for None op = false
 is_entry_for (Some entry) op = is_needed_by entry op

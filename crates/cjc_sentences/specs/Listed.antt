@@ -25,6 +25,7 @@ size_agrees tag told own = told == own && (may_be_absent tag || not (own == 0))
 abbrev pub size_spots : (at told own : ℕ) → List Spot
 size_spots at told own = unless (size_agrees (1 + at / 2) told own) (in_info 2 at)
 
+-- Directory's sizes beside those of the components, tag by tag
 abbrev pub sizes_agree : (told own : List ℕ) → List Spot
 sizes_agree told own = beside (λ t. 2) size_spots 0 told own
 
@@ -40,14 +41,17 @@ statics_agree d (Some s) =
     ++ unless (d.array_init_count == length s.array_inits) (in_info 2 26)
     ++ unless (d.array_init_size == array_bytes s.array_inits) (in_info 2 28)
 
+-- the number of imported packages is that of Import
 abbrev pub imports_agree : Directory → Option Import → List Spot
 imports_agree d None = []
 imports_agree d (Some i) = unless (d.import_count == length i.packages) (in_info 2 30)
 
+-- the number of applets, 0 where Applet is absent
 abbrev pub applet_count : Option Applet → ℕ
 applet_count None = 0
 applet_count (Some a) = length a.applets
 
+-- the number of applets is that of Applet
 abbrev pub applets_agree : Directory → Option Applet → List Spot
 applets_agree d a = unless (d.applet_count == applet_count a) (in_info 2 31)
 
@@ -62,9 +66,11 @@ directory_spots cap =
 
 -- ---- 702
 
+-- ACC_EXPORT among the flags of Header
 abbrev pub acc_export : ℕ
 acc_export = 2
 
+-- ACC_APPLET among the flags of Header
 abbrev pub acc_applet : ℕ
 acc_applet = 4
 

@@ -35,6 +35,7 @@ are_listed at listed wanted = unless (length listed == length wanted) (in_info 9
 abbrev pub wanted_ones : Complete → List ℕ
 wanted_ones c = distances 0 (places_of 1 (all_indices c))
 
+-- the distances of indices of two bytes: catch indices, then those of instructions
 abbrev pub wanted_twos : Complete → List ℕ
 wanted_twos c = distances 0 (catch_places 1 c.method.handlers ++ places_of 2 (all_indices c))
 

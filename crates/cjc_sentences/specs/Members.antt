@@ -40,13 +40,16 @@ is_static_start c offset = not (offset == 0) && list_any (λ m. m.offset == offs
 
 -- ---- fields of the package
 
+-- what Descriptor says of fields, class by class
 abbrev pub all_fields : Complete → List FieldDescriptor
 all_fields c = flat_map (λ d. d.fields) c.descriptor.classes
 
+-- a static field has its cell at this offset of the image
 abbrev pub is_cell_at : FieldPlace → ℕ → Bool
 is_cell_at (Static at) offset = at == offset
 is_cell_at (Instance class token) offset = false
 
+-- an instance field has this class_ref and token
 abbrev pub is_instance : FieldPlace → ClassRef → ℕ → Bool
 is_instance (Static at) class token = false
 is_instance (Instance owner t) class token = same_class owner class && t == token
@@ -65,6 +68,7 @@ describes_field c class token = list_any (λ f. is_instance f.place class token)
 abbrev pub is_unbound : ExportMethod → Bool
 is_unbound m = is_static m.flags || bytes_eq m.name (codes "<init>")
 
+-- an imported class has a static method or constructor with this token
 abbrev pub has_static_method : Option ExportClass → (token : ℕ) → Bool
 has_static_method None token = false
 has_static_method (Some c) token = list_any (λ m. m.token == token && is_unbound m) c.methods
@@ -74,6 +78,7 @@ abbrev pub has_static_field : Option ExportClass → (token : ℕ) → Bool
 has_static_field None token = false
 has_static_field (Some c) token = list_any (λ f. f.token == token && is_static f.flags && is_none f.constant) c.fields
 
+-- an imported class itself has an instance field with this token
 abbrev pub lists_field : (token : ℕ) → ExportClass → Bool
 lists_field token c = list_any (λ f. f.token == token && not (is_static f.flags) && is_none f.constant) c.fields
 
@@ -102,15 +107,19 @@ has_field c exports (Outside import class) token =
 
 -- ---- tokens of virtual methods: those of the package table have the high bit 0x80, its base has not
 
+-- the first token of the table that the token belongs to, public or package
 abbrev pub base_of : ClassEntry → (token : ℕ) → ℕ
 base_of c token = if nat_lt token 0x80 then c.public_base else c.package_base
 
+-- the table that the token belongs to, public or package
 abbrev pub table_of : ClassEntry → (token : ℕ) → List ℕ
 table_of c token = if nat_lt token 0x80 then c.public_methods else c.package_methods
 
+-- the token without its high bit
 abbrev pub place_of : (token : ℕ) → ℕ
 place_of token = if nat_lt token 0x80 then token else token - 0x80
 
+-- an imported class or one of its supers has a virtual method of this token
 abbrev pub in_imported : List ExportTree → ClassRef → (token : ℕ) → Bool
 in_imported exports (Inside offset) token = false
 in_imported exports (Outside import class) token = class_has exports (imported exports import class) token
@@ -131,6 +140,7 @@ has_token (p ∷ earlier) exports class token =
 abbrev pub has_virtual : Complete → List ExportTree → ClassRef → (token : ℕ) → Bool
 has_virtual c exports class token = has_token (reverse (classes_at c.class)) exports class token
 
+-- the superclass of a class of the package has a virtual method of this token
 abbrev pub superclass_has : Complete → List ExportTree → Option ClassEntry → (token : ℕ) → Bool
 superclass_has c exports None token = false
 superclass_has c exports (Some x) token = has_virtual c exports x.superclass token

@@ -10,14 +10,17 @@ use Rattle.cjc_sentences.specs.Complete.{Complete}
 use Rattle.cjc_sentences.specs.Classes.{imported}
 use Rattle.cjc_sentences.specs.Members.{is_method_start, is_cell, has_field, has_static_method, has_static_field, has_virtual, has_above}
 
+-- a static field is there: the cell of one, or one of an imported class that is no constant
 abbrev pub is_field : Complete → List ExportTree → StaticRef → Bool
 is_field c exports (Inside offset) = is_cell c offset
 is_field c exports (Outside import class token) = has_static_field (imported exports import class) token
 
+-- a static method or constructor is there: the start of a method, or one of an imported class
 abbrev pub is_method : Complete → List ExportTree → StaticRef → Bool
 is_method c exports (Inside offset) = is_method_start c offset
 is_method c exports (Outside import class token) = has_static_method (imported exports import class) token
 
+-- the member that an entry names is there; of a Classref nothing is asked here
 abbrev pub names_member : Complete → List ExportTree → PoolEntry → Bool
 names_member c exports (Classref class) = true
 names_member c exports (InstanceFieldref class token) = has_field c exports class token

@@ -10,6 +10,7 @@ use Rattle.cjc_sentences.specs.Members.{is_static_start}
 
 -- ---- 715
 
+-- the applets; none where Applet is absent
 abbrev pub applets_of : Option Applet → List AppletEntry
 applets_of None = []
 applets_of (Some a) = a.applets

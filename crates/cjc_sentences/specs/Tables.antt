@@ -17,6 +17,7 @@ use Rattle.cjc_sentences.specs.Members.{is_method_start, has_virtual}
 
 -- ---- tables, of two bytes an entry
 
+-- a class_ref names an imported class
 abbrev pub is_outside : ClassRef → Bool
 is_outside (Inside offset) = false
 is_outside (Outside import class) = true
@@ -30,6 +31,7 @@ leaves (p ∷ earlier) class = if is_inside class p.at then leaves earlier p.ite
 abbrev pub is_public_entry : Complete → ClassEntry → ℕ → Bool
 is_public_entry c x entry = if entry == 0xFFFF then leaves (reverse (classes_at c.class)) x.superclass else is_method_start c entry
 
+-- an entry of a package table is the start of a method, and not 0xFFFF
 abbrev pub is_package_entry : Complete → ℕ → Bool
 is_package_entry c entry = not (entry == 0xFFFF) && is_method_start c entry
 
@@ -37,6 +39,7 @@ is_package_entry c entry = not (entry == 0xFFFF) && is_method_start c entry
 abbrev pub public_spot : Complete → ClassEntry → (at entry : ℕ) → List Spot
 public_spot c x at entry = unless (is_public_entry c x entry) (in_info 6 at)
 
+-- an entry of a package table that stands at this offset
 abbrev pub package_spot : Complete → (at entry : ℕ) → List Spot
 package_spot c at entry = unless (is_package_entry c entry) (in_info 6 at)
 
@@ -53,6 +56,7 @@ table_spots c = along class_size (in_tables c) (first_class c.class) c.class.cla
 
 -- ---- interface maps
 
+-- an imported interface has this many methods
 abbrev pub has_methods : Option ExportClass → (count : ℕ) → Bool
 has_methods None count = false
 has_methods (Some i) count = length i.methods == count
@@ -61,6 +65,8 @@ has_methods (Some i) count = length i.methods == count
 abbrev pub holds_tokens : (count : ℕ) → ClassDescriptor → Bool
 holds_tokens count d = list_all (λ m. m.token == 0xFF || nat_lt m.token count) d.methods
 
+-- a map of this many indices fits the interface: it holds each token of one of the package, and has an index for
+-- each method of an imported one
 abbrev pub is_long_enough : Complete → List ExportTree → ClassRef → (count : ℕ) → Bool
 is_long_enough c exports (Inside offset) count = list_all (λ d. not (is_inside d.this_class offset) || holds_tokens count d) c.descriptor.classes
 is_long_enough c exports (Outside import class) count = has_methods (imported exports import class) count
@@ -75,6 +81,7 @@ in_map c exports class at m =
     unless (is_long_enough c exports m.interface (length m.index)) (in_info 6 (at + 2))
     ++ along (λ i. 1) (λ at i. unless (is_index c exports class i) (in_info 6 at)) (at + 3) m.index
 
+-- the maps of a class that begins at this offset
 abbrev pub in_all_maps : Complete → List ExportTree → (at : ℕ) → ClassEntry → List Spot
 in_all_maps c exports at x = along map_size (in_map c exports at) (maps_begin at x) x.interfaces
 

@@ -4,6 +4,7 @@ use Rattle.cjc_shelf.specs.Sink.{Sunk}
 use Rattle.cjc_shelf.specs.declared.mem_sink.MemSink.{MemSink}
 use Rattle.cjc_shelf.specs.declared.sink.SinkFailed.{SinkFailed}
 
+-- what is known of a sink in memory: all that it holds, and how often it has failed
 abbrev pub sink_sunk : MemSink → Sunk
 sink_sunk s = record { written = Some s.held.items; faults = s.faults }
 
@@ -41,6 +42,7 @@ PutEnds bytes old new (Err failed) = (new.faults ≡ counted old.faults)
     × ((Contains (failing_puts old) (next_put old) × (new.held.items ≡ old.held.items))
     ⊎ ((old.room < length old.held.items + length bytes) × (new.held.items ≡ old.held.items ++ take (old.room - length old.held.items) bytes)))
 
+-- A put into memory ended as its list and its room have it, and is counted. What is to fail, and the room, stay.
 pub record PutInMemory {T : Type 0} (bytes : List ℕ) (old new : MemSink) (result : Result T SinkFailed) : Type 0 where
   pub ends : PutEnds bytes old new result
   pub next : next_put new ≡ counted (next_put old)

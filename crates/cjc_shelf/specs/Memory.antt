@@ -15,6 +15,7 @@ abbrev pub told_files : Option Files → Files
 told_files (Some files) = files
 told_files None = empty
 
+-- the files that are known of a shelf, and none where it tells none
 abbrev pub files_of : Shelved → Files
 files_of s = told_files s.files
 
@@ -30,6 +31,7 @@ with_file name bytes s = record s { files = Some (insert (files_of s) name bytes
 abbrev pub store_files : Store → Files
 store_files s = from_entries s.log.items
 
+-- what is known of a store whose shelf has failed so often: all its files and counts
 abbrev pub store_shelved : Store → ℕ → Shelved
 store_shelved s faults = record {
   files = Some (store_files s);
@@ -40,9 +42,11 @@ store_shelved s faults = record {
   taken = s.taken;
 }
 
+-- what is known of a shelf in memory, some of whose calls may be to fail
 abbrev pub mem_shelved : MemShelf → Shelved
 mem_shelved m = store_shelved m.store m.faults
 
+-- what is known of a shelf in memory that never fails
 abbrev pub clean_shelved : CleanShelf → Shelved
 clean_shelved c = store_shelved c.store 0
 

@@ -58,6 +58,7 @@ ReadTold files name old new (Err read.TooLong) = (new.last ≡ name) × (new.fau
 ReadTold files name old new (Err read.Failed) = new.last ≡ name
 ReadTold files name old new (Err read.NoMemory) = new.last ≡ old.last
 
+-- A read ended so: no count falls, the files stay, and its end and its bytes agree with the files that are told.
 pub record Reads (name : List ℕ) (old new : Shelved) (result : Result (List ℕ) ReadEnd) : Type 0 where
   pub goes_on : GoesOn old new
   pub files : new.files ≡ old.files
@@ -77,6 +78,7 @@ WriteTold files name bytes old new (Ok done) = (new.last ≡ name) × (new.files
 WriteTold files name bytes old new (Err write.Failed) = (new.last ≡ name) × IsSomeAnd new.files (SameBut name files)
 WriteTold files name bytes old new (Err write.NoMemory) = (new.last ≡ old.last) × (new.files ≡ Some files)
 
+-- A write ended so: no count falls, and its end agrees with what it makes of the files that are told.
 pub record Writes {T : Type 0} (name bytes : List ℕ) (old new : Shelved) (result : Result T WriteEnd) : Type 0 where
   pub goes_on : GoesOn old new
   pub cause : WriteCause old new result

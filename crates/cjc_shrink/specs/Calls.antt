@@ -24,9 +24,11 @@ use Rattle.cjc_shrink.specs.Rows.{narrow_fault}
 abbrev pub NFrame : Type 0
 NFrame = narrow.Frame NMethod
 
+-- the whole state of a machine that runs narrow code, with classes and fields by name
 abbrev pub NState : Type 0
 NState = narrow.State NMethod (List ℕ) MemberId (List (Slot MemberId))
 
+-- what a turn of that machine gives
 abbrev pub NTurn : Type 0
 NTurn = Turn NMethod (List ℕ) MemberId (List (Slot MemberId))
 

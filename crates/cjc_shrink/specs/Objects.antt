@@ -21,6 +21,7 @@ abbrev pub has_values : Sort → Bool
 has_values NoValue = false
 has_values _ = true
 
+-- the descriptor is a type that a field can have
 abbrev pub is_field : MemberId → Bool
 is_field f = has_values (field_sort f.desc)
 

@@ -29,6 +29,7 @@ pub record IsMeantHere (w : List Class) (x : List ℕ) (s : Signature) (t : ℕ)
 abbrev pub TokensMean : List Class → Type 0
 TokensMean w = (x : List ℕ) (c : Class) → class_named w x ≡ Some c → is_interface c.flags ≡ false → (s : Signature) (t : ℕ) → token (slots (line_of w x)) s ≡ Some t → IsMeant w x s t
 
+-- each token of a package-visible method means a method of the package
 abbrev pub PackageTokensMean : List Class → Type 0
 PackageTokensMean w = (x : List ℕ) (c : Class) → class_named w x ≡ Some c → (s : Signature) (t : ℕ) → token (hidden_slots (line_of w x)) s ≡ Some t → IsMeantHere w x s t
 

@@ -8,6 +8,7 @@ use Rattle.cjc_bytes.specs.AccessFlags.{is_abstract, is_public, is_static}
 use Rattle.cjc_world.specs.Kin.{is_below}
 use Rattle.cjc_world.specs.Lookup.{is_called}
 
+-- the class that all applets are below
 abbrev pub applet : List ℕ
 applet = codes "javacard/framework/Applet"
 
@@ -19,6 +20,7 @@ is_install m = is_called (codes "install") (codes "([BSB)V") m && is_public m.fl
 abbrev pub is_applet : List Class → Class → Bool
 is_applet w c = list_any (λ s. is_below w s applet) c.supers
 
+-- there is no class, or it is none that an applet can be of
 abbrev pub is_unfit_class : List Class → Option Class → Bool
 is_unfit_class w None = true
 is_unfit_class w (Some c) =
@@ -37,5 +39,6 @@ unfoldable pub repeats_aid : List AppletLine → Bool
 repeats_aid [] = false
 repeats_aid (a ∷ rest) = list_any (λ b. bytes_eq b.aid a.aid) rest || repeats_aid rest
 
+-- an applet line names a class that an applet can not be of, or two lines have the same AID
 unfoldable pub has_unfit_applets : List Class → List AppletLine → Bool
 has_unfit_applets w applets = list_any (λ a. is_unfit_applet w a.class) applets || repeats_aid applets

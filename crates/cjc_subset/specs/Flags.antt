@@ -12,6 +12,7 @@ has_two_accesses flags =
 abbrev pub is_unfit_class : ℕ → Bool
 is_unfit_class flags = has flags acc_enum || has flags acc_annotation
 
+-- of a field of a class or of an interface
 abbrev pub is_unfit_field : (interface : Bool) → ℕ → Bool
 is_unfit_field interface flags =
     has_two_accesses flags
@@ -32,6 +33,7 @@ is_unfit_method_kind flags =
     -- abstract beside static or private
     || (is_abstract flags && (is_static flags || is_private flags))
 
+-- of a method of a class or of an interface, by its name and whether it has code
 abbrev pub is_unfit_method : (interface : Bool) → (flags : ℕ) → (name : List ℕ) → (has_code : Bool) → Bool
 is_unfit_method interface flags name has_code =
     is_unfit_method_kind flags

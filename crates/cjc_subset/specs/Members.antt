@@ -24,9 +24,11 @@ is_array (b ∷ bs) = b == 91
 abbrev pub is_descriptor : List ℕ → Bool
 is_descriptor name = nat_lt (length name) (2 ^ 32) && is_some (desc_of name)
 
+-- a constructor, by the name of the method
 abbrev pub is_constructor : List ℕ → Bool
 is_constructor name = bytes_eq name (codes "<init>")
 
+-- the initialiser of a class or interface, by the name of the method
 abbrev pub is_initialiser : List ℕ → Bool
 is_initialiser name = bytes_eq name (codes "<clinit>")
 
@@ -37,23 +39,28 @@ pub record Hit : Type 0 where
   pub owner : Class
   pub flags : ℕ
 
+-- the field or method at this place of the class; none where it has no such
 abbrev pub hit_at : (field : Bool) → Found → Class → Option Hit
 hit_at field f c = option_map (λ m. record { owner = c; flags = m.flags }) (slice_get (members field c) (f.member - members_before field c))
 
+-- the same of a class that may be none
 abbrev pub hit_of : (field : Bool) → Found → Option Class → Option Hit
 hit_of field f None = None
 hit_of field f (Some c) = hit_at field f c
 
+-- the field or method that a look-up found; none where it found none
 unfoldable pub hit : List Class → (field : Bool) → Option Found → Option Hit
 hit w field None = None
 hit w field (Some f) = hit_of field f (class_at w f.imported f.class)
 
 -- ---- constants: static final fields of type boolean, byte, short or int that have a ConstantValue
 
+-- there is a field of a class file, and it is a constant
 abbrev pub is_declared_constant : Option FieldTree → Bool
 is_declared_constant None = false
 is_declared_constant (Some m) = may_be_constant m.flags m.desc && is_some m.constant
 
+-- there is a field of an export file, and it is a constant
 abbrev pub is_imported_constant : Option ExportField → Bool
 is_imported_constant None = false
 is_imported_constant (Some m) = may_be_constant m.flags m.desc && is_some m.constant
@@ -63,10 +70,12 @@ abbrev pub imports : List ExportTree → List ExportClass
 imports [] = []
 imports (t ∷ ts) = t.classes ++ imports ts
 
+-- the field at a place of a class of the package, where both are there
 abbrev pub declared_field : Option ClassTree → ℕ → Option FieldTree
 declared_field None i = None
 declared_field (Some c) i = slice_get c.fields i
 
+-- the field at a place of an imported class, where both are there
 abbrev pub imported_field : Option ExportClass → ℕ → Option ExportField
 imported_field None i = None
 imported_field (Some c) i = slice_get c.fields i

@@ -33,6 +33,7 @@ is_name_missing w name = if is_array name then not (is_descriptor name) || is_ty
 abbrev pub is_member_missing : List Class → MemberId → Bool
 is_member_missing w id = is_name_missing w id.class || is_desc_missing w id.desc
 
+-- the instruction names a class that is in no file, or a member with such a class or one in its descriptor
 unfoldable pub names_missing : List Class → JOp → Bool
 names_missing w (jop.Static put id) = is_member_missing w id
 names_missing w (jop.Field put id) = is_member_missing w id
@@ -51,13 +52,16 @@ catches_missing w (Some name) = is_array name || is_missing w name
 -- ---- 205: a named member is in neither the class nor its supers, or the class is an array. It needs the class, so
 -- ---- that 203 is not broken by the class's name
 
+-- the look-up found nothing
 abbrev pub is_not_found : Option Found → Bool
 is_not_found None = true
 is_not_found (Some f) = false
 
+-- the class is in some file, and it is an array or the look-up found no such member
 abbrev pub is_unfound : List Class → MemberId → Option Found → Bool
 is_unfound w id found = not (is_name_missing w id.class) && (is_array id.class || is_not_found found)
 
+-- the instruction names a field or method that is in neither its class nor the supers, or that of an array
 unfoldable pub names_unfound : List Class → JOp → Bool
 names_unfound w (jop.Static put id) = is_unfound w id (find_field w id.class id.name id.desc)
 names_unfound w (jop.Field put id) = is_unfound w id (find_field w id.class id.name id.desc)
@@ -66,6 +70,7 @@ names_unfound w _ = false
 
 -- ---- 206: what is named can't be used so. Of a member it needs that one is found
 
+-- the member is not accessible to the class that holds the code
 abbrev pub is_hidden : List Class → ClassTree → MemberId → Hit → Bool
 is_hidden w c id h = not (is_accessible w c.name id.class h.owner h.flags)
 
@@ -73,10 +78,12 @@ is_hidden w c id h = not (is_accessible w c.name id.class h.owner h.flags)
 abbrev pub is_other_kind : (static : Bool) → ℕ → Bool
 is_other_kind static flags = if is_static flags then not static else static
 
+-- a field was found, and it is a constant
 abbrev pub is_constant_found : Files → Option Found → Bool
 is_constant_found files None = false
 is_constant_found files (Some f) = is_constant files f
 
+-- the field that an instruction names was found and can't be used so
 abbrev pub is_unfit_field : Files → ClassTree → (static put : Bool) → MemberId → Option Found → Option Hit → Bool
 is_unfit_field files c static put id found None = false
 is_unfit_field files c static put id found (Some h) =
@@ -118,6 +125,7 @@ is_unfit_call op name flags =
     -- an instruction other than invokespecial names a constructor
     || (not (op == 183) && is_constructor name)
 
+-- the class by which a method is named does not fit the instruction, or invokespecial selects no method with code
 abbrev pub is_unfit_class : List Class → ClassTree → (op : ℕ) → MemberId → Hit → Bool
 is_unfit_class w c op id h =
     if op == 182 then is_unfit_virtual (class_named w id.class) h
@@ -125,6 +133,7 @@ is_unfit_class w c op id h =
     -- invokespecial of neither a constructor nor a private method
     else (op == 183) && not (is_constructor id.name) && not (is_private h.flags) && is_unfit_super w c id
 
+-- the method that an instruction names was found and can't be called so
 abbrev pub is_unfit_method : List Class → ClassTree → (op : ℕ) → MemberId → Option Hit → Bool
 is_unfit_method w c op id None = false
 is_unfit_method w c op id (Some h) =
@@ -135,6 +144,7 @@ is_unfit_method w c op id (Some h) =
     -- it is named by a class that does not fit the instruction
     || is_unfit_class w c op id h
 
+-- there is a class, and it is abstract
 abbrev pub is_abstract_of : Option Class → Bool
 is_abstract_of None = false
 is_abstract_of (Some c) = is_abstract c.flags
@@ -143,9 +153,11 @@ is_abstract_of (Some c) = is_abstract c.flags
 abbrev pub is_unfit_new : List Class → List ℕ → Bool
 is_unfit_new w name = is_array name || is_abstract_of (class_named w name) || is_interface_of (class_named w name)
 
+-- the field that an instruction names, as look-up finds it
 abbrev pub field_found : List Class → MemberId → Option Found
 field_found w id = find_field w id.class id.name id.desc
 
+-- the method that an instruction names, as look-up finds it
 abbrev pub method_found : List Class → MemberId → Option Found
 method_found w id = find_method w id.class id.name id.desc
 
@@ -170,6 +182,7 @@ insn_breaks files f c i m insn =
 unfoldable pub catch_breaks : Files → FilePlace → ClassTree → (method : ℕ) → MethodTree → Catch → List Break
 catch_breaks files f c i m k = at (catches_missing (all_classes files) k.class) (at_method f c i m k.target) 203
 
+-- the entries of the exception table, none without code
 abbrev pub catches_of : Option CodeTree → List Catch
 catches_of None = []
 catches_of (Some code) = code.catches
@@ -180,6 +193,7 @@ method_breaks files f c i m insns =
     each (λ _ insn. insn_breaks files f c i m insn) insns
     ++ each (λ _ k. catch_breaks files f c i m k) (catches_of m.code)
 
+-- at the instructions and catch types of the method that this code is of
 unfoldable pub code_breaks : Files → MethodCode → List Break
 code_breaks files code = of_code files code.class code.method (λ f c m. method_breaks files f c code.method m code.insns)
 

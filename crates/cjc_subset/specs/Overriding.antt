@@ -26,9 +26,11 @@ is_special name = is_constructor name || is_initialiser name
 
 -- ---- 305
 
+-- public or protected
 abbrev pub is_open : ℕ → Bool
 is_open flags = is_public flags || is_protected flags
 
+-- neither public nor protected nor private
 abbrev pub is_package_visible : ℕ → Bool
 is_package_visible flags = not (is_public flags) && not (is_protected flags) && not (is_private flags)
 
@@ -50,6 +52,7 @@ abbrev pub is_of_other_kind : (flags inherited : ℕ) → Bool
 is_of_other_kind flags inherited =
     not (is_private inherited) && (if is_private flags || is_static flags then not (is_static inherited) else is_static inherited)
 
+-- against some method of the other class that has the name and the descriptor
 abbrev pub changes_kind : Class → (flags : ℕ) → (name desc : List ℕ) → Bool
 changes_kind d flags name desc = list_any (λ k. is_called name desc k && is_of_other_kind flags k.flags) d.methods
 
@@ -80,6 +83,7 @@ method_against f c d i m =
     at (not (is_special m.name) && hides_one d m.flags m.name m.desc) (at_method f c i m 0) 305
     ++ at (not (is_special m.name) && changes_kind d m.flags m.name m.desc) (at_method f c i m 0) 306
 
+-- at the class and its methods, against a class that is inherited from
 unfoldable pub class_against : List Class → FilePlace → ClassTree → Class → List Break
 class_against w f c d =
     at (lacks_code w c d) (at_class f c) 307

@@ -22,13 +22,16 @@ abbrev pub is_foreign_name : List ℕ → Bool
 is_foreign_name [] = false
 is_foreign_name (b ∷ bs) = (b == 91) && is_foreign_element bs
 
+-- char, long, float or double
 abbrev pub is_other : Kind → Bool
 is_other kinds.Other = true
 is_other _ = false
 
+-- a type of a descriptor that is one of these, or such an array
 abbrev pub is_foreign_part : Part → Bool
 is_foreign_part p = is_other p.kind || is_foreign_name p.class
 
+-- there is a descriptor, and a parameter or the result has such a type
 abbrev pub is_any_foreign : Option Parts → Bool
 is_any_foreign None = false
 is_any_foreign (Some d) = list_any (λ p. is_foreign_part p) (d.params ++ d.result ∷ [])
@@ -37,6 +40,7 @@ is_any_foreign (Some d) = list_any (λ p. is_foreign_part p) (d.params ++ d.resu
 unfoldable pub is_foreign_desc : List ℕ → Bool
 is_foreign_desc desc = nat_lt (length desc) (2 ^ 32) && is_any_foreign (desc_of desc)
 
+-- a field or method whose class is such an array, or in whose descriptor such a type stands
 abbrev pub is_foreign_member : MemberId → Bool
 is_foreign_member id = is_foreign_name id.class || is_foreign_desc id.desc
 
@@ -63,24 +67,30 @@ unfoldable pub is_int_element : List ℕ → Bool
 is_int_element [] = false
 is_int_element (b ∷ bs) = if b == 91 then is_int_element bs else b == 73
 
+-- an array of ints, in whatever dimension, by the name that the pool or a descriptor has
 abbrev pub is_int_name : List ℕ → Bool
 is_int_name [] = false
 is_int_name (b ∷ bs) = (b == 91) && is_int_element bs
 
+-- the kind of int
 abbrev pub is_int : Kind → Bool
 is_int kinds.Int = true
 is_int _ = false
 
+-- a type of a descriptor that is int or an array of ints
 abbrev pub is_int_part : Part → Bool
 is_int_part p = is_int p.kind || is_int_name p.class
 
+-- there is a descriptor, and a parameter or the result is int or an array of ints
 abbrev pub is_any_int : Option Parts → Bool
 is_any_int None = false
 is_any_int (Some d) = list_any (λ p. is_int_part p) (d.params ++ d.result ∷ [])
 
+-- int or an array of ints stands in a descriptor; bytes that are none, or that 32 bits don't count, have no type
 unfoldable pub is_int_desc : List ℕ → Bool
 is_int_desc desc = nat_lt (length desc) (2 ^ 32) && is_any_int (desc_of desc)
 
+-- a field or method whose class is an array of ints, or in whose descriptor int stands
 abbrev pub is_int_member : MemberId → Bool
 is_int_member id = is_int_name id.class || is_int_desc id.desc
 

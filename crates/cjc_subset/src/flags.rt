@@ -25,6 +25,7 @@ pub(crate) fn is_unfit_class(flags: u16) -> bool
     has(flags, ACC_ENUM) || has(flags, ACC_ANNOTATION)
 }
 
+/// Flags that a field of a class or of an interface may not have.
 pub(crate) fn is_unfit_field(interface: bool, flags: u16) -> bool
     ensures { result ≡ is_unfit_field interface flags }
 {
@@ -45,6 +46,7 @@ fn is_unfit_method_kind(flags: u16) -> bool
         || is_abstract(flags) && (is_static(flags) || is_private(flags))
 }
 
+/// Flags that a method of this name in a class or interface may not have, with or without code.
 pub(crate) fn is_unfit_method(interface: bool, flags: u16, name: &[u8], has_code: bool) -> bool
     ensures { result ≡ is_unfit_method interface flags name.now has_code }
 {

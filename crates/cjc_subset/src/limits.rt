@@ -32,6 +32,7 @@ pub(crate) fn has_many_exported(world: &World<'_>, settings: &Settings) -> bool
 
 // ---- 404 and 405
 
+/// Whether the code of a method has more than 255 local variables.
 pub(crate) fn has_many_locals(method: &MethodTree<'_>) -> bool
     ensures { result ≡ has_many_locals method.now.code }
 {
@@ -41,6 +42,7 @@ pub(crate) fn has_many_locals(method: &MethodTree<'_>) -> bool
     }
 }
 
+/// Whether the code of a method has an operand stack of more than 255 words.
 pub(crate) fn has_deep_stack(method: &MethodTree<'_>) -> bool
     ensures { result ≡ has_deep_stack method.now.code }
 {

@@ -37,12 +37,14 @@ pub(crate) fn is_array(name: &[u8]) -> bool
     }
 }
 
+/// Whether a method of this name is a constructor.
 pub(crate) fn is_constructor(name: &[u8]) -> bool
     ensures { result ≡ is_constructor name.now }
 {
     name == CONSTRUCTOR
 }
 
+/// Whether a method of this name is the initialiser of a class or interface.
 pub(crate) fn is_initialiser(name: &[u8]) -> bool
     ensures { result ≡ is_initialiser name.now }
 {
@@ -63,6 +65,7 @@ fn is_descriptor(name: &[u8]) -> bool
 
 // ---- classes that are in no file
 
+/// Whether no file has a class of the name.
 pub(crate) fn is_missing(world: &World<'_>, name: &[u8]) -> bool
     ensures { result ≡ is_missing (all_classes world.now) name.now }
 {

@@ -22,6 +22,7 @@ each_once seen (x ∷ xs) = if is_one_of seen x then each_once seen xs else x �
 abbrev pub superclasses : List Class → Class → List (List ℕ)
 superclasses w c = each_once [] (names_upwards (kin w c.supers))
 
+-- the name of an interface, also of one that no file has
 abbrev pub name_of : Interface → List ℕ
 name_of i = i.name
 

@@ -65,6 +65,7 @@ impl<'a> Model for Seen<'a> {
 }
 
 impl<'a> Seen<'a> {
+    /// Nothing is seen yet.
     pub(crate) fn new(alloc: Global) -> Seen<'a>
         ensures { result ≡ nothing }
     {
@@ -90,6 +91,7 @@ impl<'a> Seen<'a> {
         Ok(())
     }
 
+    /// Whether all that stands above a name has been seen.
     pub(crate) fn is_done(&self, name: &'a [u8]) -> bool
         ensures { result ≡ is_done self.now name.now }
     {

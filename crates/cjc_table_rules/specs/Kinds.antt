@@ -33,6 +33,7 @@ abbrev pub kinds_from : Named → (k : ℕ) → List Cell → List Span → List
 kinds_from l k [] s = []
 kinds_from l k (cell ∷ cells) s = kind_of_cell l cell (operand s k) ∷ kinds_from l (suc k) cells s
 
+-- the kinds of all cells by their intervals
 abbrev pub kinds : Named → List Cell → List Span → List Kind
 kinds l cells s = kinds_from l 0 cells s
 
@@ -40,6 +41,7 @@ kinds l cells s = kinds_from l 0 cells s
 abbrev pub point_of : Named → State → RangeState → Point
 point_of l t x = record { stack = kinds l (cells_of t.stack) (spans_of x.stack); locals = kinds l t.locals x.locals }
 
+-- what both tables say of a frame, where both have a state for it
 abbrev pub point_where : Named → Option (Option State) → Option (Option RangeState) → Option Point
 point_where l (Some (Some t)) (Some (Some x)) = Some (point_of l t x)
 point_where l t x = None

@@ -155,6 +155,7 @@ length_small p (x ∷ xs) = go (p x) (length_small p xs)
     go true h = omega (arith, h)
     go false h = omega (arith, h)
 
+-- the flow of names is lawful
 pub name_laws : (names : List ℕ) (code : List (ℕ × ℕ × ℕ)) → IsLawful (name_flow names code)
 name_laws names code = record {
   reflexive = λ x own n h. h;
@@ -167,5 +168,6 @@ name_laws names code = record {
   bounded = λ x own. let m = length_small (has x) names in omega (arith, ap length own, m);
 }
 
+-- no edge of the flow of names leads out of the code
 pub names_stay : (names : List ℕ) (code : List (ℕ × ℕ × ℕ)) → StaysWithin (name_flow names code) (length code)
 names_stay names code at x lt own e is = place_inside names (length code) (slice_get code at) x e is

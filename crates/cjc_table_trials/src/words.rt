@@ -29,6 +29,7 @@ fn number_in(word: &str, base: u32) -> Result<u32, NoMemory>
     }
 }
 
+/// A number in decimal digits.
 pub(crate) fn number(word: &str) -> Result<u32, NoMemory> {
     number_in(word, 10)
 }
@@ -43,6 +44,7 @@ pub(crate) fn octet(word: &str) -> Result<u8, NoMemory> {
     }
 }
 
+/// Whether a word is this number in decimal digits.
 pub(crate) fn is_number(word: &str, wanted: u32) -> bool {
     match number(word) {
         Ok(number) => number == wanted,

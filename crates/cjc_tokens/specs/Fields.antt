@@ -18,6 +18,7 @@ is_open_static f = is_static f.flags && is_exposed f.flags && not (is_constant f
 
 -- ---- instance fields
 
+-- a field that is not static
 abbrev pub is_instance : FieldTree → Bool
 is_instance f = not (is_static f.flags)
 
@@ -34,6 +35,7 @@ group f = if is_exposed f.flags then (if is_reference f.desc then 1 else 0) else
 abbrev pub cells : FieldTree → ℕ
 cells f = if bytes_eq f.desc (codes "I") then 2 else 1
 
+-- how many cells the fields take that pass the test
 abbrev pub cells_of : (FieldTree → Bool) → List FieldTree → ℕ
 cells_of test fs = sum_by (λ f. if test f then cells f else 0) fs
 
@@ -61,6 +63,7 @@ field_tokens exported fs i (f ∷ rest) = field_token exported fs i f ∷ field_
 abbrev pub instance_field_token : List FieldTree → (place : ℕ) → FieldTree → Option ℕ
 instance_field_token fs i f = if is_instance f then Some (instance_token fs i f) else None
 
+-- those of the fields from a place on, where static fields have none
 unfoldable pub instance_tokens : List FieldTree → (place : ℕ) → List FieldTree → List (Option ℕ)
 instance_tokens fs i [] = []
 instance_tokens fs i (f ∷ rest) = instance_field_token fs i f ∷ instance_tokens fs (i + 1) rest

@@ -4,6 +4,7 @@ use Rattle.cjc_world.specs.Classes.{Member, Class}
 use Rattle.cjc_world.specs.Kin.{Kin, End, Unknown, Known, kin, upwards}
 use Rattle.cjc_world.specs.Added.{added}
 
+-- What the line of a class is, by where the class stands.
 pub data Line : Type 0 where
   -- no class
   Nowhere : Line

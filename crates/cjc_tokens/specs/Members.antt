@@ -10,9 +10,11 @@ pub record Signature : Type 0 where
   pub name : List ℕ
   pub desc : List ℕ
 
+-- the signature of a field or method
 abbrev pub signature_of : Member → Signature
 signature_of m = record { name = m.name; desc = m.desc }
 
+-- both have the same name and the same descriptor
 abbrev pub same : Signature → Signature → Bool
 same s t = bytes_eq s.name t.name && bytes_eq s.desc t.desc
 
@@ -42,6 +44,7 @@ is_initialiser name = bytes_eq name (codes "<clinit>")
 abbrev pub is_virtual_by : (flags : ℕ) → (name : List ℕ) → Bool
 is_virtual_by flags name = is_selectable flags && not (is_constructor name || is_initialiser name)
 
+-- the same of a method of a class
 abbrev pub is_virtual : Member → Bool
 is_virtual m = is_virtual_by m.flags m.name
 

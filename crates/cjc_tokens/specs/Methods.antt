@@ -25,6 +25,7 @@ interface_methods w c = new_in [] (map signature_of (if c.is_imported then own_m
 abbrev pub interface_row : List Class → Class → List (Option Found)
 interface_row w c = map (λ s. method_of_interface w c.name s.name s.desc) (interface_methods w c)
 
+-- the token of a method of an interface: its place among the methods there; <clinit> has none
 abbrev pub interface_token : List Signature → Member → Option ℕ
 interface_token methods m = if is_initialiser m.name then None else position (λ s. same s (signature_of m)) methods
 

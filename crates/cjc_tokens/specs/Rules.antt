@@ -19,33 +19,41 @@ use Rattle.cjc_tokens.specs.Tokens.{one_more}
 
 -- ---- 401: more than 255 exported classes
 
+-- how many of these classes are exported, the first of which has this number
 abbrev pub count_exported : List Class → (applets : Bool) → (number : ℕ) → List ClassTree → ℕ
 count_exported w applets k [] = 0
 count_exported w applets k (c ∷ cs) = one_more (is_exported w applets (declared k c)) (count_exported w applets (k + 1) cs)
 
+-- 401 is not broken.
 abbrev pub FewExported : (applets : Bool) → Files → Type 0
 FewExported applets files = count_exported (all_classes files) applets 0 files.classes ≤ 255
 
+-- 401 is not broken, as a test
 abbrev pub has_few_exported : (applets : Bool) → Files → Bool
 has_few_exported applets files = nat_le (count_exported (all_classes files) applets 0 files.classes) 255
 
 -- ---- 406: a class declares more than 255 cells of instance fields
 
+-- The class does not break 406.
 abbrev pub HasFewCells : ClassTree → Type 0
 HasFewCells c = instance_cells c.fields ≤ 255
 
+-- No class of the package breaks 406.
 abbrev pub FewCells : Files → Type 0
 FewCells files = All HasFewCells files.classes
 
+-- the class does not break 406, as a test
 abbrev pub has_few_cells : ClassTree → Bool
 has_few_cells c = nat_le (instance_cells c.fields) 255
 
 -- ---- 413: a virtual or interface method would get a token above 127, or a static field or method one above 254
 
+-- there is a token, and it is above the limit
 abbrev pub is_above : (limit : ℕ) → Option ℕ → Bool
 is_above limit None = false
 is_above limit (Some t) = nat_lt limit t
 
+-- a virtual method that the class declares or gets from its interfaces has a token above 127
 abbrev pub has_high_method : List Class → Class → Bool
 has_high_method w c =
     list_any (λ m. is_above 127 (virtual_token (slots (line_at w c)) (hidden_slots (line_at w c)) m)) c.methods
@@ -62,6 +70,7 @@ has_high_token w exported number c =
 abbrev pub at_class : FilePlace → List ℕ → Break
 at_class f class_name = broken_at (class_spot f 1 class_name) 413
 
+-- the break where there is one, else nothing
 abbrev pub breaks_where : Bool → Break → List Break
 breaks_where true b = b ∷ []
 breaks_where false b = []

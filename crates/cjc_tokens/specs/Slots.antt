@@ -16,6 +16,7 @@ abbrev pub holds : Option Signature → Signature → Bool
 holds None s = false
 holds (Some t) s = same t s
 
+-- whether some slot is of this signature
 abbrev pub has_slot : Slots → Signature → Bool
 has_slot [] s = false
 has_slot (slot ∷ slots) s = holds slot s || has_slot slots s
@@ -43,6 +44,7 @@ reserve zero (slot ∷ slots) = slot ∷ slots
 reserve (suc t) [] = None ∷ reserve t []
 reserve (suc t) (slot ∷ slots) = slot ∷ reserve t slots
 
+-- what a method of an export file does to the slots: a package-visible one only uses up its token
 abbrev pub listed : Member → Slots → Slots
 listed m slots = if is_shown m then put m.token (signature_of m) slots else if is_virtual m then reserve m.token slots else slots
 

@@ -32,6 +32,7 @@ pub record OfClass : Type 0 where
   -- the package-visible method that each token means, the token without its high bit
   pub package_methods : List (Option Found)
 
+-- the tokens of the methods of an interface; of a class those of its methods and of the methods that it gets
 abbrev pub method_tokens : List Class → (exported : Bool) → Class → List (Option ℕ)
 method_tokens w exported c =
     if is_interface c.flags then map (interface_token (interface_methods w c)) c.methods
@@ -47,6 +48,7 @@ of_class w applets before number c = record {
   package_methods = if is_interface c.flags then [] else hidden_row (line_at w (declared number c));
 }
 
+-- the count, and one more where the class is exported
 abbrev pub one_more : Bool → ℕ → ℕ
 one_more true n = n + 1
 one_more false n = n
@@ -58,27 +60,33 @@ classes_from w applets before k (c ∷ cs) = of_class w applets before k c ∷ c
 
 -- ---- imported classes: the tokens of their export files
 
+-- the token of a field of an export file; a constant has none
 abbrev pub listed_field_token : ExportField → Option ℕ
 listed_field_token f = if is_some f.constant then None else Some f.token
 
+-- the token of a method of an export file; <clinit> has none
 abbrev pub listed_method_token : ExportMethod → Option ℕ
 listed_method_token m = if is_initialiser m.name then None else Some m.token
 
+-- the tokens of the fields of an imported class, then those of its methods
 abbrev pub of_import : ExportClass → List (Option ℕ)
 of_import c = map listed_field_token c.fields ++ map listed_method_token c.methods
 
+-- those of all imported classes, in list order and as they stand in their files
 abbrev pub imports_of : List ExportTree → List (List (Option ℕ))
 imports_of [] = []
 imports_of (t ∷ ts) = map of_import t.classes ++ imports_of ts
 
 -- ---- all together
 
+-- the tokens of a package and of its imports
 pub record Assigned : Type 0 where
   -- of the package's classes, in list order
   pub classes : List OfClass
   -- of the members of all imported classes, in list order and as they stand in their files
   pub imports : List (List (Option ℕ))
 
+-- the tokens of a package, with applets or without, and of its imports
 unfoldable pub assigned : (applets : Bool) → Files → Assigned
 assigned applets files = record {
   classes = classes_from (all_classes files) applets 0 0 files.classes;
@@ -87,6 +95,7 @@ assigned applets files = record {
 
 -- ---- look-up, both ways
 
+-- what is there, where both are there
 abbrev pub joined : {A : Type 0} → Option (Option A) → Option A
 joined None = None
 joined (Some o) = o
@@ -107,10 +116,12 @@ method_of_token a class token =
     if nat_lt token 128 then option_and_then (λ c. joined (slice_get c.public_methods token)) (slice_get a.classes class)
     else option_and_then (λ c. joined (slice_get c.package_methods (token - 128))) (slice_get a.classes class)
 
+-- the methods of a class by their public tokens, none where there is no class
 abbrev pub public_in : Option OfClass → List (Option Found)
 public_in None = []
 public_in (Some c) = c.public_methods
 
+-- the package-visible ones, by the tokens without the high bit
 abbrev pub package_in : Option OfClass → List (Option Found)
 package_in None = []
 package_in (Some c) = c.package_methods
@@ -123,6 +134,7 @@ public_methods_of a class = public_in (slice_get a.classes class)
 abbrev pub package_methods_of : Assigned → (class : ℕ) → List (Option Found)
 package_methods_of a class = package_in (slice_get a.classes class)
 
+-- there is a token, and it is this one
 abbrev pub has_token : ℕ → Option ℕ → Bool
 has_token t None = false
 has_token t (Some u) = u == t

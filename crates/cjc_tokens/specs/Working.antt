@@ -23,6 +23,7 @@ use Rattle.cjc_tokens.specs.Tokens.{OfClass, classes_from, of_class}
 use Rattle.cjc_tokens.specs.Rules.{at_class, has_high_token, is_above, token_breaks}
 use Rattle.cjc_bytes.specs.Order.{file_of}
 
+-- the signature of a slot
 abbrev pub signature_in : Slot → Signature
 signature_in s = record { name = s.name.now; desc = s.desc.now }
 
@@ -30,6 +31,7 @@ signature_in s = record { name = s.name.now; desc = s.desc.now }
 abbrev pub signs : List (Option Slot) → Slots
 signs row = map (option_map signature_in) row
 
+-- the method that a slot means, none of a token that no method has
 abbrev pub meant : Option Slot → Option Found
 meant None = None
 meant (Some s) = s.method
@@ -47,6 +49,7 @@ abbrev pub is_kind : (hidden : Bool) → (flags : ℕ) → (name : List ℕ) →
 is_kind true flags name = not (is_exposed flags) && is_virtual_by flags name
 is_kind false flags name = is_exposed flags && is_virtual_by flags name
 
+-- the same of a method of a class
 abbrev pub is_of_kind : (hidden : Bool) → Member → Bool
 is_of_kind hidden m = is_kind hidden m.flags m.name
 
@@ -59,6 +62,7 @@ abbrev pub nearest : Class → (added : List Member) → (hidden : Bool) → Sig
 nearest c added true s above = or_else (own (is_of_kind true) s c) above
 nearest c added false s above = or_else (own (is_of_kind false) s c) (or_else (got added s c) above)
 
+-- the method of the nearest class for a slot of the superclass
 abbrev pub nearest_slot : Class → (added : List Member) → (hidden : Bool) → Option Slot → Option Found
 nearest_slot c added hidden None = None
 nearest_slot c added hidden (Some s) = nearest c added hidden (signature_in s) s.method

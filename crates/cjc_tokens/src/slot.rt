@@ -41,12 +41,14 @@ pub fn is_exposed(flags: u16) -> bool
     is_public(flags) || is_protected(flags)
 }
 
+/// Whether a method of this name is a constructor.
 pub(crate) fn is_constructor(name: &[u8]) -> bool
     ensures { result ≡ bytes_eq name.now CONSTRUCTOR.now }
 {
     name == CONSTRUCTOR
 }
 
+/// Whether a method of this name is the initialiser of a class or interface.
 pub(crate) fn is_initialiser(name: &[u8]) -> bool
     ensures { result ≡ bytes_eq name.now INITIALISER.now }
 {
@@ -80,6 +82,7 @@ fn holds(slot: &Option<Slot<'_>>, name: &[u8], desc: &[u8]) -> bool
     }
 }
 
+/// Whether some slot is of this name and descriptor.
 pub(crate) fn has_slot(row: &[Option<Slot<'_>>], name: &[u8], desc: &[u8]) -> bool
     ensures { result ≡ has_slot (signs row.now) (record { name = name.now; desc = desc.now }) }
 {

@@ -96,6 +96,7 @@ fn number_in(word: &str, base: u32) -> Result<u32, NoMemory>
     }
 }
 
+/// A number in decimal digits.
 pub(crate) fn number(word: &str) -> Result<u32, NoMemory> {
     number_in(word, 10)
 }
@@ -126,6 +127,7 @@ pub(crate) fn token(word: &str) -> Result<u8, NoMemory> {
     }
 }
 
+/// Whether a word is this number in decimal digits.
 pub(crate) fn is_number(word: &str, wanted: u32) -> bool {
     match number(word) {
         Ok(number) => number == wanted,
@@ -133,10 +135,12 @@ pub(crate) fn is_number(word: &str, wanted: u32) -> bool {
     }
 }
 
+/// Whether these are the bytes of a word, where `-` has none.
 pub(crate) fn is_text(bytes: &Bytes, word: &str) -> bool {
     bytes.items() == list_of(word).as_bytes()
 }
 
+/// The bytes of a word, where `-` has none.
 pub(crate) fn text(alloc: Global, word: &str) -> Result<Bytes, NoMemory> {
     Bytes::copy_of(alloc, list_of(word).as_bytes())
 }
@@ -410,6 +414,7 @@ fn have_one_head(line: &str, other: &str) -> bool {
 }
 
 impl<'a> Draft<'a> {
+    /// A draft of nothing.
     pub(crate) fn new(alloc: Global) -> Draft<'a> {
         Draft {
             lines: Row::new(alloc),

@@ -14,6 +14,7 @@ fn is_place(found: Found, words: &str) -> bool {
     is_kind && is_number(class, found.class) && is_number(member, found.member)
 }
 
+/// Whether these words say what was found, where `none` is nothing.
 pub(crate) fn is_found(found: Option<Found>, words: &str) -> bool {
     match found {
         Some(found) => is_place(found, words),

@@ -45,6 +45,7 @@ fn call(alloc: Global, op: u8, operand: &str) -> Result<JOp, NoMemory> {
     })
 }
 
+/// The instruction that these words say: its name, and its operand where it has one.
 pub(crate) fn instruction(alloc: Global, words: &str) -> Result<JOp, NoMemory> {
     let (name, operand) = crate::drafts::cut(words, " ");
     if let Some(op) = opcode_of_call(name) {

@@ -4,6 +4,7 @@ use Rattle.cjc_script.specs.Sorts
 use Rattle.cjc_type_info.specs.declared.sort.Sort.{Sort}
 use Rattle.cjc_type_info.specs.declared.sort.Sort.TheVariants as sorts
 
+-- the type that one of the code's stands for: a primitive, a class, or an array by its elements
 abbrev pub sort_meant : Sort → Sorts.Sort
 sort_meant sorts.Boolean = Boolean
 sort_meant sorts.Byte = Byte

@@ -19,14 +19,17 @@ IsAmong names Number = Unit {0}
 IsAmong names (Refs types) = IsWithin types names
 IsAmong names Unusable = Unit {0}
 
+-- each type of each of the cells is one of these
 abbrev pub AreAmong : List (List ℕ) → List Cell → Type 0
 AreAmong names [] = Unit {0}
 AreAmong names (x ∷ xs) = IsAmong names x × AreAmong names xs
 
+-- each type of the stack's cells is one of these; a clash has none
 abbrev pub IsStackAmong : List (List ℕ) → Stack → Type 0
 IsStackAmong names (Cells s) = AreAmong names s
 IsStackAmong names Clash = Unit {0}
 
+-- each type of the stack's cells and of the locals is one of these
 abbrev pub IsStateAmong : List (List ℕ) → State → Type 0
 IsStateAmong names x = IsStackAmong names x.stack × AreAmong names x.locals
 

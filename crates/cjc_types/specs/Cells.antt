@@ -13,20 +13,24 @@ most_names = 4294967295
 abbrev pub refs : List (List ℕ) → Cell
 refs names = if nat_le (length names) most_names then Refs names else Unusable
 
+-- a set of no more names than 32 bits count
 pub record IsNameSet (names : List (List ℕ)) : Type 0 where
   pub set : IsSet names
   pub few : length names ≤ most_names
 
+-- a cell of the order: the types of a reference are such a set
 abbrev pub IsCell : Cell → Type 0
 IsCell Number = Unit {0}
 IsCell (Refs names) = IsNameSet names
 IsCell Unusable = Unit {0}
 
+-- only a number is below a number
 abbrev pub IsBelowNumber : Cell → Type 0
 IsBelowNumber Number = Unit {0}
 IsBelowNumber (Refs names) = ⊥
 IsBelowNumber Unusable = ⊥
 
+-- below a reference are only references, of no other types
 abbrev pub IsBelowRefs : List (List ℕ) → Cell → Type 0
 IsBelowRefs names Number = ⊥
 IsBelowRefs names (Refs less) = IsWithin less names
@@ -38,6 +42,7 @@ IsCellAbove Number x = IsBelowNumber x
 IsCellAbove (Refs names) x = IsBelowRefs names x
 IsCellAbove Unusable x = Unit {0}
 
+-- the first cell is below the second, or the same
 abbrev pub IsCellBelow : Cell → Cell → Type 0
 IsCellBelow x y = IsCellAbove y x
 
@@ -51,10 +56,12 @@ joined_cell (Refs names) (Refs others) = refs (union names others)
 joined_cell (Refs names) Unusable = Unusable
 joined_cell Unusable y = Unusable
 
+-- how high a cell stands in the order: a reference by the number of its types, an unusable cell above all
 abbrev pub cell_rank : Cell → ℕ
 cell_rank Number = 0
 cell_rank (Refs names) = length names
 cell_rank Unusable = suc most_names
 
+-- the cells as an order with joins of bounded height
 abbrev pub cells : Lattice Cell
 cells = record { Own = IsCell; Below = IsCellBelow; join = joined_cell; rank = cell_rank; height = suc most_names }

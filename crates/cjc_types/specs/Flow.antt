@@ -29,6 +29,7 @@ pub record Body : Type 0 where
   pub catches : List Catch
   pub insns : List JInsn
 
+-- what inference reads of this method of a class, with its code and the instructions decoded from it
 abbrev pub body_of : ClassTree → MethodTree → CodeTree → List JInsn → Body
 body_of class method code insns = record {
   class = class.name;
@@ -56,6 +57,7 @@ entry b = record { stack = Cells []; locals = take b.max_locals (arguments b ++ 
 abbrev pub place_at : List JInsn → (offset : ℕ) → Option ℕ
 place_at insns offset = position (λ i. i.at == offset) insns
 
+-- the place behind, if execution may fall through to it and there is one
 abbrev pub next_place : (goes_on : Bool) → (places at : ℕ) → List ℕ
 next_place true places at = if nat_lt (at + 1) places then (at + 1) ∷ [] else []
 next_place false places at = []
@@ -64,6 +66,7 @@ next_place false places at = []
 abbrev pub successors : List JInsn → (at : ℕ) → JOp → List ℕ
 successors insns at op = next_place (goes_on op) (length insns) at ++ filter_map (place_at insns) (targets op)
 
+-- the state, handed to this place
 abbrev pub edge : State → ℕ → Edge State
 edge state to = record { to = to; state = state }
 
@@ -82,14 +85,17 @@ caught_type None = codes "java/lang/Throwable"
 abbrev pub caught : Catch → State → State
 caught c x = record { stack = Cells (Refs (caught_type c.class ∷ []) ∷ []); locals = x.locals }
 
+-- what an instruction at this offset hands to the handler: nothing if the handler does not cover it
 abbrev pub handler_edge : List JInsn → (offset : ℕ) → State → Catch → Option (Edge State)
 handler_edge insns offset x c = if covers c offset then option_map (edge (caught c x)) (place_at insns c.target) else None
 
 -- ---- the flow
 
+-- what an instruction hands to those that may follow, and to the handlers that cover it
 abbrev pub insn_edges : Body → (at : ℕ) → JInsn → State → List (Edge State)
 insn_edges b at insn x = map (edge (after insn.op x)) (successors b.insns at insn.op) ++ filter_map (handler_edge b.insns insn.at x) b.catches
 
+-- what is handed on from a place; where there is no instruction, nothing
 abbrev pub place_edges : Body → (at : ℕ) → Option JInsn → State → List (Edge State)
 place_edges b at None x = []
 place_edges b at (Some insn) x = insn_edges b at insn x

@@ -7,6 +7,7 @@ use Rattle.cjc_code.specs.declared.insn.JInsn.{JInsn}
 use Rattle.cjc_types.specs.Steps.{targets}
 use Rattle.cjc_types.specs.Flow.{Body, place_at}
 
+-- whether there is a place and it is this one
 abbrev pub is_place : Option ℕ → (at : ℕ) → Bool
 is_place None at = false
 is_place (Some place) at = place == at
@@ -23,6 +24,7 @@ is_jumped_to b at = list_any (λ (i : JInsn). leads_to b.insns (targets i.op) at
 abbrev pub is_handler : Body → (at : ℕ) → Bool
 is_handler b at = list_any (λ (c : Catch). is_place (place_at b.insns c.target) at) b.catches
 
+-- whether the place is the first, or some jump, switch or handler leads to it
 abbrev pub is_marked : Body → (at : ℕ) → Bool
 is_marked b at = (at == 0) || (is_jumped_to b at || is_handler b at)
 

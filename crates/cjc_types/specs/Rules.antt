@@ -24,11 +24,13 @@ use Rattle.cjc_types.specs.Flow.{Body}
 
 -- ---- kinds of cells
 
+-- a value of boolean, byte, short or int
 abbrev pub is_number : Cell → Bool
 is_number Number = true
 is_number (Refs names) = false
 is_number Unusable = false
 
+-- a reference to an object or an array, or null
 abbrev pub is_reference : Cell → Bool
 is_reference Number = false
 is_reference (Refs names) = true
@@ -54,11 +56,13 @@ is_value w kinds.Other class cell = false
 is_value w kinds.Ref class cell = is_of w class cell
 is_value w kinds.Void class cell = false
 
+-- a value of the type of a field, a parameter or a result
 abbrev pub is_value_of : List Class → Part → Cell → Bool
 is_value_of w p cell = is_value w p.kind p.class cell
 
 -- ---- arrays
 
+-- whether there is a name
 abbrev pub is_some : Option (List ℕ) → Bool
 is_some (Some name) = true
 is_some None = false
@@ -78,13 +82,16 @@ is_array_for opcode name =
 
 -- ---- methods
 
+-- what is read where a class has no such member: no flag is set
 abbrev pub no_member : Member
 no_member = record { flags = 0; name = []; desc = []; token = 0 }
 
+-- whether the method that was found is private, by its flags in the class that holds it
 abbrev pub is_private_in : Found → Option Class → Bool
 is_private_in f None = false
 is_private_in f (Some c) = is_private (get_or c.methods (f.member - length c.fields) no_member).flags
 
+-- whether a method was found and is private
 abbrev pub is_found_private : List Class → Option Found → Bool
 is_found_private w None = false
 is_found_private w (Some f) = is_private_in f (class_at w f.imported f.class)
@@ -132,6 +139,7 @@ is_field_operand w put field k cell =
     if put && (k == 0) then is_value_of w (parts field.desc).result cell
     else is_of w field.class cell
 
+-- the class that the operand of athrow is of
 abbrev pub throwable : List ℕ
 throwable = codes "java/lang/Throwable"
 
@@ -190,11 +198,13 @@ abbrev pub is_wrong_return : Body → JOp → Bool
 is_wrong_return b (jop.Return opcode) = not (returns opcode (parts b.desc).result.kind)
 is_wrong_return b _ = false
 
+-- an operand or a local is of the wrong kind or class, or the return instruction is not that of the method's result
 abbrev pub is_wrong : List Class → Body → JOp → (locals stack : List Cell) → Bool
 is_wrong w b op locals s = has_wrong w b op (takes op) 0 s || has_wrong_local op locals || is_wrong_return b op
 
 -- ---- 503: an operand is missing, or the stack before or behind the instruction has more than max_stack cells
 
+-- fewer cells than the instruction takes, or more than max_stack before or behind it
 abbrev pub is_off : Body → JOp → (locals stack : List Cell) → Bool
 is_off b op locals s = nat_lt (length s) (takes op) || nat_lt b.max_stack (length s) || nat_lt b.max_stack (length (stack_behind op locals s))
 
@@ -207,6 +217,7 @@ pub data Breaks (w : List Class) (b : Body) (op : JOp) : State → ℕ → Type 
   wrong : (s locals : List Cell) → is_wrong w b op locals s ≡ true → Breaks w b op (record { stack = Cells s; locals = locals }) 502
   off : (s locals : List Cell) → is_off b op locals s ≡ true → Breaks w b op (record { stack = Cells s; locals = locals }) 503
 
+-- the first rule that an instruction breaks on this stack with these locals
 abbrev pub rule_of_stack : List Class → Body → JOp → (locals : List Cell) → Stack → Option ℕ
 rule_of_stack w b op locals Clash = Some 501
 rule_of_stack w b op locals (Cells s) = if is_wrong w b op locals s then Some 502 else if is_off b op locals s then Some 503 else None

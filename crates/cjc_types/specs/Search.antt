@@ -16,6 +16,7 @@ abbrev pub row_rule : List Class → Body → JInsn → Option State → Option 
 row_rule w b insn None = None
 row_rule w b insn (Some x) = first_rule w b insn.op x
 
+-- this place with the rule that is broken there, or else what is found later
 abbrev pub or_later : Option ℕ → (place : ℕ) → Option FirstBroken → Option FirstBroken
 or_later (Some rule) place later = Some (record { place = place; rule = rule })
 or_later None place later = later
@@ -31,8 +32,10 @@ abbrev pub cells_of : Stack → List Cell
 cells_of (Cells cells) = cells
 cells_of Clash = []
 
+-- the frame with the cells of the state's stack, none for a clash, and its locals
 abbrev pub frame_of : State → Frame
 frame_of x = record { stack = cells_of x.stack; locals = x.locals }
 
+-- the frame of each place that is reached
 abbrev pub frames_of : List (Option State) → List (Option Frame)
 frames_of rows = map (option_map frame_of) rows

@@ -17,14 +17,17 @@ most_cells = 393216
 abbrev pub stack_of : List Cell → Stack
 stack_of xs = if nat_le (length xs) most_cells then Cells xs else Clash
 
+-- cells of the order, no more than a stack of a least table has
 pub record IsCellStack (xs : List Cell) : Type 0 where
   pub few : length xs ≤ most_cells
   pub own : All IsCell xs
 
+-- a stack of the order: such cells, or a clash
 abbrev pub IsStack : Stack → Type 0
 IsStack (Cells xs) = IsCellStack xs
 IsStack Clash = Unit {0}
 
+-- a stack as high as these cells, and below them cell by cell; a clash is not
 abbrev pub IsBelowCells : List Cell → Stack → Type 0
 IsBelowCells ys (Cells xs) = AllZip IsCellBelow xs ys
 IsBelowCells ys Clash = ⊥
@@ -34,6 +37,7 @@ abbrev pub IsStackAbove : Stack → Stack → Type 0
 IsStackAbove (Cells ys) x = IsBelowCells ys x
 IsStackAbove Clash x = Unit {0}
 
+-- the first stack is below the second, or the same
 abbrev pub IsStackBelow : Stack → Stack → Type 0
 IsStackBelow x y = IsStackAbove y x
 
@@ -43,13 +47,16 @@ joined_stack (Cells xs) (Cells ys) = if length xs == length ys then Cells (joine
 joined_stack (Cells xs) Clash = Clash
 joined_stack Clash y = Clash
 
+-- how high a clash stands in the order: above all stacks of cells
 abbrev pub clash_rank : ℕ
 clash_rank = suc (most_cells * suc most_names)
 
+-- how high a stack stands in the order: the sum of its cells' ranks, or above all for a clash
 abbrev pub stack_rank : Stack → ℕ
 stack_rank (Cells xs) = sum_by cell_rank xs
 stack_rank Clash = clash_rank
 
+-- the stacks as an order with joins of bounded height
 abbrev pub stacks : Lattice Stack
 stacks = record { Own = IsStack; Below = IsStackBelow; join = joined_stack; rank = stack_rank; height = clash_rank }
 

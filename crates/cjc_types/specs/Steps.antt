@@ -155,6 +155,7 @@ goes_on (jop.Return opcode) = false
 goes_on jop.Throw = false
 goes_on _ = true
 
+-- the offset that a case of a lookupswitch jumps to
 abbrev pub case_target : JCase → ℕ
 case_target c = c.target
 

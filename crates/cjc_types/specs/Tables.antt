@@ -40,6 +40,7 @@ IsOfPackage files code = (class : ClassTree) × (method : MethodTree) × (tree :
 
 -- ---- tables
 
+-- the state that a frame stands for, whose stack is no clash
 abbrev pub state_of : Frame → State
 state_of f = record { stack = Cells f.stack; locals = f.locals }
 

@@ -12,9 +12,11 @@ use Rattle.cjc_types.specs.Cells.{refs}
 
 -- ---- descriptors
 
+-- what stands for the parts of bytes that are no descriptor: no parameters, and a void result
 abbrev pub no_parts : Parts
 no_parts = record { is_method = false; params = []; result = plain kinds.Void }
 
+-- the parts of a descriptor, or else no parameters and a void result
 abbrev pub parts_or_none : Option Parts → Parts
 parts_or_none (Some d) = d
 parts_or_none None = no_parts
@@ -34,9 +36,11 @@ cell_of kinds.Other class = Unusable
 cell_of kinds.Ref class = Refs (class ∷ [])
 cell_of kinds.Void class = Unusable
 
+-- what a value of the type of a field, a parameter or a result is
 abbrev pub value_of : Part → Cell
 value_of p = cell_of p.kind p.class
 
+-- whether there is no value at all, as of a method without a result
 abbrev pub is_void : Kind → Bool
 is_void kinds.Bool = false
 is_void kinds.Byte = false
@@ -68,6 +72,7 @@ letter number =
     else if number == 10 then 73
     else 74
 
+-- the class or array type that a descriptor of elements names; that of a number names none
 abbrev pub held_by : (element : List ℕ) → Option (List ℕ)
 held_by element = if starts 91 element then Some element else if starts 76 element then Some (inner element) else None
 
@@ -76,6 +81,7 @@ abbrev pub held : List ℕ → Option (List ℕ)
 held [] = None
 held (b ∷ bs) = if b == 91 then held_by bs else None
 
+-- these and the type, if there is one
 abbrev pub with_held : Option (List ℕ) → List (List ℕ) → List (List ℕ)
 with_held None names = names
 with_held (Some name) names = insert name names

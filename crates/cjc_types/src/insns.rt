@@ -45,6 +45,7 @@ fn call_takes(opcode: u8, method: &MemberId) -> usize
     types::parameters(method.desc.items()) + receivers(opcode)
 }
 
+/// The first number where the test holds, else the second.
 pub(crate) fn either(test: bool, yes: usize, no: usize) -> usize
     ensures { result ≡ (if test then yes else no) }
 {

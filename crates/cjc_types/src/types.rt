@@ -81,6 +81,7 @@ pub(crate) fn given_by(alloc: Global, desc: &[u8]) -> Result<Row<Cell>, NoMemory
     Ok(cells)
 }
 
+/// Whether there is a first byte and it is this one.
 pub(crate) fn starts(first: u8, bytes: &[u8]) -> bool
     ensures { result ≡ starts_by first bytes.now }
 {

@@ -34,6 +34,7 @@ class_t = class 0x0021 (codes "p/T") object [] (items.Field (of_t (codes "s") (c
 abbrev pub files : Files
 files = over (codes "p") (class_t ∷ [])
 
+-- t has 1, 2 and 3; o is null, z is 0 and s is 7
 abbrev pub image : StaticImage
 image = record {
   arrays = record { field = of_t (codes "t") (codes "[B"); kind = kinds.Byte; items = pos 1 ∷ pos 2 ∷ pos 3 ∷ [] } ∷ [];

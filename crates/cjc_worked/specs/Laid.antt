@@ -20,6 +20,7 @@ use Rattle.cjc_worked.specs.Both.{narrow}
 abbrev pub class_code : Files → ClassTree → List NMethod
 class_code files c = map (λ m. narrow files (method_by c m m.code)) c.methods
 
+-- the narrow code of all these classes, method by method
 abbrev pub all_code : Files → List ClassTree → List NMethod
 all_code files classes = flat_map (class_code files) classes
 
@@ -59,5 +60,6 @@ placed_from n offset (m ∷ methods) = short_at offset m ∷ placed_from n (offs
 abbrev pub named_for : Files → Loaded → List ClassTree → Naming
 named_for files loaded classes = naming loaded (pool_order (all_code files classes))
 
+-- the methods of these classes, one behind the other from an offset on
 abbrev pub placed : Files → Loaded → List ClassTree → (offset : ℕ) → List Placed
 placed files loaded classes offset = placed_from (named_for files loaded classes) offset (all_code files classes)

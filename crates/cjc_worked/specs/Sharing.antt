@@ -18,6 +18,7 @@ interface_i = class 0x0601 (codes "p/I") object [] [] [] (abstract (codes "v") (
 abbrev pub class_m : ClassTree
 class_m = class 0x0021 (codes "p/M") object (codes "p/I" ∷ []) [] [] (virtual (codes "v") (codes "()S") 1 1 (0x04 ∷ 0xAC ∷ []) ∷ [])
 
+-- p/N implements p/I, too
 abbrev pub class_n : ClassTree
 class_n = class 0x0021 (codes "p/N") object (codes "p/I" ∷ []) [] [] (virtual (codes "v") (codes "()S") 1 1 (0x05 ∷ 0xAC ∷ []) ∷ [])
 

@@ -29,6 +29,7 @@ broken_beside p files = option_map (pair_breaks files p.image) (complete (compon
 abbrev pub class_t : List ClassTree
 class_t = class 0x0021 (codes "p/T") object [] [] [] (method (codes "f") (codes "(S)S") 2 1 [] (0x1A ∷ 0x04 ∷ 0x60 ∷ 0x93 ∷ 0xAC ∷ []) ∷ []) ∷ []
 
+-- the same class with a second method g()V
 abbrev pub with_second : List ClassTree
 with_second = class 0x0021 (codes "p/T") object [] [] [] (method (codes "f") (codes "(S)S") 2 1 [] (0x1A ∷ 0x04 ∷ 0x60 ∷ 0x93 ∷ 0xAC ∷ []) ∷ method (codes "g") (codes "()V") 0 0 [] (0xB1 ∷ []) ∷ []) ∷ []
 

@@ -33,6 +33,7 @@ use Rattle.cjc_components.specs.Written.{code_at, is_abstract_at}
 abbrev pub laid_by : Found → (is_abstract : Bool) → NMethod → LaidMethod
 laid_by f is_abstract code = record { member = f; is_abstract = is_abstract; code = code; wide = map (λ i. false) code.insns }
 
+-- a method of the package, where these instance fields have an index of one byte
 abbrev pub laid : Files → (near : List MemberId) → Found → LaidMethod
 laid files near f = laid_by f (is_abstract_at files f) (code_at files near all_reached f)
 
@@ -70,12 +71,14 @@ files_of exports classes = record { package_name = codes "p"; lines = map (λ t.
 
 -- ---- one method that adds 1
 
+-- p/T, whose f(S)S adds 1
 abbrev pub adds : Package
 adds = package_of [] no_image (files_of (lang ∷ []) (
     class 0x0021 (codes "p/T") object [] [] [] (method (codes "f") (codes "(S)S") 2 1 [] (0x1A ∷ 0x04 ∷ 0x60 ∷ 0x93 ∷ 0xAC ∷ []) ∷ []) ∷ []))
 
 -- ---- a class that overrides a method of an imported class
 
+-- that class over java/lang and the package of its superclass
 abbrev pub overrides : Package
 overrides = package_of [] no_image (files_of (lang ∷ q ∷ []) (class_b ∷ []))
 
@@ -93,11 +96,13 @@ class_p = class 0x0421 (codes "p/P") object (codes "p/I" ∷ []) [] [] []
 abbrev pub class_r : ClassTree
 class_r = class 0x0021 (codes "p/R") (codes "p/P") [] [] [] (virtual (codes "v") (codes "()S") 1 1 (0x04 ∷ 0xAC ∷ []) ∷ [])
 
+-- both classes and the interface
 abbrev pub inherits : Package
 inherits = package_of [] no_image (files_of (lang ∷ []) (class_r ∷ class_p ∷ interface_i ∷ []))
 
 -- ---- handlers
 
+-- p/T with a method that divides under handlers
 abbrev pub catching : Package
 catching = package_of [] no_image (files_of (lang ∷ []) (
     class 0x0021 (codes "p/T") object [] [] [] (method (codes "c") (codes "(S)S") 2 1 catches (0x1A ∷ 0x1A ∷ 0x6C ∷ 0x93 ∷ 0xAC ∷ 0x57 ∷ 0x04 ∷ 0xAC ∷ 0x57 ∷ 0x05 ∷ 0xAC ∷ 0x57 ∷ 0x06 ∷ 0xAC ∷ []) ∷ []) ∷ []))
@@ -122,6 +127,7 @@ installs = package_of (record { class = codes "p/W"; aid = 0xA0 ∷ 0x00 ∷ 0x0
 abbrev pub interface_j : ClassTree
 interface_j = class 0x0601 (codes "p/J") object [] [] [] (abstract (codes "w") (codes "()S") ∷ [])
 
+-- p/K extends p/J and has x
 abbrev pub interface_k : ClassTree
 interface_k = class 0x0601 (codes "p/K") object (codes "p/J" ∷ []) [] [] (abstract (codes "x") (codes "()S") ∷ [])
 
@@ -171,5 +177,6 @@ with_tokens k (c ∷ classes) = record c { token = k } ∷ with_tokens (k + 1) c
 abbrev pub wallet_framework : ExportTree
 wallet_framework = record Wallet.framework { classes = with_tokens 0 Wallet.framework.classes }
 
+-- the wallet as an applet, over java/lang and that javacard/framework
 abbrev pub wallet : Package
 wallet = package_of (record { class = codes "p/Wallet"; aid = 0xA0 ∷ 0x00 ∷ 0x00 ∷ 0x00 ∷ 0x01 ∷ 0x01 ∷ [] } ∷ []) no_image (files_of (lang ∷ wallet_framework ∷ []) (wallet_class ∷ []))

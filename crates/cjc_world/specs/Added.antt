@@ -20,11 +20,13 @@ takes_added c = not c.is_imported && is_abstract c.flags && not (is_interface c.
 abbrev pub is_open : ℕ → Bool
 is_open flags = (is_public flags || is_protected flags) && not (is_static flags)
 
+-- whether the class declares a method of this name and descriptor that is public or protected and not static
 abbrev pub declares_open : List ℕ → List ℕ → Class → Bool
 declares_open name desc c = list_any (λ m. is_open m.flags && is_called name desc m) c.methods
 
 -- ---- an interface's own methods by token
 
+-- the first method of the token, alone, or none
 abbrev pub with_token : ℕ → List Member → List Member
 with_token token [] = []
 with_token token (m ∷ ms) = if m.token == token then m ∷ [] else with_token token ms
@@ -49,11 +51,13 @@ unfoldable pub methods_of : List Class → List Member
 methods_of [] = []
 methods_of (c ∷ cs) = own_methods c ++ methods_of cs
 
+-- the methods of all interfaces, as far as some file has them, of a class with these supers and interfaces
 unfoldable pub asked_by : (supers interfaces : Kin) → List Member
 asked_by supers interfaces = methods_of (known (gathered false supers ++ gathered true interfaces))
 
 -- ---- what a class has
 
+-- whether one of the methods has the name and the descriptor
 abbrev pub is_one_of : List Member → List ℕ → List ℕ → Bool
 is_one_of ms name desc = list_any (λ m. is_called name desc m) ms
 
@@ -80,6 +84,7 @@ added w c =
     then lacking (λ m. declares_open m.name m.desc c || has_open m.name m.desc (kin w c.supers)) [] (asked_by (kin w c.supers) (kin w c.interfaces))
     else []
 
+-- a method of the class of this name, by its own name and its descriptor
 abbrev pub named_by : List ℕ → Member → MemberId
 named_by class m = record { class = class; name = m.name; desc = m.desc }
 

@@ -35,12 +35,15 @@ pub record Class : Type 0 where
 
 -- ---- the view of a class of either kind of file
 
+-- a field of a class file, where no field has a token
 abbrev pub field_of_class : FieldTree → Member
 field_of_class f = record { flags = f.flags; name = f.name; desc = f.desc; token = 0 }
 
+-- a method of a class file, where no method has a token
 abbrev pub method_of_class : MethodTree → Member
 method_of_class m = record { flags = m.flags; name = m.name; desc = m.desc; token = 0 }
 
+-- the class of a class file, with its number among the package's classes
 abbrev pub declared : ℕ → ClassTree → Class
 declared number c = record {
   is_imported = false;
@@ -53,12 +56,15 @@ declared number c = record {
   methods = map method_of_class c.methods;
 }
 
+-- a field of an export file, with the token that stands there
 abbrev pub field_of_export : ExportField → Member
 field_of_export f = record { flags = f.flags; name = f.name; desc = f.desc; token = f.token }
 
+-- a method of an export file, with the token that stands there
 abbrev pub method_of_export : ExportMethod → Member
 method_of_export m = record { flags = m.flags; name = m.name; desc = m.desc; token = m.token }
 
+-- a class of an export file, with its number among the classes of all export files
 abbrev pub imported : ℕ → ExportClass → Class
 imported number c = record {
   is_imported = true;
@@ -73,18 +79,22 @@ imported number c = record {
 
 -- ---- all of them, in the order of the list's lines; those of an export file as they stand in it
 
+-- the class of a class file; none where there is no file
 abbrev pub of_class_file : ℕ → Option ClassTree → List Class
 of_class_file number None = []
 of_class_file number (Some c) = declared number c ∷ []
 
+-- classes of an export file, the first with this number and the others with those that follow
 abbrev pub numbered : ℕ → List ExportClass → List Class
 numbered number [] = []
 numbered number (c ∷ cs) = imported number c ∷ numbered (number + 1) cs
 
+-- the classes of an export file, the first with this number; none where there is no file
 abbrev pub of_export_file : ℕ → Option ExportTree → List Class
 of_export_file number None = []
 of_export_file number (Some t) = numbered number t.classes
 
+-- how many classes an export file has, 0 where there is no file
 abbrev pub size : Option ExportTree → ℕ
 size None = 0
 size (Some t) = length t.classes
@@ -97,6 +107,7 @@ classes_from classes exports c e i (line ∷ lines) =
     then of_class_file c (slice_get classes c) ++ classes_from classes exports (c + 1) e i lines
     else of_export_file i (slice_get exports e) ++ classes_from classes exports c (e + 1) (i + size (slice_get exports e)) lines
 
+-- the classes of all files, in the order of the lines of the list
 unfoldable pub all_classes : Files → List Class
 all_classes files = classes_from files.classes files.exports 0 0 0 files.lines
 
@@ -107,6 +118,7 @@ class_named (c ∷ cs) name = if bytes_eq c.name name then Some c else class_nam
 
 -- ---- by the numbers that a look-up answers
 
+-- whether the class is of this kind and has this number
 abbrev pub is_at : (imported : Bool) → (number : ℕ) → Class → Bool
 is_at imported number c = (if c.is_imported then imported else not imported) && (c.number == number)
 

@@ -4,9 +4,11 @@ use Rattle.cjc_world.specs.Classes.{Class, class_named}
 use Rattle.cjc_bytes.specs.AccessFlags.{is_interface, is_public}
 use Rattle.cjc_world.specs.Subtype.{is_subtype}
 
+-- the interface that makes those below it shareable
 abbrev pub shareable : List ℕ
 shareable = codes "javacard/framework/Shareable"
 
+-- there is a class, and it is of an export file
 abbrev pub is_imported : Option Class → Bool
 is_imported None = false
 is_imported (Some c) = c.is_imported

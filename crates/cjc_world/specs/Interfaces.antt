@@ -9,6 +9,7 @@ pub record Interface : Type 0 where
   pub name : List ℕ
   pub class : Option Class
 
+-- the interface where it is a listed one, else nothing
 abbrev pub where_listed : Bool → Interface → List Interface
 where_listed true i = i ∷ []
 where_listed false i = []
@@ -21,6 +22,7 @@ gathered listed (Unknown name next) = where_listed listed (record { name = name;
 gathered listed (Known c supers interfaces next) =
     gathered false supers ++ gathered true interfaces ++ where_listed listed (record { name = c.name; class = Some c }) ++ gathered listed next
 
+-- whether one of the interfaces has the name
 abbrev pub is_among : List Interface → List ℕ → Bool
 is_among [] name = false
 is_among (i ∷ is) name = bytes_eq i.name name || is_among is name

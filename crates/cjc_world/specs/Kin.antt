@@ -5,6 +5,7 @@ use Rattle.std.specs.List.{list_any}
 use Rattle.std.specs.Str.{bytes_eq}
 use Rattle.cjc_world.specs.Classes.{Class, class_named}
 
+-- The name stands in the list.
 pub data Lists (name : List ℕ) : List (List ℕ) → Type 0 where
   foremost : {xs : List (List ℕ)} → Lists name (name ∷ xs)
   after : {x : List ℕ} {xs : List (List ℕ)} → Lists name xs → Lists name (x ∷ xs)
@@ -33,10 +34,12 @@ pub data IsKin (w : List Class) : List (List ℕ) → Kin → Type 0 where
 
 -- ---- the tree as a function: where no class stands above itself it is the one of the relation
 
+-- a name at the head of a row: with its class and what stands above that, or alone where it is of no class
 abbrev pub known_as : (List (List ℕ) → Kin) → List ℕ → Option Class → Kin → Kin
 known_as above name None next = Unknown name next
 known_as above name (Some c) next = Known c (above c.supers) (above c.interfaces) next
 
+-- the names in a row, each with its class and what is told to stand above that
 abbrev pub in_a_row : List Class → (List (List ℕ) → Kin) → List (List ℕ) → Kin
 in_a_row w above [] = End
 in_a_row w above (x ∷ xs) = known_as above x (class_named w x) (in_a_row w above xs)
@@ -56,6 +59,7 @@ stands name End = false
 stands name (Unknown x next) = bytes_eq x name || stands name next
 stands name (Known c supers interfaces next) = bytes_eq c.name name || stands name supers || stands name interfaces || stands name next
 
+-- the tree of what a class lists, empty where there is no class
 abbrev pub above_of : List Class → Option Class → Kin
 above_of w None = End
 above_of w (Some c) = kin w (c.supers ++ c.interfaces)
@@ -76,6 +80,7 @@ upwards End = []
 upwards (Unknown name next) = upwards next
 upwards (Known c supers interfaces next) = c ∷ upwards supers ++ upwards next
 
+-- whether one of the classes has the name
 abbrev pub is_one_named : List Class → List ℕ → Bool
 is_one_named cs name = list_any (λ c. bytes_eq c.name name) cs
 

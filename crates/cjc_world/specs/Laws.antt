@@ -23,8 +23,10 @@ SelectionGoesUp w = (name desc x y : List ℕ) → Passes w (own_method true nam
 abbrev pub LookupGoesUp : List Class → Type 0
 LookupGoesUp w = (name desc x y : List ℕ) (f : Found) → Passes w (own_method false name desc) x y → find_method w y name desc ≡ Some f → find_method w x name desc ≡ Some f
 
+-- Every type is a subtype of itself.
 abbrev pub IsReflexive : List Class → Type 0
 IsReflexive w = (x : List ℕ) → is_subtype w x x ≡ true
 
+-- A subtype of a subtype of a type is a subtype of that type.
 abbrev pub IsTransitive : List Class → Type 0
 IsTransitive w = (x y z : List ℕ) → is_subtype w x y ≡ true → is_subtype w y z ≡ true → is_subtype w x z ≡ true

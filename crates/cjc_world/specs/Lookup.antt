@@ -8,6 +8,7 @@ use Rattle.cjc_bytes.specs.AccessFlags.{is_private, is_static}
 use Rattle.cjc_world.specs.Kin.{Kin, End, Unknown, Known, kin, line}
 use Rattle.cjc_world.specs.Interfaces.{known, gathered}
 
+-- what was found first, or else the second
 abbrev pub or_else : Option Found → Option Found → Option Found
 or_else (Some f) second = Some f
 or_else None second = second
@@ -17,6 +18,7 @@ unfoldable pub first : (Class → Option Found) → List Class → Option Found
 first own [] = None
 first own (c ∷ cs) = or_else (own c) (first own cs)
 
+-- whether the member has this name and this descriptor
 abbrev pub is_called : List ℕ → List ℕ → Member → Bool
 is_called name desc m = bytes_eq m.name name && bytes_eq m.desc desc
 
@@ -37,6 +39,7 @@ field_in own End = None
 field_in own (Unknown name next) = field_in own next
 field_in own (Known c supers interfaces next) = or_else (or_else (own c) (or_else (field_in own interfaces) (field_in own supers))) (field_in own next)
 
+-- the field of this name and descriptor, looked up from the class of this name on
 unfoldable pub find_field : List Class → (class name desc : List ℕ) → Option Found
 find_field w class name desc = field_in (own_field name desc) (kin w (class ∷ []))
 
@@ -59,6 +62,7 @@ own_method selecting name desc c = option_map (λ i. member_at c (length c.field
 unfoldable pub find_method : List Class → (class name desc : List ℕ) → Option Found
 find_method w class name desc = or_else (first (own_method false name desc) (line w class)) (first (own_method false name desc) (known (gathered false (kin w (class ∷ [])))))
 
+-- the method that a class declares, private and static ones too; none where there is no class
 abbrev pub own_of : (name desc : List ℕ) → Option Class → Option Found
 own_of name desc None = None
 own_of name desc (Some c) = own_method false name desc c
@@ -67,6 +71,7 @@ own_of name desc (Some c) = own_method false name desc c
 unfoldable pub method_of_interface : List Class → (interface name desc : List ℕ) → Option Found
 method_of_interface w interface name desc = or_else (own_of name desc (class_named w interface)) (first (own_method false name desc) (known (gathered false (kin w (interface ∷ [])))))
 
+-- the class above all others
 abbrev pub object : List ℕ
 object = codes "java/lang/Object"
 

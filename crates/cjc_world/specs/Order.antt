@@ -11,9 +11,11 @@ use Rattle.cjc_world.specs.Added.{added}
 
 -- ---- classes: interfaces before classes, and a super before its subs
 
+-- whether the number is one of these
 abbrev pub is_in : List ℕ → ℕ → Bool
 is_in numbers n = list_any (λ k. k == n) numbers
 
+-- an interface, or a class that is none
 abbrev pub is_of_kind : (interfaces : Bool) → Class → Bool
 is_of_kind true c = is_interface c.flags
 is_of_kind false c = not (is_interface c.flags)
@@ -22,6 +24,7 @@ is_of_kind false c = not (is_interface c.flags)
 abbrev pub waits : (interfaces : Bool) → (placed : List ℕ) → Class → Bool
 waits interfaces placed c = not c.is_imported && is_of_kind interfaces c && not (is_in placed c.number)
 
+-- there is a class, and it has no place yet
 abbrev pub names_waiting : (interfaces : Bool) → (placed : List ℕ) → Option Class → Bool
 names_waiting interfaces placed None = false
 names_waiting interfaces placed (Some c) = waits interfaces placed c
@@ -37,6 +40,7 @@ unfoldable pub next : List Class → (interfaces : Bool) → (placed : List ℕ)
 next w interfaces placed [] = None
 next w interfaces placed (c ∷ cs) = if may_stand w interfaces placed c then Some c else next w interfaces placed cs
 
+-- the class and those that follow it; none where there is no class
 abbrev pub and_then : Option Class → (Class → List Class) → List Class
 and_then None rest = []
 and_then (Some c) rest = c ∷ rest c
@@ -56,6 +60,7 @@ class_order w = in_order w true ++ in_order w false
 
 -- ---- methods: classes in that order, members in the order of the class file, then the methods that are added
 
+-- the methods of a class without <clinit>, the first of them counted at this place among its members
 abbrev pub written : Class → (place : ℕ) → List Member → List Found
 written c i [] = []
 written c i (m ∷ ms) = if bytes_eq m.name (codes "<clinit>") then written c (i + 1) ms else member_at c i ∷ written c (i + 1) ms
@@ -65,9 +70,11 @@ abbrev pub places : Class → (place count : ℕ) → List Found
 places c i zero = []
 places c i (suc n) = member_at c i ∷ places c (i + 1) n
 
+-- the methods of a class: those of its file without <clinit>, then those that it gets from its interfaces
 abbrev pub methods_of_class : List Class → Class → List Found
 methods_of_class w c = written c (length c.fields) c.methods ++ places c (length c.fields + length c.methods) (length (added w c))
 
+-- the methods of the classes, class by class
 abbrev pub methods_in_turn : List Class → List Class → List Found
 methods_in_turn w [] = []
 methods_in_turn w (c ∷ cs) = methods_of_class w c ++ methods_in_turn w cs

@@ -134,6 +134,7 @@ impl<'a> Roster<'a> {
         }
     }
 
+    /// Of each class, whether it is its own super, and whether it is below java/lang/Throwable.
     pub(crate) fn cycles(&self, alloc: Global) -> Result<Cycles, NoMemory>
         ensures { IfOk result (λ c. AreCycles (all_classes self.now) c) }
     {

@@ -94,6 +94,7 @@ fn cycles_of(
 }
 
 impl<'a> Draft<'a> {
+    /// The classes, with what stands above each and what each gets.
     pub(crate) fn new(alloc: Global, roster: Roster<'a>) -> Result<Draft<'a>, NoMemory>
         ensures { IfOk result (λ d. d ≡ roster.entry) }
     {
@@ -119,18 +120,21 @@ impl<'a> Draft<'a> {
         (roster, tables)
     }
 
+    /// The class files, in list order.
     pub(crate) fn classes(&self) -> &Row<ClassTree<'a>>
         ensures { result.now ≡ self.now.classes }
     {
         self.roster.classes()
     }
 
+    /// The export files, in list order.
     pub(crate) fn exports(&self) -> &Row<ExportTree>
         ensures { result.now ≡ self.now.exports }
     {
         self.roster.exports()
     }
 
+    /// The lines of the list that name files.
     pub(crate) fn lines(&self) -> &Row<FileLine>
         ensures { result.now ≡ self.now.lines }
     {

@@ -57,6 +57,7 @@ impl<'a> Roster<'a> {
         }
     }
 
+    /// Whether there is a class at the place and it has the name.
     pub(crate) fn has_name(&self, place: u32, name: &[u8]) -> bool
         ensures { result ≡ has_name name.now (slice_get (all_classes self.now) place) }
     {

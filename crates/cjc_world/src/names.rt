@@ -18,6 +18,7 @@ pub(crate) struct Names {
 }
 
 impl Names {
+    /// No place is noted for any name.
     pub(crate) fn new(alloc: Global) -> Names
         ensures { (x : List ℕ) → place_in result x ≡ None }
     {

@@ -62,6 +62,7 @@ impl<'a> Model for Roster<'a> {
 }
 
 impl<'a> Roster<'a> {
+    /// The files, with the classes in them found by place, by name and by number.
     pub(crate) fn new(
         alloc: Global,
         package_name: &[u8],

@@ -23,6 +23,7 @@ use cjc_export::{ExportClass, ExportTree};
 
 const LANGUAGE: &[u8] = b"java/lang";
 
+/// The class that all exceptions are below.
 pub(crate) const THROWABLE: &[u8] = b"java/lang/Throwable";
 
 fn is_part_byte(byte: u8) -> bool

@@ -325,6 +325,7 @@ impl<'a> Roster<'a> {
     }
 }
 
+/// Whether no row is missing.
 pub(crate) fn all_there(rows: &[Option<Above>]) -> bool
     ensures { result ≡ list_all is_some rows.now }
 {

@@ -27,6 +27,7 @@ use cjc_export::ExportTree;
 use std::alloc::Global;
 use std::marker::Model;
 
+/// The class above all others.
 pub(crate) const OBJECT: &[u8] = b"java/lang/Object";
 
 const SHAREABLE: &[u8] = b"javacard/framework/Shareable";

@@ -5,6 +5,7 @@ ghost use Rattle.cjc_ncode.specs.Written.{arithmetic, array_load, array_store, c
 
 use cjc_ncode::NInsn;
 
+/// aaload, baload and saload.
 pub(crate) fn array_load(op: u8) -> u8
     ensures { result ≡ array_load op }
 {
@@ -15,6 +16,7 @@ pub(crate) fn array_load(op: u8) -> u8
     }
 }
 
+/// aastore, bastore and sastore.
 pub(crate) fn array_store(op: u8) -> u8
     ensures { result ≡ array_store op }
 {
@@ -81,6 +83,7 @@ pub(crate) fn condition(op: u8) -> u8
     }
 }
 
+/// ireturn, areturn and return.
 pub(crate) fn leaving(op: u8) -> u8
     ensures { result ≡ leaving op }
 {

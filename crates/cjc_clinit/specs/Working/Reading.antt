@@ -24,6 +24,7 @@ use Rattle.cjc_clinit.specs.Rules.{is_wrong_class}
 
 -- ---- one instruction that puts nothing
 
+-- the stage where it is so, else none
 abbrev pub stage_if : Bool → Stage → Option Stage
 stage_if true s = Some s
 stage_if false s = None
@@ -40,10 +41,12 @@ after_number z (stages.Copied kind items) = option_map (λ i. stages.Indexed kin
 after_number z (stages.Indexed kind items i) = stage_if (fits kind z) (stages.Valued kind items i z)
 after_number z _ = None
 
+-- null, which is put
 abbrev pub after_null : Stage → Option Stage
 after_null stages.Free = Some stages.Null
 after_null _ = None
 
+-- the return, between statements alone
 abbrev pub after_return : ℕ → Stage → Option Stage
 after_return op stages.Free = stage_if (op == return) stages.Ended
 after_return op _ = None
@@ -53,6 +56,7 @@ abbrev pub after_stack : ℕ → Stage → Option Stage
 after_stack op (stages.Array kind items) = stage_if (op == dup && nat_lt 0 (length items)) (stages.Copied kind items)
 after_stack op _ = None
 
+-- a value into its item of the array, by the store of its kind
 abbrev pub after_store : ℕ → Stage → Option Stage
 after_store op (stages.Valued kind items i z) = stage_if (op == store kind) (stages.Array kind (slice_set items i z))
 after_store op _ = None
@@ -62,10 +66,12 @@ abbrev pub count_in : ℤ → Option ℕ
 count_in (pos n) = if nat_le n most_items then Some n else None
 count_in (negsuc n) = None
 
+-- an array of so many items of 0, where kind and count are allowed
 abbrev pub new_array : Option Kind → Option ℕ → Option Stage
 new_array (Some kind) (Some count) = Some (stages.Array kind (replicate count (pos 0)))
 new_array kind count = None
 
+-- an array of the type with this number, of as many items as the number before it says
 abbrev pub after_newarray : ℕ → Stage → Option Stage
 after_newarray number (stages.Number z) = new_array (element_kind number) (count_in z)
 after_newarray number _ = None
@@ -95,15 +101,18 @@ pub record State : Type 0 where
   pub arrays : List ArrayCell
   pub stage : Stage
 
+-- the three together
 abbrev pub state : List Held → List ArrayCell → Stage → State
 state fields arrays stage = record { fields = fields; arrays = arrays; stage = stage }
 
+-- what follows the state, or the offset where there is no state
 abbrev pub or_wrong : (at : ℕ) → Option State → (State → Result State ℕ) → Result State ℕ
 or_wrong at None go = Err at
 or_wrong at (Some s) go = go s
 
 -- of the class of this number
 module _ (files : Files) (number : ℕ) (c : ClassTree) where
+  -- these contents are put in the field at this place, an array of theirs is made, and the statement is over
   abbrev pub state_with : Contents → MemberId → State → ℕ → State
   state_with contents id s k = state (slice_set s.fields k (held_by contents)) (s.arrays ++ array_in (own_field c id) contents) stages.Free
 
@@ -112,6 +121,7 @@ module _ (files : Files) (number : ℕ) (c : ClassTree) where
   after_put None id s = None
   after_put (Some contents) id s = option_map (λ k. state_with contents id s k) (place_for files number c s.fields contents id)
 
+  -- putstatic puts what is on the stack; getstatic can not stand in an initialiser
   abbrev pub after_static : Bool → MemberId → State → Option State
   after_static true id s = after_put (contents_of s.stage) id s
   after_static false id s = None
@@ -143,6 +153,7 @@ pub record Puts : Type 0 where
   pub fields : List (List Held)
   pub arrays : List ArrayCell
 
+-- the two together
 abbrev pub puts : List (List Held) → List ArrayCell → Puts
 puts fields arrays = record { fields = fields; arrays = arrays }
 
@@ -164,6 +175,7 @@ after_class files code before (Some c) = after_initialiser files c code before
 unfoldable pub after_code : Files → Puts → MethodCode → Result Puts ℕ
 after_code files before code = after_class files code before (initialised files code)
 
+-- what follows, or the offset with which an initialiser is none
 abbrev pub and_then : Result Puts ℕ → (Puts → Result Puts ℕ) → Result Puts ℕ
 and_then (Ok later) go = go later
 and_then (Err at) go = Err at
@@ -175,10 +187,12 @@ after_codes files before (code ∷ codes) = and_then (after_code files before co
 
 -- ---- what is broken
 
+-- the offset with which an initialiser is none, where it is so
 abbrev pub wrong_in : Result Puts ℕ → Option ℕ
 wrong_in (Ok later) = None
 wrong_in (Err at) = Some at
 
+-- what is broken at the offset, nothing where there is none
 abbrev pub breaks_at : (ℕ → List Break) → Option ℕ → List Break
 breaks_at breaks None = []
 breaks_at breaks (Some at) = breaks at
@@ -187,12 +201,15 @@ breaks_at breaks (Some at) = breaks at
 unfoldable pub offset_break : Files → MethodCode → (offset : ℕ) → List Break
 offset_break files code offset = of_code files code.class code.method (λ f c m. broken_at (at_method f c code.method m offset) 308 ∷ [])
 
+-- at the offset with which the code of a method is no initialiser, where it should be one
 unfoldable pub code_breaks : Files → MethodCode → List Break
 code_breaks files code = breaks_at (offset_break files code) (wrong_in (after_code files (puts [] []) code))
 
+-- at the class itself
 unfoldable pub class_breaks : FilePlace → ClassTree → List Break
 class_breaks f c = at (is_wrong_class c) (at_class f c) 308
 
+-- All that is broken of 308, at the classes and in their initialisers.
 unfoldable pub image_breaks : Files → List MethodCode → List Break
 image_breaks files codes = each (λ n c. class_breaks (file_of files.lines n) c) files.classes ++ each (λ _ code. code_breaks files code) codes
 
@@ -203,10 +220,12 @@ abbrev pub takes_from : Option Contents → (desc : List ℕ) → Bool
 takes_from None desc = false
 takes_from (Some contents) desc = takes contents desc
 
+-- what a field holds after the put; nothing, where it is not all that is put
 abbrev pub held_from : Option Contents → Held
 held_from None = held.Nothing
 held_from (Some contents) = held_by contents
 
+-- the array of a field, where what is put is one
 abbrev pub array_from : MemberId → Option Contents → List ArrayCell
 array_from field None = []
 array_from field (Some contents) = array_in field contents

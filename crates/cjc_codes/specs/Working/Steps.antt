@@ -36,6 +36,7 @@ abbrev pub IsStep : (at : ℕ) → List ℕ → Step → Type 0
 IsStep at bytes (steps.Whole body) = (at ≤ body.end) × (body.end ≤ at + length bytes) × IsBody body
 IsStep at bytes (steps.Ends k) = 3 + k < 2 ^ 32
 
+-- the code of a method that was cut ends at this offset
 abbrev pub EndsAt : (end : ℕ) → Step → Type 0
 EndsAt end (steps.Whole body) = body.end ≡ end
 EndsAt end (steps.Ends at) = Unit {0}
@@ -46,6 +47,7 @@ EndsAt end (steps.Ends at) = Unit {0}
 abbrev pub methods_of : ClassInfo → ClassDescriptor → List MethodDescriptor
 methods_of info d = if is_own_class info d.this_class then d.methods else []
 
+-- the methods of all classes, interfaces left out
 abbrev pub methods_of_all : ClassInfo → List ClassDescriptor → List MethodDescriptor
 methods_of_all info [] = []
 methods_of_all info (d ∷ classes) = methods_of info d ++ methods_of_all info classes

@@ -13,6 +13,7 @@ use Rattle.cjc_components.specs.Statics.{offset_from, size_of_field}
 
 -- ---- fields in a map
 
+-- having the same class, name and descriptor is an equivalence
 pub member-equivalence : IsEquivalence same_member
 member-equivalence = decided same_member same_member-Decides
 
@@ -20,6 +21,7 @@ member-equivalence = decided same_member same_member-Decides
 abbrev pub fed : MemberId → writes.HashWrites
 fed m = writes.slice writes.u8 m.class ++ (writes.slice writes.u8 m.name ++ writes.slice writes.u8 m.desc)
 
+-- equal members are fed to a hasher alike
 pub same-fed : (m n : MemberId) → IsTrue (same_member m n) → fed m ≡ fed n
 same-fed m n h = ap fed ((same_member-Decides m n).0 h)
 
@@ -38,6 +40,7 @@ found c f = lookup (same_member f) c.offsets
 abbrev pub offset_of : Placed → MemberId → ℕ
 offset_of c f = unwrap_or (found c f) c.end
 
+-- a number, or else another
 abbrev pub or_else : Option ℕ → Option ℕ → Option ℕ
 or_else None other = other
 or_else (Some k) other = Some k

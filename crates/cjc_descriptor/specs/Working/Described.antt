@@ -39,6 +39,7 @@ pub record Inputs : Type 0 where
   pub extents : List (List Extent)
   pub table : TypeTable
 
+-- what is made before, of the parts that code holds
 abbrev pub inputs_of : Parts → Inputs
 inputs_of q = record {
   files = q.world.now;
@@ -57,6 +58,7 @@ number_in rows n k = unwrap_or (option_and_then (λ row. slice_get row k) (slice
 abbrev pub nowhere : Extent
 nowhere = record { offset = 0; bytecode_count = 0; handler_count = 0; first_handler = 0 }
 
+-- where the method of a class's member stands in Method; nowhere where none is kept
 abbrev pub extent_in : List (List Extent) → (class member : ℕ) → Extent
 extent_in rows n k = unwrap_or (option_and_then (λ row. slice_get row k) (slice_get rows n)) nowhere
 
@@ -75,6 +77,7 @@ each_from f k (x ∷ xs) = f k x ++ each_from f (k + 1) xs
 
 -- ---- fields
 
+-- a primitive type itself, a reference type by this offset of its descriptor
 abbrev pub field_type_by : (offset : ℕ) → Sort → FieldType
 field_type_by offset Boolean = types.Boolean
 field_type_by offset Byte = types.Byte
@@ -96,14 +99,17 @@ field_at q n class k f = record {
   type_ = field_type_by (type_at q f.desc) (field_sort f.desc);
 }
 
+-- the field at a place, where it is no constant
 abbrev pub field_if : Inputs → (number : ℕ) → (class : List ℕ) → (place : ℕ) → FieldTree → List FieldDescriptor
 field_if q n class k f = if is_constant f then [] else field_at q n class k f ∷ []
 
+-- the fields from a place on, constants left out
 abbrev pub fields_at : Inputs → (number : ℕ) → (class : List ℕ) → (place : ℕ) → List FieldTree → List FieldDescriptor
 fields_at q n class k fields = each_from (field_if q n class) k fields
 
 -- ---- methods
 
+-- the method at a place of the class of a number, with these flags, name and descriptor of the class file
 abbrev pub method_by : Inputs → (number place flags : ℕ) → (name desc : List ℕ) → MethodDescriptor
 method_by q n k flags name desc = let e = extent_in q.extents n k in record {
   token = token_in q.tokens n k;
@@ -115,18 +121,23 @@ method_by q n k flags name desc = let e = extent_in q.extents n k in record {
   first_handler = e.first_handler;
 }
 
+-- the method at a place, where it is no class initialiser
 abbrev pub method_if : Inputs → (number place : ℕ) → MethodTree → List MethodDescriptor
 method_if q n k m = if bytes_eq m.name (codes "<clinit>") then [] else method_by q n k m.flags m.name m.desc ∷ []
 
+-- the methods of a class file from a place on, the class initialiser left out
 abbrev pub own_methods_at : Inputs → (number place : ℕ) → List MethodTree → List MethodDescriptor
 own_methods_at q n k methods = each_from (method_if q n) k methods
 
+-- a method at a place that is added to a class
 abbrev pub got_method : Inputs → (number place : ℕ) → MemberId → List MethodDescriptor
 got_method q n k m = method_by q n k added_flags m.name m.desc ∷ []
 
+-- the methods from a place on that are added to a class
 abbrev pub added_at : Inputs → (number place : ℕ) → List MemberId → List MethodDescriptor
 added_at q n k added = each_from (got_method q n) k added
 
+-- the methods of a class: those of its file, whose places are behind the fields, then those that are added
 abbrev pub methods_at : Inputs → (number : ℕ) → (added : List MemberId) → ClassTree → List MethodDescriptor
 methods_at q n added c = own_methods_at q n (length c.fields) c.methods ++ added_at q n (length c.fields + length c.methods) added
 
@@ -140,6 +151,7 @@ class_in ref w place = map (λ i. ref i.name) (option_to_list (slice_get w place
 abbrev pub names_at : Inputs → (number : ℕ) → ClassTree → List ClassRef
 names_at q n c = map (λ i. q.ref i.name) (interfaces_of (all_classes q.files) (declared n c))
 
+-- the class or interface of a number with its members; 0xFF is no token
 abbrev pub class_at : Inputs → (number : ℕ) → (added : List MemberId) → ClassTree → ClassDescriptor
 class_at q n added c = record {
   token = unwrap_or (token_of_class q.tokens n) 0xFF;
@@ -150,18 +162,22 @@ class_at q n added c = record {
   methods = methods_at q n added c;
 }
 
+-- the class of a number, if there is one
 abbrev pub class_where : Inputs → (number : ℕ) → Option ClassTree → List ClassDescriptor
 class_where q n None = []
 class_where q n (Some c) = class_at q n (added_of q.files n) c ∷ []
 
+-- the class of a number among those of the package, if there is one
 abbrev pub classes_at : Inputs → (number : ℕ) → List ClassDescriptor
 classes_at q n = let files = q.files in class_where q n (slice_get files.classes n)
 
 -- ---- types
 
+-- the offset of the type of a pool entry, 0xFFFF where it has no descriptor
 abbrev pub type_where : Inputs → List (List ℕ) → ℕ
 type_where q [] = 0xFFFF
 type_where q (desc ∷ rest) = type_at q desc
 
+-- the offset of the type of a key's member, 0xFFFF for a class
 abbrev pub key_type : Inputs → PoolKey → ℕ
 key_type q key = type_where q (desc_of_key key)

@@ -9,6 +9,7 @@ use Rattle.cjc_export.specs.Constant.{Constant, text, integer, class, this, same
 differ : (c d : Constant) → (c ≡ d → ⊥) → Decides false (c ≡ d)
 differ c d h = (λ e. absurd (true≢false (sym e)), λ e. absurd (h e))
 
+-- the test holds of two constants where they are equal, and else not
 pub same-Decides : (c d : Constant) → Decides (same c d) (c ≡ d)
 same-Decides (text a) (text b) = (λ e. ap text ((bytes_eq-Decides a b).0 e), λ e. (bytes_eq-Decides a b).1 cc)
 same-Decides (integer m) (integer n) = (λ e. ap integer ((Decides-eqb m n).0 e), λ e. (Decides-eqb m n).1 cc)
@@ -27,8 +28,10 @@ same-Decides this (text n) = differ this (text n) (λ e. cc)
 same-Decides this (integer n) = differ this (integer n) (λ e. cc)
 same-Decides this (class n) = differ this (class n) (λ e. cc)
 
+-- the test is reflexive, symmetric and transitive
 pub same-equivalence : IsEquivalence same
 same-equivalence = decided same same-Decides
 
+-- constants that are the same feed a hasher the same
 pub same-fed : (c d : Constant) → IsTrue (same c d) → fed c ≡ fed d
 same-fed c d h = ap fed ((same-Decides c d).0 h)

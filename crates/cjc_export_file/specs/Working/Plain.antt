@@ -4,6 +4,7 @@ use Rattle.cjc_list.specs.Listed.{ListTree}
 use Rattle.cjc_world.specs.Files.{Files}
 use Rattle.cjc_components.specs.Package.{Package}
 
+-- a list and files as a package with an empty static field image and no methods
 abbrev pub plain : ListTree → Files → Package
 plain list files = record {
   list = list;

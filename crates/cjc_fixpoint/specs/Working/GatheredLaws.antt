@@ -11,9 +11,11 @@ use Rattle.cjc_fixpoint.specs.Gathered.{gathered_at, gathered, gathering}
 use Rattle.cjc_fixpoint.specs.Working.HandedLaws.{OwnMaybe, IsIn, some_injective, not_some, handed_own, handed_up}
 use Rattle.cjc_fixpoint.specs.Working.SegmentLaws.{contains_kept, kept_from}
 
+-- each place below `places` is one of the range
 pub range_has : (places k : ℕ) → k < places → Contains (range_with_len 0 places) k
 range_has places k lt = (k, rw (length-range_with_len 0 places) lt, get_or-range_with_len 0 places k k lt ∙ omega arith)
 
+-- each place of the range is below `places`
 pub range_inside : (places k : ℕ) → Contains (range_with_len 0 places) k → k < places
 range_inside places k (j, lt, is) =
     let lt' : j < places = rw (length-range_with_len 0 places) at lt in
@@ -25,6 +27,7 @@ pub record IsGathered {S : Type 0} (flow : Dataflow S) (places : ℕ) (es : List
   pub inside : f.to < places
   pub is : handed flow f.to es ≡ Some f.state
 
+-- a gathered edge goes to a place below `places`, with all that the edges hand to it
 pub gathered_from : {S : Type 0} (flow : Dataflow S) (places : ℕ) (es : List (Edge S)) (f : Edge S) → Contains (gathered flow places es) f → IsGathered flow places es f
 gathered_from {S} flow places es f has =
     let m = kept_from (gathered_at flow es) (range_with_len 0 places) f has in
@@ -36,12 +39,15 @@ gathered_from {S} flow places es f has =
         let same : mark_edge x k ≡ f = some_injective (mark_edge x k) f h in
         subst (λ (e : Edge S). IsGathered flow places es e) same (record { inside = lt; is = is })
 
+-- to each place below `places` that the edges hand a state one gathered edge goes, with this state
 pub gathered_to : {S : Type 0} (flow : Dataflow S) (places : ℕ) (es : List (Edge S)) (k : ℕ) (x : S) → k < places → handed flow k es ≡ Some x → Contains (gathered flow places es) (mark_edge x k)
 gathered_to flow places es k x lt is = contains_kept (gathered_at flow es) (range_with_len 0 places) k (mark_edge x k) (range_has places k lt) (ap (option_map (λ state. mark_edge state k)) is)
 
+-- no gathered edge leaves the places
 pub gathering_stays : {S : Type 0} (flow : Dataflow S) (places : ℕ) → StaysWithin (gathering flow places) places
 gathering_stays flow places at x lt own e has = (gathered_from flow places (flow.edges at x) e has).inside
 
+-- where a flow obeys the laws, the one with gathered edges does
 pub gathering_laws : {S : Type 0} (flow : Dataflow S) → IsLawful flow → (places : ℕ) → IsLawful (gathering flow places)
 gathering_laws {S} flow laws places = record {
   reflexive = laws.reflexive;

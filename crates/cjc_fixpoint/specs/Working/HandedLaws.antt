@@ -11,6 +11,7 @@ abbrev pub AboveMaybe : {S : Type 0} → Dataflow S → Option S → S → Type 
 AboveMaybe flow None z = Unit {0}
 AboveMaybe flow (Some x) z = flow.Below x z
 
+-- the state is one that the flow itself makes, if there is one
 abbrev pub OwnMaybe : {S : Type 0} → Dataflow S → Option S → Type 0
 OwnMaybe flow None = Unit {0}
 OwnMaybe flow (Some x) = flow.Own x
@@ -21,9 +22,11 @@ pub record IsIn {S : Type 0} (flow : Dataflow S) (x : S) (row : Option S) : Type
   pub is : row ≡ Some state
   pub above : flow.Below x state
 
+-- two values are equal where `Some` of them is
 pub some_injective : {X : Type 0} (a b : X) → Some a ≡ Some b → a ≡ b
 some_injective a b h = cc
 
+-- None is not Some of any value
 pub not_some : {X : Type 0} (x : X) → None ≡ Some x → ⊥
 not_some x h = (cc)
 

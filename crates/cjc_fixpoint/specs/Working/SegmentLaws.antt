@@ -10,9 +10,11 @@ use Rattle.cjc_fixpoint.specs.Kept.{handed, mark_of}
 use Rattle.cjc_fixpoint.specs.Segments.{mark_edge, to_segment, run, segment_end, segment_edges, segments}
 use Rattle.cjc_fixpoint.specs.Working.HandedLaws.{OwnMaybe, IsIn, some_injective, not_some, handed_own, handed_up}
 
+-- an empty list contains nothing
 pub contains_none : {X : Type 0} (x : X) → Contains [] x → ⊥
 contains_none x (k, lt, e) = omega arith
 
+-- what an item of the list is mapped to is kept
 pub contains_kept : {A B : Type 0} (h : A → Option B) (xs : List A) (x : A) (y : B) → Contains xs x → h x ≡ Some y → Contains (filter_map h xs) y
 contains_kept h [] x y has is = absurd (contains_none x has)
 contains_kept {A} {B} h (z ∷ zs) x y has is = elim (contains_cons z zs x has) [
@@ -24,6 +26,7 @@ contains_kept {A} {B} h (z ∷ zs) x y has is = elim (contains_cons z zs x has) 
     kept None rest = rest
     kept (Some w) rest = contains_tail w (filter_map h zs) y rest
 
+-- what is kept is what some item of the list is mapped to
 pub kept_from : {A B : Type 0} (h : A → Option B) (xs : List A) (y : B) → Contains (filter_map h xs) y → (x : A) × Contains xs x × (h x ≡ Some y)
 kept_from h [] y has = absurd (contains_none y has)
 kept_from {A} {B} h (z ∷ zs) y has = go (λ k. let m = kept_from h zs y k in (m.0, contains_tail z zs m.0 m.1, m.2)) (h z) refl has
@@ -35,6 +38,7 @@ kept_from {A} {B} h (z ∷ zs) y has = go (λ k. let m = kept_from h zs y k in (
       | inr more ↦ later more
     ]
 
+-- an edge that is made of a state and a mark goes to that mark, with that state
 pub some_of : {S : Type 0} (state : S) (mark : Option ℕ) (f : Edge S) → option_map (mark_edge state) mark ≡ Some f → (mark ≡ Some f.to) × (f.state ≡ state)
 some_of state None f h = absurd (not_some f h)
 some_of {S} state (Some k) f h =
@@ -48,12 +52,14 @@ some_to state mark k h = ap (option_map (mark_edge state)) h
 pub to_mark : {S : Type 0} (marks : List ℕ) (es : List (Edge S)) (e : Edge S) (k : ℕ) → Contains es e → mark_of marks e.to ≡ Some k → Contains (filter_map (to_segment marks) es) (mark_edge e.state k)
 to_mark marks es e k has is = contains_kept (to_segment marks) es e (mark_edge e.state k) has (some_to e.state (mark_of marks e.to) k is)
 
+-- the edge of the flow, to the mark and with the state, that an edge to a segment comes from
 pub record FromEdge {S : Type 0} (marks : List ℕ) (es : List (Edge S)) (f : Edge S) : Type 0 where
   pub edge : Edge S
   pub has : Contains es edge
   pub mark : mark_of marks edge.to ≡ Some f.to
   pub state : f.state ≡ edge.state
 
+-- each edge to a segment comes from one of the flow
 pub from_mark : {S : Type 0} (marks : List ℕ) (es : List (Edge S)) (f : Edge S) → Contains (filter_map (to_segment marks) es) f → FromEdge marks es f
 from_mark marks es f has =
     let m = kept_from (to_segment marks) es f has in
@@ -96,6 +102,7 @@ module _ {S : Type 0} (flow : Dataflow S) (laws : IsLawful flow) (marks : List �
       (out_up (flow.edges at x) (flow.edges at y) edges_up)
       (run_up n (suc at) (handed flow (suc at) (flow.edges at x)) (handed flow (suc at) (flow.edges at y)) (handed_own flow laws (suc at) (flow.edges at x) own_x) (handed_own flow laws (suc at) (flow.edges at y) own_y) (handed_up flow laws (suc at) (flow.edges at x) (flow.edges at y) own_x own_y edges_up)) e has
 
+-- what places in a row hand on goes to segments that there are
 pub run_within : {S : Type 0} (flow : Dataflow S) (marks : List ℕ) (n at : ℕ) (row : Option S) (e : Edge S) → Contains (run flow marks n at row) e → e.to < length marks
 run_within flow marks zero at row e has = absurd (contains_none e has)
 run_within flow marks (suc n) at None e has = absurd (contains_none e has)
@@ -105,6 +112,7 @@ run_within flow marks (suc n) at (Some x) e has =
       | inr rest ↦ run_within flow marks n (suc at) (handed flow (suc at) (flow.edges at x)) e rest
     ]
 
+-- no edge of a segment leaves the segments
 pub segments_stay : {S : Type 0} (flow : Dataflow S) (places : ℕ) (marks : List ℕ) → StaysWithin (segments flow places marks) (length marks)
 segments_stay {S} flow places marks k x lt own e has = go (slice_get marks k) has
   where
@@ -112,6 +120,7 @@ segments_stay {S} flow places marks k x lt own e has = go (slice_get marks k) ha
     go None h = absurd (contains_none e h)
     go (Some mark) h = run_within flow marks (segment_end places marks k - mark) mark (Some x) e h
 
+-- where a flow obeys the laws, the one over segments does
 pub segments_laws : {S : Type 0} (flow : Dataflow S) → IsLawful flow → (places : ℕ) (marks : List ℕ) → IsLawful (segments flow places marks)
 segments_laws {S} flow laws places marks = record {
   reflexive = laws.reflexive;

@@ -75,6 +75,7 @@ module _ {S : Type 0} (flow : Dataflow S) (marks : List ℕ) (again : ℕ → Bo
       head false (Some k) is_a is_m h = inl (here_of (asks || is_some (mark_of marks (suc at))) (rw (is_a, is_m) refl) h)
       head false None is_a is_m h = inr (known x refl is_a is_m e h)
 
+-- each edge of a shortened segment is one of the segment
 pub short_from : {S : Type 0} (flow : Dataflow S) (places : ℕ) (marks : List ℕ) (again : ℕ → Bool) (k : ℕ) (x : S) (e : Edge S) → Contains (short_edges flow places marks again k (slice_get marks k) x) e → Contains (segment_edges flow places marks k (slice_get marks k) x) e
 short_from {S} flow places marks again k x e has = go (slice_get marks k) has
   where
@@ -82,6 +83,7 @@ short_from {S} flow places marks again k x e has = go (slice_get marks k) has
     go None h = h
     go (Some mark) h = short_in flow marks again (segment_end places marks k - mark) mark true (Some x) e h
 
+-- each edge of a segment is one of the shortened segment, where the places that are passed over are repeats
 pub short_to : {S : Type 0} (flow : Dataflow S) → IsLawful flow → (places : ℕ) (marks : List ℕ) (again : ℕ → Bool) → AreRepeats flow again → (k : ℕ) (x : S) → flow.Own x → (e : Edge S) → Contains (segment_edges flow places marks k (slice_get marks k) x) e → Contains (short_edges flow places marks again k (slice_get marks k) x) e
 short_to {S} flow laws places marks again repeats k x own e has = go (slice_get marks k) has
   where
@@ -95,9 +97,11 @@ short_to {S} flow laws places marks again repeats k x own e has = go (slice_get 
       | inr none ↦ absurd none
     ]
 
+-- no edge of a shortened segment leaves the segments
 pub shortened_stays : {S : Type 0} (flow : Dataflow S) (places : ℕ) (marks : List ℕ) (again : ℕ → Bool) → StaysWithin (shortened flow places marks again) (length marks)
 shortened_stays flow places marks again k x lt own e has = segments_stay flow places marks k x lt own e (short_from flow places marks again k x e has)
 
+-- where a flow obeys the laws and the places that are passed over are repeats, the shortened one obeys them
 pub shortened_laws : {S : Type 0} (flow : Dataflow S) → IsLawful flow → (places : ℕ) (marks : List ℕ) (again : ℕ → Bool) → AreRepeats flow again → IsLawful (shortened flow places marks again)
 shortened_laws {S} flow laws places marks again repeats = record {
   reflexive = laws.reflexive;

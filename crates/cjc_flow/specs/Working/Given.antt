@@ -23,6 +23,7 @@ abbrev pub element_at : JInsn → Option State → Option Span
 element_at insn None = None
 element_at insn (Some t) = Some (element_given insn.op (cells_of t.stack))
 
+-- the same of all instructions in turn, as far as the rows of the types go
 abbrev pub elements_of : List JInsn → (types : List (Option State)) → List (Option Span)
 elements_of [] types = []
 elements_of (insn ∷ insns) [] = []
@@ -33,12 +34,15 @@ abbrev pub given_by : (value : Option ℤ) → (element : Span) → JOp → (loc
 given_by value element (jop.ArrayLoad opcode) locals s = element ∷ []
 given_by value element op locals s = gives (λ _. value) op [] locals s
 
+-- the stack of intervals behind an instruction
 abbrev pub behind_by : (value : Option ℤ) → (element : Span) → JOp → (locals stack : List Span) → List Span
 behind_by value element op locals s = given_by value element op locals s ++ drop (takes op) s
 
+-- the stack behind an instruction; a clash stays one, and a stack higher than any of a least type table becomes one
 abbrev pub stack_by : (value : Option ℤ) → (element : Span) → JOp → (locals : List Span) → StackOf Span → StackOf Span
 stack_by value element op locals Clash = Clash
 stack_by value element op locals (Cells s) = stack_of (behind_by value element op locals s)
 
+-- the intervals of a frame behind an instruction
 abbrev pub after_by : (value : Option ℤ) → (element : Span) → JOp → RangeState → RangeState
 after_by value element op x = record { stack = stack_by value element op x.locals x.stack; locals = locals_after op x.locals x.stack }

@@ -8,6 +8,8 @@ use Rattle.cjc_types.specs.Tables.{IsTypeTable, rows_of}
 use Rattle.cjc_range_flow.specs.Flow.{is_target}
 use Rattle.cjc_flow.specs.Working.Given.{elements_of}
 
+-- The types are the method's table, the elements are what its array loads give by it, and `first` says whether a jump,
+-- a switch or a handler leads to its first instruction.
 pub record IsRanging (b : Body) (types : TypeTable) (elements : List (Option Span)) (first : Bool) : Type 0 where
   pub classes : List Class
   pub typed : IsTypeTable classes b types

@@ -18,6 +18,7 @@ places classes (x ∷ names) = one_place (place_from 0 classes x) ++ places clas
 abbrev pub above_of : List ExportClass → List (List ℕ)
 above_of classes = map (λ c. places classes c.supers) classes
 
+-- a number is among these
 abbrev pub is_in : (n : ℕ) → List ℕ → Bool
 is_in n xs = list_any (λ m. m == n) xs
 

@@ -11,6 +11,7 @@ use Rattle.cjc_export.specs.declared.tree.ExportClass.{ExportClass}
 
 -- ---- names in a map
 
+-- names that have the same bytes are equal, which is an equivalence
 pub names-equivalence : IsEquivalence bytes_eq
 names-equivalence = decided bytes_eq bytes_eq-Decides
 
@@ -18,6 +19,7 @@ names-equivalence = decided bytes_eq bytes_eq-Decides
 abbrev pub fed : List ℕ → writes.HashWrites
 fed name = writes.slice writes.u8 name
 
+-- equal names are fed to a hasher alike
 pub same-fed : (x y : List ℕ) → IsTrue (bytes_eq x y) → fed x ≡ fed y
 same-fed x y h = ap fed ((bytes_eq-Decides x y).0 h)
 

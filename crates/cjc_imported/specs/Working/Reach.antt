@@ -10,10 +10,12 @@ with_mark marks at = if get_or marks at true then marks else set marks at true
 abbrev pub with_new : List Bool → (stack : List ℕ) → (at : ℕ) → List ℕ
 with_new marks stack at = if get_or marks at true then stack else stack ++ at ∷ []
 
+-- the marks once the classes at these places are marked too
 abbrev pub marks_after : List Bool → List ℕ → List Bool
 marks_after marks [] = marks
 marks_after marks (at ∷ places) = marks_after (with_mark marks at) places
 
+-- what is to be looked at once the classes at these places are marked too
 abbrev pub stack_after : List Bool → (stack : List ℕ) → List ℕ → List ℕ
 stack_after marks stack [] = stack
 stack_after marks stack (at ∷ places) = stack_after (with_mark marks at) (with_new marks stack at) places

@@ -15,6 +15,7 @@ use Rattle.cjc_imported.specs.Working.Graph.{places}
 abbrev pub is_asked : (unbound : Bool) → ExportMethod → Bool
 is_asked unbound m = if unbound then is_unbound m else is_virtual m
 
+-- a class itself lists a method with this token that is asked for
 abbrev pub lists_method : (unbound : Bool) → (token : ℕ) → ExportClass → Bool
 lists_method unbound token c = list_any (λ m. is_asked unbound m && m.token == token) c.methods
 
@@ -22,6 +23,7 @@ lists_method unbound token c = list_any (λ m. is_asked unbound m && m.token == 
 abbrev pub is_wanted : (statics : Bool) → ExportField → Bool
 is_wanted statics f = is_none f.constant && (if statics then is_static f.flags else not (is_static f.flags))
 
+-- a class itself lists a field with this token that is wanted
 abbrev pub lists_field : (statics : Bool) → (token : ℕ) → ExportClass → Bool
 lists_field statics token c = list_any (λ f. is_wanted statics f && f.token == token) c.fields
 
@@ -39,6 +41,7 @@ column tables token = map (λ t. get_or t token false) tables
 abbrev pub has_or_inherits : (test : ExportClass → Bool) → List ExportClass → ExportClass → Bool
 has_or_inherits test classes c = test c || list_any test (upwards classes c.supers)
 
+-- what a class has by a class above it
 abbrev pub inherits : (test : ExportClass → Bool) → List ExportClass → ExportClass → Bool
 inherits test classes c = list_any test (upwards classes c.supers)
 

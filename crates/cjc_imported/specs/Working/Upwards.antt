@@ -5,6 +5,7 @@ use Rattle.cjc_export.specs.Supers.{has_virtual, inherits_virtual}
 use Rattle.cjc_imported.specs.declared.tokens.Upwards.{Upwards}
 use Rattle.cjc_imported.specs.Tokens.{by_token, has_field}
 
+-- the answers kept are those of these classes: of virtual methods, inherited ones and instance fields
 pub record AreUpwards (classes : List ExportClass) (t : Upwards) : Type 0 where
   pub virtuals : t.virtuals ≡ by_token (has_virtual classes) classes
   pub inherited : t.inherited ≡ by_token (inherits_virtual classes) classes

@@ -19,6 +19,7 @@ joined : (a b : Bool) → IsTrue a → IsTrue b → IsTrue (a && b)
 joined true b e f = f
 joined false b e f = absurd (true≢false (sym e))
 
+-- the test of members is true exactly where their class, name and descriptor are equal
 pub same_member-Decides : (m n : MemberId) → Decides (same_member m n) (m ≡ n)
 same_member-Decides m n = (
   λ e.
@@ -36,6 +37,7 @@ same_member-Decides m n = (
 differ : (k l : PoolKey) → (k ≡ l → ⊥) → Decides false (k ≡ l)
 differ k l h = (λ e. absurd (true≢false (sym e)), λ e. absurd (h e))
 
+-- the test of keys is true exactly where the keys are equal
 pub same_key-Decides : (k l : PoolKey) → Decides (same_key k l) (k ≡ l)
 same_key-Decides (keys.Class a) (keys.Class b) = (λ e. ap keys.Class ((bytes_eq-Decides a b).0 e), λ e. (bytes_eq-Decides a b).1 cc)
 same_key-Decides (keys.Field a) (keys.Field b) = (λ e. ap keys.Field ((same_member-Decides a b).0 e), λ e. (same_member-Decides a b).1 cc)
@@ -74,8 +76,10 @@ same_key-Decides (keys.StaticMethod a) (keys.Virtual b) = differ (keys.StaticMet
 same_key-Decides (keys.StaticMethod a) (keys.Super b) = differ (keys.StaticMethod a) (keys.Super b) (λ e. cc)
 same_key-Decides (keys.StaticMethod a) (keys.StaticField b) = differ (keys.StaticMethod a) (keys.StaticField b) (λ e. cc)
 
+-- so it is an equivalence
 pub same_key-equivalence : IsEquivalence same_key
 same_key-equivalence = decided same_key same_key-Decides
 
+-- equal keys are fed to a hasher alike
 pub same_key-fed : (k l : PoolKey) → IsTrue (same_key k l) → fed k ≡ fed l
 same_key-fed k l h = ap fed ((same_key-Decides k l).0 h)

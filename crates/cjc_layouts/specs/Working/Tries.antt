@@ -37,10 +37,12 @@ abbrev pub breaks_in : Package → Class → Found → NMethod → List Break
 breaks_in p c f code = let place = method_spot p c f (method_in (world p) c f.member) in
     order_breaks place (overtaken code) ++ at (nat_lt 32767 code.widest) (place 0) 415
 
+-- 311 and 415 of a method beside its class, if there is one
 abbrev pub breaks_by : Package → Found → NMethod → Option Class → List Break
 breaks_by p f code None = []
 breaks_by p f code (Some c) = breaks_in p c f code
 
+-- 311 and 415 of a method, by the class that has it
 abbrev pub breaks_at : Package → Found → NMethod → List Break
 breaks_at p f code = breaks_by p f code (class_at (world p) f.imported f.class)
 
@@ -51,6 +53,7 @@ abbrev pub breaks_where : Package → Option Found → NMethod → List Break
 breaks_where p None code = []
 breaks_where p (Some f) code = breaks_at p f code
 
+-- 311 and 415 of the code at a place, by the member at the same place
 abbrev pub code_breaks : Package → List Found → ℕ → NMethod → List Break
 code_breaks p members k code = breaks_where p (slice_get members k) code
 

@@ -16,6 +16,7 @@ use Rattle.cjc_capread.specs.ClassRefs.{same_class}
 
 -- ---- places of fields are compared
 
+-- both are static fields with one cell, or both instance fields with one class_ref and one token
 abbrev pub same_place : FieldPlace → FieldPlace → Bool
 same_place (Static a) (Static b) = a == b
 same_place (Instance c t) (Instance d u) = same_class c d && t == u
@@ -58,6 +59,7 @@ same_place-Decides (Instance c t) (Instance d u) = (
 same_place-Decides (Static a) (Instance d u) = (λ e. absurd (true≢false (sym e)), λ e. absurd (cc))
 same_place-Decides (Instance c t) (Static b) = (λ e. absurd (true≢false (sym e)), λ e. absurd (cc))
 
+-- being the same place is an equivalence
 pub places-equivalence : IsEquivalence same_place
 places-equivalence = decided same_place same_place-Decides
 
@@ -68,14 +70,17 @@ abbrev pub number_of : ClassRef → ℕ
 number_of (refs.Inside offset) = offset
 number_of (refs.Outside import class) = import
 
+-- the class token of an imported class; 0 for a class of the package
 abbrev pub class_token : ClassRef → ℕ
 class_token (refs.Inside offset) = 0
 class_token (refs.Outside import class) = class
 
+-- what is fed to a hasher: the cell of a static field, or the class_ref and token of an instance field
 abbrev pub fed : FieldPlace → writes.HashWrites
 fed (Static at) = writes.u64 at
 fed (Instance class token) = writes.u64 (number_of class) ++ (writes.u8 (class_token class) ++ writes.u8 token)
 
+-- the same places are fed to a hasher alike
 pub same-fed : (x y : FieldPlace) → IsTrue (same_place x y) → fed x ≡ fed y
 same-fed x y h = ap fed ((same_place-Decides x y).0 h)
 

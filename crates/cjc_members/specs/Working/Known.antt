@@ -9,6 +9,7 @@ use Rattle.cjc_members.specs.Working.Fields.{AreFields}
 use Rattle.cjc_members.specs.Working.Needs.{AreNeeds}
 use Rattle.cjc_sentences.specs.Members.{all_fields}
 
+-- what is kept is that of the components and export files which are held
 pub record HasMembers (m : Members) : Type 0 where
   pub methods : HasMethods m.methods.now
   pub tokens : AreTokens m.methods.now.names.now.exports.now m.tokens.now

@@ -5,6 +5,7 @@ use Rattle.cjc_capread.specs.declared.tree.ClassDescriptor.{ClassDescriptor}
 use Rattle.cjc_capread.specs.declared.tree.MethodDescriptor.{MethodDescriptor}
 use Rattle.cjc_capread.specs.ClassRefs.{is_inside}
 
+-- the greater of two numbers
 abbrev pub greater : ℕ → ℕ → ℕ
 greater a b = if nat_lt a b then b else a
 
@@ -12,6 +13,7 @@ greater a b = if nat_lt a b then b else a
 abbrev pub need_of_method : MethodDescriptor → ℕ
 need_of_method m = if m.token == 0xFF then 0 else m.token + 1
 
+-- the greatest need of several methods, 0 without any
 abbrev pub need_of_methods : List MethodDescriptor → ℕ
 need_of_methods [] = 0
 need_of_methods (m ∷ methods) = greater (need_of_method m) (need_of_methods methods)
@@ -21,6 +23,7 @@ abbrev pub need_of : List ClassDescriptor → (offset : ℕ) → ℕ
 need_of [] offset = 0
 need_of (d ∷ classes) offset = greater (if is_inside d.this_class offset then need_of_methods d.methods else 0) (need_of classes offset)
 
+-- what a map has for an offset, 0 where it has nothing
 abbrev pub need_in : {S : Type 0} → IndexMap ℕ ℕ S → (offset : ℕ) → ℕ
 need_in needs offset = unwrap_or (get nat_eq needs offset) 0
 

@@ -18,6 +18,7 @@ abbrev pub behind : (next : ℕ) → Option CodeTree → ℕ
 behind k None = k
 behind k (Some code) = k + 1
 
+-- the place behind the code of all these methods
 abbrev pub behind_all : (next : ℕ) → List MethodTree → ℕ
 behind_all k [] = k
 behind_all k (m ∷ ms) = behind_all (behind k m.code) ms
@@ -52,6 +53,7 @@ pub record HasPlace (files : Files) (codes : List MethodCode) (n i k : ℕ) : Ty
 abbrev pub HasNone : Files → (n i : ℕ) → Type 0
 HasNone files n i = (class : ClassTree) (method : MethodTree) → slice_get files.classes n ≡ Some class → slice_get class.methods i ≡ Some method → method.code ≡ None
 
+-- the place of a method's code is this, or the method has no code where there is no place
 abbrev pub IsPlaced : Files → List MethodCode → (n i : ℕ) → Option ℕ → Type 0
 IsPlaced files codes n i None = HasNone files n i
 IsPlaced files codes n i (Some k) = HasPlace files codes n i k

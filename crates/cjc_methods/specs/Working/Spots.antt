@@ -21,5 +21,6 @@ abbrev pub words_at : Files → Found → Option Class → List Break
 words_at files f None = []
 words_at files f (Some c) = let m = method_in (all_classes files) c f.member in at (has_many_words m) (spot_in files c f m 0) 417
 
+-- 417 of a method by the numbers of its class and member
 abbrev pub word_breaks_in : Files → Found → List Break
 word_breaks_in files f = words_at files f (class_at (all_classes files) f.imported f.class)

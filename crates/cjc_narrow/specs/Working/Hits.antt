@@ -3,5 +3,6 @@ use Rattle.cjc_world.specs.Working.Known.{class_of}
 use Rattle.cjc_by_name.specs.OnePackage.{Hit}
 use Rattle.cjc_narrow.specs.declared.hits.Hit.{Hit as Met}
 
+-- a method that was found: the class that has it, and its flags
 abbrev pub hit_of : Met → Hit
 hit_of h = record { owner = class_of h.owner; flags = h.flags }

@@ -22,6 +22,7 @@ use Rattle.cjc_range_flow.specs.Values.{boolean_range}
 use Rattle.cjc_range_flow.specs.Bounds.{index_range, divides, shifts_right, may_hold_booleans, parameter}
 use Rattle.cjc_passes.specs.declared.passing.Found.{Found}
 
+-- whether the interval lies within its bound
 abbrev pub lies_in : Span → (bound : Span) → Bool
 lies_in s bound = int_le bound.low s.low && int_le s.high bound.high
 
@@ -45,6 +46,7 @@ kind_rule kinds.Other s = None
 kind_rule kinds.Ref s = None
 kind_rule kinds.Void s = None
 
+-- of a number that is put, passed or returned as a field, a parameter or a result
 abbrev pub part_rule : Part → Span → Option ℕ
 part_rule p s = kind_rule p.kind s
 
@@ -53,17 +55,21 @@ abbrev pub arguments_rule : MemberId → (n : ℕ) → List Span → Option ℕ
 arguments_rule id zero s = None
 arguments_rule id (suc k) s = lower (arguments_rule id k s) (part_rule (parameter id k) (operand s k))
 
+-- of the numbers that a comparison by this opcode takes; one of references takes none
 abbrev pub comparison_rule : (opcode : ℕ) → List Span → Option ℕ
 comparison_rule opcode s = if tests_references opcode then None else lower (tested 601 short_range (operand s 0)) (if compares opcode then tested 601 short_range (operand s 1) else None)
 
+-- of both operands of a division or remainder, and of the number that is shifted to the right
 abbrev pub arithmetic_rule : (opcode : ℕ) → List Span → Option ℕ
 arithmetic_rule opcode s =
     lower (if divides opcode then lower (tested 602 short_range (operand s 0)) (tested 602 short_range (operand s 1)) else None)
     (if shifts_right opcode then tested 603 short_range (operand s 1) else None)
 
+-- of a value that bastore puts into what may be an array of booleans
 abbrev pub element_rule : (opcode : ℕ) → Cell → Span → Option ℕ
 element_rule opcode array s = if (opcode == 0x54) && may_hold_booleans array then tested 609 boolean_range s else None
 
+-- of a value that is put into a field; where it is got there is none
 abbrev pub put_rule : (put : Bool) → MemberId → List Span → Option ℕ
 put_rule put field s = if put then part_rule (parts field.desc).result (operand s 0) else None
 
@@ -89,6 +95,7 @@ row_rule b insn None ranged = None
 row_rule b insn (Some t) None = None
 row_rule b insn (Some t) (Some x) = lowest_rule b insn.op (cells_of t.stack) (spans_of x.stack)
 
+-- this place with the rule that is broken there, or else what is found later
 abbrev pub or_later : Option ℕ → (place : ℕ) → Option Found → Option Found
 or_later (Some rule) place later = Some (record { place = place; rule = rule })
 or_later None place later = later

@@ -15,6 +15,7 @@ use Rattle.cjc_supers.specs.Supers.{names_upwards, name_of}
 
 -- ---- names in a set
 
+-- Names that are the same byte by byte are one name.
 pub names-equivalence : IsEquivalence bytes_eq
 names-equivalence = decided bytes_eq bytes_eq-Decides
 
@@ -22,26 +23,32 @@ names-equivalence = decided bytes_eq bytes_eq-Decides
 abbrev pub fed : List ℕ → writes.HashWrites
 fed name = writes.slice writes.u8 name
 
+-- of one name the same is fed
 pub same-fed : (x y : List ℕ) → IsTrue (bytes_eq x y) → fed x ≡ fed y
 same-fed x y h = ap fed ((bytes_eq-Decides x y).0 h)
 
 -- ---- a walk
 
+-- what a walk has seen so far
 pub record Seen : Type 0 where
   -- in the order in which the walk came to them
   pub names : List (List ℕ)
   -- all that stands above these has been seen
   pub done : List (List ℕ)
 
+-- before the first step
 abbrev pub nothing : Seen
 nothing = record { names = []; done = [] }
 
+-- one more name behind the others, where it is not among them
 abbrev pub put : Seen → List ℕ → Seen
 put s name = record { names = insert_key bytes_eq s.names name; done = s.done }
 
+-- all that stands above one more name has been seen
 abbrev pub finish : Seen → List ℕ → Seen
 finish s name = record { names = s.names; done = insert_key bytes_eq s.done name }
 
+-- all that stands above the name has been seen
 abbrev pub is_done : Seen → List ℕ → Bool
 is_done s name = list_any (bytes_eq name) s.done
 
@@ -51,10 +58,12 @@ with_all names more = insert_all bytes_eq names more
 
 -- ---- what a name adds
 
+-- what a class lists as its supers, nothing where there is no class
 abbrev pub supers_in : Option Class → List (List ℕ)
 supers_in None = []
 supers_in (Some c) = c.supers
 
+-- what a class lists as its interfaces, nothing where there is no class
 abbrev pub interfaces_in : Option Class → List (List ℕ)
 interfaces_in None = []
 interfaces_in (Some c) = c.interfaces
@@ -78,6 +87,7 @@ AreDone adds s = (x : List ℕ) → is_done s x ≡ true → AreIn s.names (adds
 
 -- ---- how far a walk goes on
 
+-- how many names stand in the tree
 abbrev pub size : Kin → ℕ
 size End = 0
 size (Unknown name next) = suc (size next)

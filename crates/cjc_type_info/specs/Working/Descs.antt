@@ -22,6 +22,7 @@ nibbles_of_each ref descs x = all_nibbles ref (descs x)
 abbrev pub desc_of_method : MethodTree → List (List ℕ)
 desc_of_method m = if bytes_eq m.name (codes "<clinit>") then [] else m.desc ∷ []
 
+-- the descriptor of a method that is added to a class
 abbrev pub desc_of_added : MemberId → List (List ℕ)
 desc_of_added m = m.desc ∷ []
 
@@ -29,6 +30,7 @@ desc_of_added m = m.desc ∷ []
 abbrev pub descs_in : (added : List MemberId) → ClassTree → List (List ℕ)
 descs_in added c = flat_map desc_of_field c.fields ++ (flat_map desc_of_method c.methods ++ flat_map desc_of_added added)
 
+-- the descriptors of a class and of what is added to it, if there is a class
 abbrev pub descs_where : (added : List MemberId) → Option ClassTree → List (List ℕ)
 descs_where added None = []
 descs_where added (Some c) = descs_in added c

@@ -11,5 +11,6 @@ parts_nibbles ref d =
     if d.is_method then flat_map (sort_nibbles ref) (map sort_of d.params) ++ result_nibbles ref (let r = d.result in result_by r.kind r)
     else sort_nibbles ref (sort_of d.result)
 
+-- the nibbles of what a descriptor of a class file says, where class_refs are these
 abbrev pub nibbles_in : (ref : List ℕ → ClassRef) → (desc : List ℕ) → List ℕ
 nibbles_in ref desc = nibbles_by ref desc (signature_of desc)

@@ -8,11 +8,13 @@ use Rattle.cjc_types.specs.Names.{IsSet, IsWithin, union}
 use Rattle.cjc_types.specs.Working.NameLaws.{union_left, union_right, union_least, set_union, length_within, same_within}
 use Rattle.cjc_types.specs.Cells.{most_names, refs, IsNameSet, IsCell, IsCellBelow, joined_cell, cell_rank, cells}
 
+-- each cell is below itself
 pub below_refl : (x : Cell) → IsCellBelow x x
 below_refl Number = tt
 below_refl (Refs names) = λ n h. h
 below_refl Unusable = tt
 
+-- a cell below one that is below a third is below the third
 pub below_trans : (x y z : Cell) → IsCellBelow x y → IsCellBelow y z → IsCellBelow x z
 below_trans x y Unusable h k = tt
 below_trans x Unusable Number h k = absurd k
@@ -32,6 +34,7 @@ own_refs names set = go (leb (length names) most_names) refl
     go true e = record { set = set; few = leb-true _ _ e }
     go false e = tt
 
+-- the cell of a set is above each reference whose types are within the set
 pub refs_above : (less names : List (List ℕ)) → IsWithin less names → IsCellBelow (Refs less) (refs names)
 refs_above less names h = go (leb (length names) most_names)
   where
@@ -39,6 +42,7 @@ refs_above less names h = go (leb (length names) most_names)
     go true = h
     go false = tt
 
+-- the cell of a set is below each reference whose types the set is within
 pub refs_below : (names more : List (List ℕ)) → IsSet names → IsNameSet more → IsWithin names more → IsCellBelow (refs names) (Refs more)
 refs_below names more set own h = go (leb (length names) most_names) refl
   where
@@ -46,6 +50,7 @@ refs_below names more set own h = go (leb (length names) most_names) refl
     go true e = h
     go false e = let le = length_within names more set own.set h in let few = own.few in let many = leb-false _ _ e in absurd (omega (arith, le, few, many))
 
+-- the cell of a set is below that of each set that it is within
 pub refs_up : (xs ys : List (List ℕ)) → IsSet xs → IsSet ys → IsWithin xs ys → IsCellBelow (refs xs) (refs ys)
 refs_up xs ys h k w = go (leb (length ys) most_names) refl
   where
@@ -93,6 +98,7 @@ least (Refs xs) (Refs ys) (Refs zs) own_x own_y own_z h k = refs_below (union xs
 least (Refs xs) Unusable (Refs zs) own_x own_y own_z h k = absurd k
 least Unusable y (Refs zs) own_x own_y own_z h k = absurd h
 
+-- no cell stands higher in the order than an unusable one
 pub rank_bounded : (x : Cell) → IsCell x → cell_rank x ≤ suc most_names
 rank_bounded Number own = omega arith
 rank_bounded (Refs xs) own = let few = own.few in omega (arith, few)
@@ -128,6 +134,7 @@ same_cell Unusable Number own_x own_y h k = absurd h
 same_cell Unusable (Refs ys) own_x own_y h k = absurd h
 same_cell Unusable Unusable own_x own_y h k = refl
 
+-- cells obey the laws of an order with joins
 pub cell_lattice : IsLattice cells
 cell_lattice = record {
   reflexive = λ x own. below_refl x;

@@ -89,6 +89,7 @@ own_arguments b = All-append IsCell _ _ (go (is_static b.flags)) (All-map IsCell
     go true = All-nil IsCell
     go false = All-cons IsCell _ [] (own_one b.class) (All-nil IsCell)
 
+-- the state before the first instruction is own
 pub own_entry : (b : Body) → (states b.max_locals).Own (entry b)
 own_entry b = (
   record { few = omega arith; own = All-nil IsCell },
@@ -102,6 +103,7 @@ own_entry b = (
   },
 )
 
+-- the flow of types is lawful: what own states hand on is own, and grows with them
 pub type_laws : (b : Body) → IsLawful (type_flow b)
 type_laws b = flow_laws (states b.max_locals) (entry b) (λ at x. place_edges b at (slice_get b.insns at) x) (state_lattice b.max_locals) (own_entry b)
     (λ at x own e is. All-contains (λ (e : Edge State). (states b.max_locals).Own e.state) _ e (own_place b at (slice_get b.insns at) x own) is)
@@ -149,5 +151,6 @@ edges_inside b at (Some insn) x =
     (All-append (λ to. to < length b.insns) _ _ (next_inside (goes_on insn.op) (length b.insns) at) (targets_inside b.insns (targets insn.op))))
     (handlers_inside b insn.at x b.catches)
 
+-- an instruction of a method hands on to none outside it
 pub type_flow_stays : (b : Body) → StaysWithin (type_flow b) (length b.insns)
 type_flow_stays b at x lt own e is = All-contains (λ (e : Edge State). e.to < length b.insns) _ e (edges_inside b at (slice_get b.insns at) x) is

@@ -33,10 +33,12 @@ or_false : (a : Bool) → a ≡ (a || false)
 or_false true = refl
 or_false false = refl
 
+-- or is true where its second operand is
 pub or_true : (a : Bool) → (a || true) ≡ true
 or_true true = refl
 or_true false = refl
 
+-- each number is equal to itself
 pub same_self : (n : ℕ) → (n == n) ≡ true
 same_self n = go (n == n) refl
   where
@@ -143,6 +145,7 @@ filter_same p q a (suc n) h =
     ap (λ (is : Bool). cond is (a ∷ filter p rest) (filter p rest)) (h a (omega arith) (omega arith))
     ∙ ap (λ (more : List ℕ). cond (q a) (a ∷ more) more) (filter_same p q (a + 1) n (λ at le lt. h at (omega (arith, le)) (omega (arith, lt))))
 
+-- the places that are marked step by step are the marked places
 pub marks_same : (b : Body) → marks_in (with_all b) ≡ marks_of b
 marks_same b =
     ap (λ n. filter (λ at. get_or (with_all b) at false) (range_with_len 0 n)) (all_sized b)
@@ -150,6 +153,7 @@ marks_same b =
 
 -- ---- where edges go
 
+-- where an item passes, some item passes
 pub any_has : {X : Type 0} (p : X → Bool) (xs : List X) (x : X) → Contains xs x → p x ≡ true → list_any p xs ≡ true
 any_has p [] x has e = absurd (contains_none x has)
 any_has p (y ∷ ys) x has e = elim (contains_cons y ys x has) [
@@ -157,9 +161,11 @@ any_has p (y ∷ ys) x has e = elim (contains_cons y ys x has) [
   | inr later ↦ ap (λ (b : Bool). p y || b) (any_has p ys x later e) ∙ or_true (p y)
 ]
 
+-- an item that stands at a place of a list is one of it
 pub contains_at : {X : Type 0} (xs : List X) (k : ℕ) (x : X) → slice_get xs k ≡ Some x → Contains xs x
 contains_at xs k x e = (k, slice_get_within xs k x e, get_or_from_slice_get xs k x x e)
 
+-- each item of a mapped list is that of an item of the list
 pub map_from : {X Y : Type 0} (f : X → Y) (xs : List X) (y : Y) → Contains (map f xs) y → (x : X) × Contains xs x × (f x ≡ y)
 map_from f [] y has = absurd (contains_none y has)
 map_from f (x ∷ xs) y has = elim (contains_cons (f x) (map f xs) y has) [
@@ -178,6 +184,7 @@ pub record IsMark (b : Body) (to : ℕ) : Type 0 where
   pub inside : to < length b.insns
   pub marked : is_marked b to ≡ true
 
+-- a place to which a jump or a switch leads is marked
 pub jump_marked : (b : Body) (at : ℕ) (insn : JInsn) (to : ℕ) → slice_get b.insns at ≡ Some insn → Contains (filter_map (place_at b.insns) (targets insn.op)) to → IsMark b to
 jump_marked b at insn to is has =
     let from = kept_from (place_at b.insns) (targets insn.op) to has in
@@ -196,6 +203,7 @@ handler_to insns offset x c e is = go (covers c offset) (place_at insns c.target
     go true (Some to) h = let same : edge (caught c x) to ≡ e = cc in ap (λ (f : Edge State). Some f.to) same
     go false o h = absurd cc
 
+-- a place where a handler begins is marked
 pub handles_marked : (b : Body) (c : Catch) (to : ℕ) → Contains b.catches c → place_at b.insns c.target ≡ Some to → IsMark b to
 handles_marked b c to has found =
     let handles : is_handler b to ≡ true = any_has (λ (d : Catch). is_place (place_at b.insns d.target) to) b.catches c has (placed_at b c.target to found) in
@@ -212,6 +220,7 @@ handler_marked b offset x e has =
 mark_in : (b : Body) (to : ℕ) → IsMark b to → Contains (marks_of b) to
 mark_in b to h = let lt = h.inside in kept_has (is_marked b) 0 (length b.insns) to (omega arith) (omega (arith, lt)) h.marked
 
+-- the place that execution may fall through to is the one behind
 pub next_to : (on : Bool) (places at to : ℕ) → Contains (next_place on places at) to → to ≡ suc at
 next_to false places at to has = absurd (contains_none to has)
 next_to true places at to has = go (nat_lt (at + 1) places) has
@@ -236,6 +245,7 @@ edge_goes b at insn x e is has =
       | inr handled ↦ inr (handler_marked b insn.at x e handled)
     ]
 
+-- each instruction hands on to the place behind it or to marked places
 pub marks_meet : (b : Body) → MeetsAt (type_flow b) (length b.insns) (marks_of b)
 marks_meet b at x lt own e has = go (slice_get b.insns at) refl has
   where
@@ -246,6 +256,7 @@ marks_meet b at x lt own e has = go (slice_get b.insns at) refl has
       | inr mark ↦ inr (mark_in b e.to mark)
     ]
 
+-- the marked places ascend, lie in the method, and have its first place among them
 pub marks_are : (b : Body) → AreMarks (length b.insns) (marks_of b)
 marks_are b = kept_are (is_marked b) (length b.insns) (λ some. refl)
 
@@ -263,6 +274,7 @@ none_handed {S} flow to row (e ∷ es) h = go (none_handed flow to row es (λ f 
     go rest true is = absurd (h e (contains_head e es) (eqb-true e.to to is))
     go rest false is = ap (λ (r : Option S). handed_more flow to r es) (merged_none flow row) ∙ rest
 
+-- a choice between twice the same is the same
 pub either_way : {S : Type 0} (x : S) (b : Bool) → x ≡ cond b x x
 either_way x true = refl
 either_way x false = refl
@@ -308,6 +320,7 @@ pub record LeadsOn (b : Body) (at : ℕ) : Type 0 where
   pub jumps : (insn : JInsn) → slice_get b.insns at ≡ Some insn → (to : ℕ) → Contains (filter_map (place_at b.insns) (targets insn.op)) to → to ≢ suc at
   pub handlers : (offset : ℕ) (x : State) (e : Edge State) → Contains (filter_map (handler_edge b.insns offset x) b.catches) e → e.to ≢ suc at
 
+-- where neither the jumps nor the handlers lead to the place behind, it gets what falls through
 pub leads_on : (b : Body) (at : ℕ) (x : State) → LeadsOn b at → handed_on (type_flow b) at (Some x) ≡ gone_on b at x
 leads_on b at x free = go (slice_get b.insns at) refl
   where
@@ -322,12 +335,14 @@ not_marked b to none h =
     let has = mark_in b to h in
     no_mark (marks_of b) (marks_are b).ascending has.0 to none (slice_get-get_or (marks_of b) has.0 to has.1 ∙ ap Some has.2)
 
+-- neither the jumps nor the handlers lead to a place behind that is not marked
 pub leads_unmarked : (b : Body) (at : ℕ) → mark_of (marks_of b) (suc at) ≡ None → LeadsOn b at
 leads_unmarked b at none = record {
   jumps = λ insn is to has same. not_marked b (suc at) none (subst (IsMark b) same (jump_marked b at insn to is has));
   handlers = λ offset y e has same. not_marked b (suc at) none (subst (IsMark b) same (handler_marked b offset y e has));
 }
 
+-- a place behind that is not marked gets what falls through
 pub passed : (b : Body) (at : ℕ) (x : State) → mark_of (marks_of b) (suc at) ≡ None → handed_on (type_flow b) at (Some x) ≡ gone_on b at x
 passed b at x none = leads_on b at x (leads_unmarked b at none)
 
@@ -372,9 +387,11 @@ target_within b to h = go (is_jumped_to b to) refl h
         let c = any_from (λ (c : Catch). is_place (place_at b.insns c.target) to) b.catches e in
         placed_within b (c.0).target to c.2
 
+-- a place among the marks is marked
 pub mark_some : (b : Body) (to k : ℕ) → mark_of (marks_of b) to ≡ Some k → is_marked b to ≡ true
 mark_some b to k is = filter_only (is_marked b) (range_with_len 0 (length b.insns)) to (contains_at (marks_of b) k to (mark_is (marks_of b) to k is))
 
+-- a place that is not among the marks is not marked; of the first this is said where there are instructions
 pub mark_none : (b : Body) (to : ℕ) → (to ≡ 0 → 0 < length b.insns) → mark_of (marks_of b) to ≡ None → is_marked b to ≡ false
 mark_none b to some none = go (is_marked b to) refl
   where
@@ -389,6 +406,7 @@ mark_none b to some none = go (is_marked b to) refl
     go false e = refl
     go true e = absurd (not_marked b to none (record { inside = inside e; marked = e }))
 
+-- a place that is not marked is not among the marks
 pub unmarked_none : (b : Body) (to : ℕ) → is_marked b to ≡ false → mark_of (marks_of b) to ≡ None
 unmarked_none b to e = go (mark_of (marks_of b) to) refl
   where

@@ -5,6 +5,7 @@ use Rattle.cjc_code.specs.declared.insn.JInsn.{JInsn}
 use Rattle.cjc_types.specs.Steps.{targets}
 use Rattle.cjc_types.specs.Flow.{Body, place_at}
 
+-- the place is marked too, if there is one
 abbrev pub with_mark : List Bool → Option ℕ → List Bool
 with_mark marked None = marked
 with_mark marked (Some place) = slice_set marked place true
@@ -24,5 +25,6 @@ abbrev pub with_handlers : List JInsn → List Bool → List Catch → List Bool
 with_handlers insns marked [] = marked
 with_handlers insns marked (c ∷ more) = with_handlers insns (with_mark marked (place_at insns c.target)) more
 
+-- the first place is marked, and each to which a jump, a switch or a handler of the method leads
 abbrev pub with_all : Body → List Bool
 with_all b = with_handlers b.insns (with_jumps b.insns (with_mark (replicate (length b.insns) false) (Some 0)) b.insns) b.catches

@@ -7,20 +7,24 @@ use Rattle.std.specs.FinMap.{slice_cmp-IsAntisymmetric, nat_cmp-IsAntisymmetric}
 use Rattle.std.proofs.lemmas.Cmp.{tied_itself}
 use Rattle.cjc_types.specs.Names.{compare, In, IsBefore, IsSet, IsWithin, placed, insert, union}
 
+-- names that compare equal are the same
 pub same_name : (x y : List ℕ) → compare x y ≡ Equal → x ≡ y
 same_name x y e = slice_cmp-IsAntisymmetric nat_cmp-IsAntisymmetric x y e
 
 tied : (x : List ℕ) → compare x x ≡ Equal
 tied x = tied_itself nat_list_cmp_total x
 
+-- a name before one that is before a third is before the third
 pub before_trans : (x y z : List ℕ) → compare x y ≡ Less → compare y z ≡ Less → compare x z ≡ Less
 before_trans x y z h k = nat_list_cmp_total.trans x y z h k
 
+-- where a name comes after another, the other comes before it
 pub turned : (x y : List ℕ) → compare x y ≡ Greater → compare y x ≡ Less
 turned x y h = let e = nat_list_cmp_total.antisymm y x in rw h at e
 
 -- ---- members
 
+-- a set with a name has the name
 pub insert_new : (n : List ℕ) (xs : List (List ℕ)) → In n (insert n xs)
 insert_new n [] = inl refl
 insert_new n (x ∷ xs) = go (compare n x) refl (insert_new n xs)
@@ -30,6 +34,7 @@ insert_new n (x ∷ xs) = go (compare n x) refl (insert_new n xs)
     go Equal e rest = inl (sym (same_name n x e))
     go Greater e rest = inr rest
 
+-- a set with a name has what it had without
 pub insert_old : (n m : List ℕ) (xs : List (List ℕ)) → In m xs → In m (insert n xs)
 insert_old n m [] h = absurd h
 insert_old n m (x ∷ xs) h = go (compare n x) h (insert_old n m xs)
@@ -40,6 +45,7 @@ insert_old n m (x ∷ xs) h = go (compare n x) h (insert_old n m xs)
     go Greater (inl is) rest = inl is
     go Greater (inr later) rest = inr (rest later)
 
+-- a set with a name has nothing but the name and what it had without
 pub insert_cases : (n m : List ℕ) (xs : List (List ℕ)) → In m (insert n xs) → (n ≡ m) ⊎ In m xs
 insert_cases n m [] h = h
 insert_cases n m (x ∷ xs) h = go (compare n x) h (insert_cases n m xs)
@@ -50,15 +56,18 @@ insert_cases n m (x ∷ xs) h = go (compare n x) h (insert_cases n m xs)
     go Greater (inl is) rest = inr (inl is)
     go Greater (inr later) rest = elim (rest later) [ inl is ↦ inl is | inr old ↦ inr (inr old) ]
 
+-- the second set is within the union
 pub union_right : (xs ys : List (List ℕ)) → IsWithin ys (union xs ys)
 union_right [] ys n h = h
 union_right (x ∷ xs) ys n h = union_right xs (insert x ys) n (insert_old x n ys h)
 
+-- the first set is within the union
 pub union_left : (xs ys : List (List ℕ)) → IsWithin xs (union xs ys)
 union_left [] ys n h = absurd h
 union_left (x ∷ xs) ys n (inl is) = subst (λ (m : List ℕ). In m (union xs (insert x ys))) is (union_right xs (insert x ys) x (insert_new x ys))
 union_left (x ∷ xs) ys n (inr later) = union_left xs (insert x ys) n later
 
+-- the union of two sets is within each set that both are within
 pub union_least : (xs ys zs : List (List ℕ)) → IsWithin xs zs → IsWithin ys zs → IsWithin (union xs ys) zs
 union_least [] ys zs h k n is = k n is
 union_least (x ∷ xs) ys zs h k n is = union_least xs (insert x ys) zs (λ m later. h m (inr later)) (λ m has. go m (insert_cases x m ys has)) n is
@@ -69,6 +78,7 @@ union_least (x ∷ xs) ys zs h k n is = union_least xs (insert x ys) zs (λ m la
 
 -- ---- order
 
+-- a name before one that comes before others comes before those others
 pub before_weaker : (x y : List ℕ) (ys : List (List ℕ)) → compare x y ≡ Less → IsBefore y ys → IsBefore x ys
 before_weaker x y [] h k = tt
 before_weaker x y (z ∷ zs) h k = (before_trans x y z h k.0, before_weaker x y zs h k.1)
@@ -82,6 +92,7 @@ before_insert z n (x ∷ xs) h k = go (compare n x) (before_insert z n xs h k.1)
     go Equal rest = k
     go Greater rest = (k.0, rest)
 
+-- a set with a name is a set
 pub set_insert : (n : List ℕ) (xs : List (List ℕ)) → IsSet xs → IsSet (insert n xs)
 set_insert n [] h = (tt, tt)
 set_insert n (x ∷ xs) h = go (compare n x) refl (set_insert n xs h.1)
@@ -91,6 +102,7 @@ set_insert n (x ∷ xs) h = go (compare n x) refl (set_insert n xs h.1)
     go Equal e rest = h
     go Greater e rest = (before_insert x n xs (turned n x e) h.0, rest)
 
+-- the union of names with a set is a set
 pub set_union : (xs ys : List (List ℕ)) → IsSet ys → IsSet (union xs ys)
 set_union [] ys h = h
 set_union (x ∷ xs) ys h = set_union xs (insert x ys) (set_insert x ys h)
@@ -100,6 +112,7 @@ set_union (x ∷ xs) ys h = set_union xs (insert x ys) (set_insert x ys h)
 not_before : (x : List ℕ) → compare x x ≡ Less → ⊥
 not_before x h = let e = tied x in cc
 
+-- a name that comes before others comes before each of them
 pub before_member : (x n : List ℕ) (xs : List (List ℕ)) → IsBefore x xs → In n xs → compare x n ≡ Less
 before_member x n [] h is = absurd is
 before_member x n (y ∷ ys) h (inl is) = subst (λ (m : List ℕ). compare x m ≡ Less) is h.0
@@ -139,8 +152,10 @@ counted (x ∷ xs) (y ∷ ys) h k w = go (w x (inl refl)) (counted xs ys h.1 k.1
     go (inl e) rest more = same (sym e) rest
     go (inr is) rest more = later is more
 
+-- a set within another has no more names
 pub length_within : (xs ys : List (List ℕ)) → IsSet xs → IsSet ys → IsWithin xs ys → length xs ≤ length ys
 length_within xs ys h k w = (counted xs ys h k w).0
 
+-- a set within another that has no more names is the other
 pub same_within : (xs ys : List (List ℕ)) → IsSet xs → IsSet ys → IsWithin xs ys → length ys ≤ length xs → xs ≡ ys
 same_within xs ys h k w l = (counted xs ys h k w).1 l

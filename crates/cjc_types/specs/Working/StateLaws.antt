@@ -58,12 +58,15 @@ rank_is Clash = refl
 laws : IsLattice (any.stacks_of cells)
 laws = any_stack_lattice cells cell_lattice
 
+-- each stack is below itself
 pub stack_refl : (s : Stack) → IsStack s → IsStackBelow s s
 stack_refl s own = below_from s s (laws.reflexive (stack_by s) (own_to s own))
 
+-- no stack stands higher in the order than a clash
 pub stack_bounded : (x : Stack) → IsStack x → stack_rank x ≤ clash_rank
 stack_bounded x own = subst (λ (n : ℕ). n ≤ clash_rank) (rank_is x) (laws.bounded (stack_by x) (own_to x own))
 
+-- stacks obey the laws of an order with joins
 pub stack_lattice : IsLattice stacks
 stack_lattice = record {
   reflexive = stack_refl;
@@ -78,6 +81,7 @@ stack_lattice = record {
   bounded = stack_bounded;
 }
 
+-- the states of a method with so many locals obey the laws of an order with joins
 pub state_lattice : (max_locals : ℕ) → IsLattice (states max_locals)
 state_lattice max_locals = parts_lattice stacks (lists_of cells max_locals) (λ (s : State). s.stack) (λ (s : State). s.locals) (λ stack locals. record { stack = stack; locals = locals }) stack_lattice (lists_lattice cells cell_lattice max_locals) (λ a b. refl) (λ a b. refl)
 
@@ -90,9 +94,11 @@ cut_is xs = go (leb (length xs) most_cells)
     go true = refl
     go false = refl
 
+-- a stack of own cells is own
 pub own_stack_of : (xs : List Cell) → All IsCell xs → IsStack (stack_of xs)
 own_stack_of xs own = own_from (stack_of xs) (subst (any.IsStack cells) (cut_is xs) (any_own_stack_of cells cell_lattice xs own))
 
+-- a stack grows with its cells
 pub stack_of_up : (xs ys : List Cell) → AllZip IsCellBelow xs ys → IsStackBelow (stack_of xs) (stack_of ys)
 stack_of_up xs ys h = below_from (stack_of xs) (stack_of ys)
     (subst (any.IsStackBelow cells (stack_by (stack_of xs))) (cut_is ys) (subst (λ (s : StackOf Cell). any.IsStackBelow cells s (any.stack_of ys)) (cut_is xs) (any_stack_of_up cells cell_lattice xs ys h)))
@@ -114,6 +120,7 @@ same_stack (Cells xs) Clash own_x own_y h k = absurd k
 same_stack Clash (Cells ys) own_x own_y h k = absurd h
 same_stack Clash Clash own_x own_y h k = refl
 
+-- own states each below the other are the same
 pub same_state : (max_locals : ℕ) (x y : State) → (states max_locals).Own x → (states max_locals).Own y → (states max_locals).Below x y → (states max_locals).Below y x → x ≡ y
 same_state max_locals x y own_x own_y h k =
     let stack : x.stack ≡ y.stack = same_stack x.stack y.stack own_x.0 own_y.0 h.0 k.0 in

@@ -24,15 +24,18 @@ use Rattle.cjc_types.specs.Steps.{operand, takes, shuffled, local_value, gives, 
 
 -- ---- lists of cells
 
+-- the lists have one length, and each cell of the first is below that of the second in its place
 abbrev pub AreBelow : List Cell → List Cell → Type 0
 AreBelow xs ys = AllZip IsCellBelow xs ys
 
 below_itself : (xs : List Cell) → AreBelow xs xs
 below_itself xs = below_same IsCellBelow below_refl xs
 
+-- an operand of own cells is own
 pub own_operand : (xs : List Cell) (k : ℕ) → All IsCell xs → IsCell (operand xs k)
 own_operand xs k h = read_own IsCell Unusable tt xs k h
 
+-- an operand grows with the cells
 pub operand_up : (xs ys : List Cell) (k : ℕ) → AreBelow xs ys → IsCellBelow (operand xs k) (operand ys k)
 operand_up xs ys k h = read_up IsCellBelow Unusable tt xs ys k h
 
@@ -111,6 +114,7 @@ gives_up (jop.InstanceOf class) locals more s t h k = (tt, tt)
 own_behind : (op : JOp) (locals s : List Cell) → All IsCell locals → All IsCell s → All IsCell (stack_behind op locals s)
 own_behind op locals s own_l own_s = All-append IsCell (gives op locals s) (drop (takes op) s) (own_gives op locals s own_l own_s) (All-drop IsCell (takes op) s own_s)
 
+-- the stack behind an instruction grows with the stack and the locals before it
 pub behind_up : (op : JOp) (locals more s t : List Cell) → AreBelow locals more → AreBelow s t → AreBelow (stack_behind op locals s) (stack_behind op more t)
 behind_up op locals more s t h k = below_append IsCellBelow (gives op locals s) (gives op more t) (drop (takes op) s) (drop (takes op) t) (gives_up op locals more s t h k) (below_drop IsCellBelow (takes op) s t k)
 
@@ -151,8 +155,10 @@ locals_up _ locals more s t h k = h
 
 -- ---- states
 
+-- the state behind an instruction is own where the state before it is
 pub own_after : (op : JOp) (n : ℕ) (x : State) → (states n).Own x → (states n).Own (after op x)
 own_after op n x own = (own_stack op x.locals x.stack own.1.own own.0, own_locals op n x.locals x.stack own.1 own.0)
 
+-- the state behind an instruction grows with the state before it
 pub after_up : (op : JOp) (n : ℕ) (x y : State) → (states n).Below x y → (states n).Below (after op x) (after op y)
 after_up op n x y h = (stack_up op x.locals y.locals x.stack y.stack h.1 h.0, locals_up op x.locals y.locals x.stack y.stack h.1 h.0)

@@ -21,6 +21,7 @@ one_name = omega arith
 pub own_one : (name : List ℕ) → IsCell (Refs (name ∷ []))
 own_one name = record { set = (tt, tt); few = one_name }
 
+-- the cell of null is own
 pub own_null : IsCell (Refs [])
 own_null = record { set = tt; few = omega arith }
 
@@ -33,9 +34,11 @@ own_kind kinds.Other class = tt
 own_kind kinds.Ref class = own_one class
 own_kind kinds.Void class = tt
 
+-- the cell of a value of a type is own
 pub own_value : (p : Part) → IsCell (value_of p)
 own_value p = own_kind p.kind p.class
 
+-- what a result puts on the stack is own
 pub own_result : (p : Part) → All IsCell (result_of p)
 own_result p = go (is_void p.kind)
   where
@@ -45,6 +48,7 @@ own_result p = go (is_void p.kind)
 
 -- ---- elements
 
+-- a set with the type that an array holds is a set
 pub set_held : (found : Option (List ℕ)) (names : List (List ℕ)) → IsSet names → IsSet (with_held found names)
 set_held None names h = h
 set_held (Some name) names h = set_insert name names h
@@ -80,6 +84,7 @@ elements_least (x ∷ xs) names zs h k = elements_least xs (with_held (held x) n
 elements_up : (xs ys : List (List ℕ)) → IsWithin xs ys → IsWithin (elements xs []) (elements ys [])
 elements_up xs ys h = elements_least xs [] (elements ys []) (λ n is. absurd is) (λ m n has is. elements_new ys [] m n (h m has) is)
 
+-- what an array load gives from an own cell is own
 pub own_element : (opcode : ℕ) (x : Cell) → IsCell x → IsCell (element_of opcode x)
 own_element opcode Number own = tt
 own_element opcode (Refs names) own = go (opcode == 0x32)
@@ -89,6 +94,7 @@ own_element opcode (Refs names) own = go (opcode == 0x32)
     go false = tt
 own_element opcode Unusable own = tt
 
+-- what an array load gives grows with the cell of the array
 pub element_up : (opcode : ℕ) (x y : Cell) → IsCellBelow x y → IsCellBelow (element_of opcode x) (element_of opcode y)
 element_up opcode x Number h = tt_for x h
   where
@@ -105,11 +111,13 @@ element_up opcode (Refs xs) (Refs ys) h = go (opcode == 0x32)
 
 -- ---- references
 
+-- what astore or aload makes of an own cell is own
 pub own_reference : (x : Cell) → IsCell x → IsCell (as_reference x)
 own_reference Number own = tt
 own_reference (Refs names) own = own
 own_reference Unusable own = tt
 
+-- what astore or aload makes of a cell grows with the cell
 pub reference_up : (x y : Cell) → IsCellBelow x y → IsCellBelow (as_reference x) (as_reference y)
 reference_up x Number h = tt
 reference_up x Unusable h = tt
@@ -119,6 +127,7 @@ reference_up (Refs xs) (Refs ys) h = h
 
 -- ---- a step of the loop over arrays
 
+-- what the arrays from a place on hold is what those behind it do, with what the one there holds put in first
 pub elements_next : (types names more : List (List ℕ)) (i : ℕ) (array given : List ℕ) → i < length types → array ≡ get_or types i array → given ≡ array → more ≡ with_held (held given) names → elements (drop (i + 1) types) more ≡ elements (drop i types) names
 elements_next types names more i array given lt read same is =
     let split : drop i types ≡ array ∷ drop (i + 1) types = drop_more types i array lt ∙ ap (λ (n : List ℕ). n ∷ drop (i + 1) types) (sym read) in

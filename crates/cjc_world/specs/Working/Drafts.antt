@@ -13,6 +13,7 @@ use Rattle.cjc_world.specs.Kin.{IsAcyclic}
 use Rattle.cjc_world.specs.Working.Tables.{IsTable, IsPart, are_ready}
 use Rattle.cjc_world.specs.Added.{added_at}
 
+-- The tables have what stands above each class, and what each class of the package gets.
 pub record AreTables (files : Files) (t : Tables) : Type 0 where
   pub above : IsTable (all_classes files) t.above
   pub count : length t.added ≡ length files.classes
@@ -23,6 +24,7 @@ abbrev pub is_ready_of : Files → List (Option Above) → ℕ → Option ClassT
 is_ready_of files rows number None = false
 is_ready_of files rows number (Some c) = are_ready (all_classes files) rows (declared number c)
 
+-- the same of the class of the package that has this number
 abbrev pub is_number_ready : Files → List (Option Above) → ℕ → Bool
 is_number_ready files rows number = is_ready_of files rows number (slice_get files.classes number)
 

@@ -3,6 +3,7 @@ use Rattle.cjc_world.specs.declared.class.Known.{Known}
 use Rattle.cjc_world.specs.declared.class.Known.TheVariants as kinds
 use Rattle.cjc_world.specs.Classes.{Class, declared, imported}
 
+-- the class that is meant, with its number
 abbrev pub class_of : Known → Class
 class_of (kinds.Declared number c) = declared number c.now
 class_of (kinds.Imported number c) = imported number c.now

@@ -17,6 +17,7 @@ use Rattle.cjc_world.specs.Working.Spots.{at, IsIndexed}
 abbrev pub place_in : Names → List ℕ → Option ℕ
 place_in n name = get_by (λ k. bytes_eq name k.items) n.places
 
+-- there is a class, and it has the name
 abbrev pub is_named : Option Class → List ℕ → Bool
 is_named None name = false
 is_named (Some c) name = bytes_eq c.name name

@@ -21,6 +21,7 @@ unfoldable pub at_places : List Class → List ℕ → List Class
 at_places w [] = []
 at_places w (p ∷ ps) = option_to_list (slice_get w p) ++ at_places w ps
 
+-- the place is one of these
 abbrev pub is_in : ℕ → List ℕ → Bool
 is_in p ps = list_any (λ q. q == p) ps
 
@@ -36,14 +37,17 @@ first_place own (p ∷ ps) = or_else (own p) (first_place own ps)
 
 -- ---- what the class at a place answers
 
+-- the field that the class declares; none where there is no class
 abbrev pub field_of : (name desc : List ℕ) → Option Class → Option Found
 field_of name desc None = None
 field_of name desc (Some c) = own_field name desc c
 
+-- the method that the class declares; selection passes over private and static ones
 abbrev pub method_of : (selecting : Bool) → (name desc : List ℕ) → Option Class → Option Found
 method_of selecting name desc None = None
 method_of selecting name desc (Some c) = own_method selecting name desc c
 
+-- there is a class, and it has the name
 abbrev pub has_name : List ℕ → Option Class → Bool
 has_name name None = false
 has_name name (Some c) = bytes_eq c.name name
@@ -52,6 +56,7 @@ has_name name (Some c) = bytes_eq c.name name
 abbrev pub names : List ℕ → Class → Bool
 names name c = bytes_eq c.name name || (list_any (λ x. bytes_eq x name) c.supers || list_any (λ x. bytes_eq x name) c.interfaces)
 
+-- there is a class, and it has the name or lists it
 abbrev pub names_of : List ℕ → Option Class → Bool
 names_of name None = false
 names_of name (Some c) = names name c
@@ -60,6 +65,7 @@ names_of name (Some c) = names name c
 abbrev pub names_super : List ℕ → Class → Bool
 names_super name c = bytes_eq c.name name || list_any (λ x. bytes_eq x name) c.supers
 
+-- there is a class, and it has the name or lists it as a super
 abbrev pub names_super_of : List ℕ → Option Class → Bool
 names_super_of name None = false
 names_super_of name (Some c) = names_super name c

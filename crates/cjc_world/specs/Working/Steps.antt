@@ -18,12 +18,15 @@ abbrev pub name_stands_at : List ℕ → List Bool → List ℕ → Option ℕ �
 name_stands_at name known x None = bytes_eq x name
 name_stands_at name known x (Some p) = unwrap_or (slice_get known p) false
 
+-- the same by the name alone, of the first class that has it
 abbrev pub name_stands : List Class → List ℕ → List Bool → List ℕ → Bool
 name_stands w name known x = name_stands_at name known x (place_named w x)
 
+-- the same of at least one of these names
 unfoldable pub any_stands : List Class → List ℕ → List Bool → List (List ℕ) → Bool
 any_stands w name known xs = list_any (λ x. name_stands w name known x) xs
 
+-- what the next step tells of a class: it has the name, or what is known so far tells it of one that the class lists
 abbrev pub class_stands : List Class → (by_supers : Bool) → List ℕ → List Bool → Option Class → Bool
 class_stands w by_supers name known None = false
 class_stands w by_supers name known (Some c) =

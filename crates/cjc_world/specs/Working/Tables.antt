@@ -40,6 +40,7 @@ row_in orders.Line a = a.line
 row_in orders.Interfaces a = a.interfaces
 row_in orders.Fields a = a.fields
 
+-- that list of a row, empty where the row is not there
 abbrev pub row_at : Order → Option (Option Above) → List ℕ
 row_at order None = []
 row_at order (Some None) = []
@@ -50,6 +51,7 @@ abbrev pub piece : Order → (listed : Bool) → List (Option Above) → Option 
 piece order listed rows None = []
 piece order listed rows (Some q) = row_at order (slice_get rows q) ++ (if listed then q ∷ [] else [])
 
+-- what these names add, one after the other
 unfoldable pub pieces : List Class → Order → (listed : Bool) → List (Option Above) → List (List ℕ) → List ℕ
 pieces w order listed rows [] = []
 pieces w order listed rows (x ∷ xs) = piece order listed rows (place_named w x) ++ pieces w order listed rows xs
@@ -62,11 +64,13 @@ above_at w rows p c = record {
   fields = joined (joined (p ∷ []) (pieces w orders.Fields false rows c.interfaces)) (pieces w orders.Fields false rows c.supers);
 }
 
+-- the row is there
 abbrev pub is_row : Option (Option Above) → Bool
 is_row None = false
 is_row (Some None) = false
 is_row (Some (Some a)) = true
 
+-- there is no class, or its row is there
 abbrev pub is_ready_at : List (Option Above) → Option ℕ → Bool
 is_ready_at rows None = true
 is_ready_at rows (Some q) = is_row (slice_get rows q)
@@ -75,6 +79,7 @@ is_ready_at rows (Some q) = is_row (slice_get rows q)
 abbrev pub is_ready : List Class → List (Option Above) → List ℕ → Bool
 is_ready w rows x = is_ready_at rows (place_named w x)
 
+-- each super and interface that the class lists is of no class, or its row is there
 unfoldable pub are_ready : List Class → List (Option Above) → Class → Bool
 are_ready w rows c = list_all (λ x. is_ready w rows x) c.supers && list_all (λ x. is_ready w rows x) c.interfaces
 
