@@ -1,7 +1,9 @@
 //! Limits of what is written: a package that keeps each exactly, and one past it. A case is the kind of its class file, a number,
 //! and ` = ` with the rule that it breaks, or `0` where it is converted.
 
-use crate::long_files::{Method, make_method, with_constants, with_methods};
+use crate::long_files::{
+    Method, make_method, many_methods, with_calls, with_constants, with_methods,
+};
 use cjc_bytes::{Bytes, NoMemory, Row};
 use cjc_case_files::LANG;
 use cjc_cases::{cut, is_number, question_and_answer, small_number};
@@ -23,23 +25,39 @@ method 16378 = 415 # 32,769
 component 16373 = 0 # bytes of Method, at the widest: 65,535
 component 16374 = 416 # 65,537
 constants 8186 = 0 # entries of the export file's pool: 16,383, ten beside the constants, two for each, and one for a second type
-constants 8187 = 414 # 16,384, all of one type";
+constants 8187 = 414 # 16,384, all of one type
+calls 16380 = 0 # entries of the constant pool, of which each has a place before the types: these end at 32,766
+calls 16381 = 411 # at 32,768
+calls 16383 = 411
+calls 16384 = 414";
 
-const LIST: &[u8] = b"package p A000000001 1.0\nexport lang\nclass T\n";
-
-/// The rule that the package breaks whose one class file this is; 0 where it is converted.
-fn rule(alloc: Global, class: Bytes) -> Result<u16, NoMemory> {
+/// A folder with this class file; what it calls is there where it calls something.
+fn folder(alloc: Global, kind: &str, class: &Bytes) -> Result<MemShelf, NoMemory> {
     let mut shelf = MemShelf::new(alloc, Row::new(alloc));
-    shelf.add(b"list", LIST)?;
     shelf.add(b"lang", LANG)?;
     shelf.add(b"T", class.items())?;
+    if kind == "calls" {
+        let many = many_methods(alloc)?;
+        shelf.add(b"m", many.items())?;
+        shelf.add(
+            b"list",
+            b"package p A000000001 1.0\nexport lang\nexport m\nclass T\n",
+        )?;
+    } else {
+        shelf.add(b"list", b"package p A000000001 1.0\nexport lang\nclass T\n")?;
+    }
+    Ok(shelf)
+}
+
+/// The rule that the package of a folder breaks; 0 where it is converted.
+fn rule(alloc: Global, shelf: &mut MemShelf) -> Result<u16, NoMemory> {
     let mut words = Row::new(alloc);
     words.push(Bytes::copy_of(alloc, b"convert")?)?;
     words.push(Bytes::copy_of(alloc, b"list")?)?;
     words.push(Bytes::copy_of(alloc, b"out")?)?;
     let mut out = MemSink::new(alloc, Row::new(alloc));
     out.reserve()?;
-    match run(alloc, words.items(), &mut shelf, &mut out) {
+    match run(alloc, words.items(), shelf, &mut out) {
         Status::Done => Ok(0),
         Status::Refused(refusal) => Ok(refusal.rule.0),
         _ => Err(NoMemory),
@@ -135,6 +153,7 @@ fn class_file(alloc: Global, kind: &str, number: u16) -> Result<Bytes, NoMemory>
         "types" => types(alloc, usize::from(number)),
         "method" => long_method(alloc, number),
         "component" => long_component(alloc, number),
+        "calls" => with_calls(alloc, number),
         "constants" => with_constants(alloc, number, number == 8186),
         _ => Err(NoMemory),
     }
@@ -144,7 +163,8 @@ fn is_so(alloc: Global, case: &str) -> Result<bool, NoMemory> {
     let (question, wanted) = question_and_answer(case);
     let (kind, number) = cut(question, " ");
     let class = class_file(alloc, kind, small_number(number)?)?;
-    Ok(is_number(wanted, u32::from(rule(alloc, class)?)))
+    let mut shelf = folder(alloc, kind, &class)?;
+    Ok(is_number(wanted, u32::from(rule(alloc, &mut shelf)?)))
 }
 
 /// The first case that goes otherwise; nothing where there is none.

@@ -2,7 +2,7 @@
 
 use crate::files::joined;
 use cjc_bytes::{Bytes, NoMemory, Out, Row};
-use cjc_cases::{cut, octets};
+use cjc_cases::{cut, number, octets};
 use cjc_run::{run, status_line};
 use cjc_shelf::{MemShelf, MemSink};
 use std::alloc::Global;
@@ -87,7 +87,7 @@ pub(crate) fn stand(alloc: Global, shelf: &MemShelf, printed: &str) -> Result<bo
     for line in printed.split(", ") {
         let (name, length) = cut(line, " ");
         let bytes = written(alloc, shelf, name)?.unwrap_or(b"");
-        if !cjc_cases::is_number(length, bytes.len() as u32) {
+        if bytes.len() != number(length)? as usize {
             return Ok(false);
         }
     }
