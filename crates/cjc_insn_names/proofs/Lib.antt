@@ -1,4 +1,0 @@
-mod Types
-mod Fields
-mod Sources
-mod Named

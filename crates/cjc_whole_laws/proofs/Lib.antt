@@ -1,5 +1,0 @@
-mod ByToken
-mod Once
-pub mod Declared
-pub mod Emittable
-mod ClassOrder

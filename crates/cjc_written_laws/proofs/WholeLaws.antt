@@ -1,0 +1,5 @@
+pub mod ByToken
+pub mod Once
+pub mod Declared
+pub mod Emittable
+pub mod ClassOrder
