@@ -1,7 +1,7 @@
 -- What calls select is the same by name and by token.
 use Rattle.std.proofs.Common.{◌≡◌, ℕ, ap, ◌∙◌, false, List}
 use Rattle.std.specs.Prelude.{Some}
-use Rattle.cjc_bytes.specs.AccessFlags.{is_abstract}
+use Rattle.cjc_bytes.specs.AccessFlags.{is_abstract, is_interface}
 use Rattle.cjc_bytes.specs.declared.fault.MemberId.{MemberId}
 use Rattle.cjc_card.specs.Dispatch.{dispatched, dispatched_interface, tower}
 use Rattle.cjc_world.specs.declared.found.Found.{Found}
@@ -12,19 +12,19 @@ use Rattle.cjc_lower.specs.Naming.{Naming}
 use Rattle.cjc_calls_by_token.specs.Dispatching.{selection_of, DispatchAgrees}
 use Rattle.cjc_calls_by_token.specs.Selecting.{signature, SaysToken, open_method, package_method, got, SaysInterface, SelectionsAgree}
 
-module _ (w : List Class) (n : Naming) (offset : Found → ℕ) (x z : List ℕ) (virtual_calls : VirtualCallsAgree w) (interface_calls : InterfaceCallsAgree w) (agrees : DispatchAgrees w n offset x z) where
+module _ (w : List Class) (n : Naming) (offset : Found → ℕ) (x z : List ℕ) (k : Class) (object_class : class_named w x ≡ Some k) (class_here : is_interface k.flags ≡ false) (virtual_calls : VirtualCallsAgree w) (interface_calls : InterfaceCallsAgree w) (agrees : DispatchAgrees w n offset x z) where
   virtual_same : (m : MemberId) (d : Class) (f : Found) → class_named w m.class ≡ Some d → Under w x m.class → SaysToken w n x m → selection w x (signature m) ≡ Some f → named w f ≡ Some (signature m)
       → dispatched (tower n.loaded (n.class x)) (n.dispatch_token m) ≡ selection_of n offset z (signature m) f
   virtual_same m d f known under (open_method finds is_token) selects is =
-      let calls = virtual_calls x m.class d known under in
+      let calls = virtual_calls x m.class k d object_class class_here known under in
       let r = calls.open_method (signature m) finds in
       ap (dispatched (tower n.loaded (n.class x))) (is_token r.0 r.1) ∙ agrees.open_method r.0 f (signature m) (r.2 ∙ selects) is
   virtual_same m d f known under (package_method finds is_token) selects is =
-      let calls = virtual_calls x m.class d known under in
+      let calls = virtual_calls x m.class k d object_class class_here known under in
       let r = calls.package_method (signature m) finds in
       ap (dispatched (tower n.loaded (n.class x))) (is_token r.0 r.1) ∙ agrees.package_method r.0 f (signature m) (r.2 ∙ selects)
   virtual_same m d f known under (got t token_there is_token shown) selects is =
-      let calls = virtual_calls x m.class d known under in
+      let calls = virtual_calls x m.class k d object_class class_here known under in
       ap (dispatched (tower n.loaded (n.class x))) is_token
       ∙ agrees.open_method t f (signature m) (calls.by_token (signature m) t token_there (shown f under selects) ∙ selects) is
 

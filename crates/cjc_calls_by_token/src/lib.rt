@@ -7,7 +7,7 @@ ghost use Rattle.std.specs.Prelude.{◌≡◌, ◌<◌, ◌≤◌, ℕ, List, Bo
 ghost use Rattle.cjc_card.specs.Classes.{depth};
 ghost use Rattle.cjc_card.specs.Dispatch.{above, tower};
 ghost use Rattle.cjc_world.specs.declared.found.Found.{Found};
-ghost use Rattle.cjc_bytes.specs.AccessFlags.{is_abstract};
+ghost use Rattle.cjc_bytes.specs.AccessFlags.{is_abstract, is_interface};
 ghost use Rattle.cjc_bytes.specs.declared.fault.MemberId.{MemberId};
 ghost use Rattle.cjc_world.specs.Classes.{Class, class_named};
 ghost use Rattle.cjc_world.specs.Kin.{IsAcyclic};
@@ -36,11 +36,11 @@ pub fn dispatch_agrees()
     lookup_laws();
 }
 
-/// Where a call by name selects a method on an object of a class, the call by token selects it, by its offset or as the event
-/// of the first imported class: a virtual call by the token that the method has where it is found, and a call of an
-/// interface's method by its place among the methods of the interface.
+/// Where a call by name selects a method on an object of a class, which is no interface, the call by token selects it, by its
+/// offset or as the event of the first imported class: a virtual call by the token that the method has where it is found, and
+/// a call of an interface's method by its place among the methods of the interface.
 pub fn selections_agree()
-    ensures { (w : List Class) → KeepsRules w → KeepsInterfaces w → (n : Naming) (offset : Found → ℕ) (x z : List ℕ) → DispatchAgrees w n offset x z → SelectionsAgree w n offset x z }
+    ensures { (w : List Class) → KeepsRules w → KeepsInterfaces w → (n : Naming) (offset : Found → ℕ) (x z : List ℕ) (c : Class) → class_named w x ≡ Some c → is_interface c.flags ≡ false → DispatchAgrees w n offset x z → SelectionsAgree w n offset x z }
 {
     dispatch_laws();
 }

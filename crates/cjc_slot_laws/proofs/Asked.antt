@@ -85,6 +85,17 @@ given_or_there there given (n ∷ ms) s none e =
 -- ---- lines
 
 module _ (w : List Class) (is_kin : (xs : List (List ℕ)) → IsKin w xs (kin w xs)) (one_kin : (xs : List (List ℕ)) (j k : Kin) → IsKin w xs j → IsKin w xs k → j ≡ k) (rules : KeepsRules w) where
+  -- none of the classes of these names is an interface
+  abbrev AreClasses : List (List ℕ) → Type 0
+  AreClasses xs = (y : List ℕ) (d : Class) → Lists y xs → class_named w y ≡ Some d → is_interface d.flags ≡ false
+
+  supers-classes : (x : List ℕ) (c : Class) → class_named w x ≡ Some c → AreClasses c.supers
+  supers-classes x c e y d l g = rules.superclasses x y c d e l g
+
+  one-class : (x : List ℕ) (c : Class) → class_named w x ≡ Some c → is_interface c.flags ≡ false → (y : List ℕ) (d : Class) → Lists y (x ∷ []) → class_named w y ≡ Some d → is_interface d.flags ≡ false
+  one-class x c e class_here y d foremost g = let is : c ≡ d = cc in subst (λ (v : Class). is_interface v.flags ≡ false) is class_here
+  one-class x c e class_here y d (after l) g = elim l [ ]
+
   -- what the superclass has a slot for, and what the class declares or gets
   above-slot : (c : Class) (above : Line) (s : Signature) → has_slot (slots above) s ≡ true → has_slot (slots (Declared c (added w c) above)) s ≡ true
   above-slot c above s e =
@@ -99,32 +110,32 @@ module _ (w : List Class) (is_kin : (xs : List (List ℕ)) → IsKin w xs (kin w
   got-slot : (c : Class) (above : Line) (s : Signature) → has (map signature_of (added w c)) s ≡ true → has_slot (slots (Declared c (added w c) above)) s ≡ true
   got-slot c above s e = offered-has_slot (with_new (slots above) (signatures is_shown c.methods)) (map signature_of (added w c)) s e
 
-  -- an imported class has a slot for each public or protected virtual method that it or a super lists
-  listed-slot : (x : List ℕ) (c : Class) (p : Kin) → class_named w x ≡ Some c → c.is_imported ≡ true → IsKin w c.supers p → (m : Member) (s : Signature) → In m (all_methods (c ∷ upwards p)) → is_shown m ≡ true → signature_of m ≡ s → has_slot (slots (Imported (c ∷ upwards p))) s ≡ true
-  listed-slot x c p e im sp m s i shown is =
-      let told : IsOneToOne (all_methods (c ∷ upwards p)) = subst (λ j. IsOneToOne (c.methods ++ all_methods (upwards j))) (one_kin c.supers (kin w c.supers) p (is_kin c.supers) sp) (rules.told x c e im) in
+  -- an imported class that is no interface has a slot for each public or protected virtual method that it or a super lists
+  listed-slot : (x : List ℕ) (c : Class) (p : Kin) → class_named w x ≡ Some c → c.is_imported ≡ true → is_interface c.flags ≡ false → IsKin w c.supers p → (m : Member) (s : Signature) → In m (all_methods (c ∷ upwards p)) → is_shown m ≡ true → signature_of m ≡ s → has_slot (slots (Imported (c ∷ upwards p))) s ≡ true
+  listed-slot x c p e im class_here sp m s i shown is =
+      let told : IsOneToOne (all_methods (c ∷ upwards p)) = subst (λ j. IsOneToOne (c.methods ++ all_methods (upwards j))) (one_kin c.supers (kin w c.supers) p (is_kin c.supers) sp) (rules.told x c e im class_here) in
       let t = listed_token (c ∷ upwards p) m told i shown in
       here-has_slot (slots (Imported (c ∷ upwards p))) m.token s (token-slot (slots (Imported (c ∷ upwards p))) (signature_of m) m.token t ∙ ap (λ q. Some (Some q)) is)
 
   -- a public or protected virtual method of a class or a superclass has a slot
-  shown-slot : (xs : List (List ℕ)) (k : Kin) (x : List ℕ) (m : Member) (s : Signature) → IsKin w xs k → xs ≡ x ∷ [] → In m (all_methods (upwards k)) → is_shown m ≡ true → signature_of m ≡ s → has_slot (slots (line_in w k)) s ≡ true
-  shown-slot xs k x m s ends e i shown is = absurd (cc)
-  shown-slot xs k x m s (unknown_here g ends) e i shown is = elim i [ ]
-  shown-slot xs k x m s (unknown_here g (unknown_here h b)) e i shown is = absurd (cc)
-  shown-slot xs k x m s (unknown_here g (known_here h sp ip b)) e i shown is = absurd (cc)
-  shown-slot xs k x m s (known_here {x = y} {c = c} {supers = p} g sp ip ends) e i shown is = by c.is_imported refl (λ z one j. shown-slot c.supers p z m s sp one j shown is)
+  shown-slot : (xs : List (List ℕ)) (k : Kin) (x : List ℕ) (m : Member) (s : Signature) → IsKin w xs k → AreClasses xs → xs ≡ x ∷ [] → In m (all_methods (upwards k)) → is_shown m ≡ true → signature_of m ≡ s → has_slot (slots (line_in w k)) s ≡ true
+  shown-slot xs k x m s ends classes e i shown is = absurd (cc)
+  shown-slot xs k x m s (unknown_here g ends) classes e i shown is = elim i [ ]
+  shown-slot xs k x m s (unknown_here g (unknown_here h b)) classes e i shown is = absurd (cc)
+  shown-slot xs k x m s (unknown_here g (known_here h sp ip b)) classes e i shown is = absurd (cc)
+  shown-slot xs k x m s (known_here {x = y} {c = c} {supers = p} g sp ip ends) classes e i shown is = by c.is_imported refl (λ z one j. shown-slot c.supers p z m s sp (supers-classes y c g) one j shown is)
     where
       here : In m (all_methods (c ∷ upwards p))
       here = subst (λ cs. In m (all_methods cs)) (append-nil (c ∷ upwards p)) i
 
       by : (b : Bool) → c.is_imported ≡ b → ((z : List ℕ) → c.supers ≡ z ∷ [] → In m (all_methods (upwards p)) → has_slot (slots (line_in w p)) s ≡ true) → has_slot (slots (if b then Imported (c ∷ upwards p) else Declared c (added w c) (line_in w p))) s ≡ true
-      by true f rest = listed-slot y c p g f sp m s here shown is
+      by true f rest = listed-slot y c p g f (classes y c foremost g) sp m s here shown is
       by false f rest = ⊎_elim
           (λ j. declared-slot c (line_in w p) m s j shown is)
           (λ j. let z = rules.single y c g f in above-slot c (line_in w p) s (rest z.0 z.1 j))
           (In-split m c.methods (all_methods (upwards p)) here)
-  shown-slot xs k x m s (known_here g sp ip (unknown_here h b)) e i shown is = absurd (cc)
-  shown-slot xs k x m s (known_here g sp ip (known_here h sp' ip' b)) e i shown is = absurd (cc)
+  shown-slot xs k x m s (known_here g sp ip (unknown_here h b)) classes e i shown is = absurd (cc)
+  shown-slot xs k x m s (known_here g sp ip (known_here h sp' ip' b)) classes e i shown is = absurd (cc)
 
   module _ (access : HaveOneAccess w) where
     -- a method that is public or protected and not static is virtual, where it is not named like a constructor
@@ -200,14 +211,14 @@ module _ (w : List Class) (is_kin : (xs : List (List ℕ)) → IsKin w xs (kin w
         two false b f = inr f
 
     -- what a class or a superclass has has a slot
-    open-slot : (xs : List (List ℕ)) (k : Kin) (x : List ℕ) (s : Signature) → IsKin w xs k → xs ≡ x ∷ [] → is_special s ≡ false → has_open s.name s.desc k ≡ true → has_slot (slots (line_in w k)) s ≡ true
+    open-slot : (xs : List (List ℕ)) (k : Kin) (x : List ℕ) (s : Signature) → IsKin w xs k → AreClasses xs → xs ≡ x ∷ [] → is_special s ≡ false → has_open s.name s.desc k ≡ true → has_slot (slots (line_in w k)) s ≡ true
     unfolding has_open
-    open-slot xs k x s ends e plain h = absurd (cc)
-    open-slot xs k x s (unknown_here g ends) e plain h = absurd (cc)
-    open-slot xs k x s (unknown_here g (unknown_here f b)) e plain h = absurd (cc)
-    open-slot xs k x s (unknown_here g (known_here f sp ip b)) e plain h = absurd (cc)
-    open-slot xs k x s (known_here {x = y} {c = c} {supers = p} {interfaces = q} g sp ip ends) e plain h =
-        by c.is_imported refl (λ z one f. open-slot c.supers p z s sp one plain f) (four (declares_open s.name s.desc c) (has_open s.name s.desc p) (takes_added c && is_one_of (asked_by p q) s.name s.desc) false h)
+    open-slot xs k x s ends classes e plain h = absurd (cc)
+    open-slot xs k x s (unknown_here g ends) classes e plain h = absurd (cc)
+    open-slot xs k x s (unknown_here g (unknown_here f b)) classes e plain h = absurd (cc)
+    open-slot xs k x s (unknown_here g (known_here f sp ip b)) classes e plain h = absurd (cc)
+    open-slot xs k x s (known_here {x = y} {c = c} {supers = p} {interfaces = q} g sp ip ends) classes e plain h =
+        by c.is_imported refl (λ z one f. open-slot c.supers p z s sp (supers-classes y c g) one plain f) (four (declares_open s.name s.desc c) (has_open s.name s.desc p) (takes_added c && is_one_of (asked_by p q) s.name s.desc) false h)
       where
         Rest : Type 0
         Rest = (z : List ℕ) → c.supers ≡ z ∷ [] → has_open s.name s.desc p ≡ true → has_slot (slots (line_in w p)) s ≡ true
@@ -228,10 +239,10 @@ module _ (w : List Class) (is_kin : (xs : List (List ℕ)) → IsKin w xs (kin w
 
         by : (b : Bool) → c.is_imported ≡ b → Rest → (declares_open s.name s.desc c ≡ true) ⊎ ((has_open s.name s.desc p ≡ true) ⊎ (((takes_added c && is_one_of (asked_by p q) s.name s.desc) ≡ true) ⊎ (false ≡ true)))
             → has_slot (slots (if b then Imported (c ∷ upwards p) else Declared c (added w c) (line_in w p))) s ≡ true
-        by true f rest (inl d) = let m = declares y c s g plain d in listed-slot y c p g f sp m.0 s (In-front m.0 c.methods (all_methods (upwards p)) m.1) m.2 m.3
+        by true f rest (inl d) = let m = declares y c s g plain d in listed-slot y c p g f (classes y c foremost g) sp m.0 s (In-front m.0 c.methods (all_methods (upwards p)) m.1) m.2 m.3
         by true f rest (inr (inl d)) =
             let m = far c.supers p s sp (λ z k l n. rules.apart y z c k g f l n) plain d in
-            listed-slot y c p g f sp m.0 s (In-behind m.0 c.methods (all_methods (upwards p)) m.1) m.2 m.3
+            listed-slot y c p g f (classes y c foremost g) sp m.0 s (In-behind m.0 c.methods (all_methods (upwards p)) m.1) m.2 m.3
         by true f rest (inr (inr (inl d))) = let no = taken c.is_imported (is_abstract c.flags) (not (is_interface c.flags)) (both (takes_added c) (is_one_of (asked_by p q) s.name s.desc) d).0 in absurd (cc)
         by b f rest (inr (inr (inr d))) = absurd (cc)
         by false f rest (inl d) = let m = declares y c s g plain d in declared-slot c (line_in w p) m.0 s m.1 m.2 m.3
@@ -243,8 +254,8 @@ module _ (w : List Class) (is_kin : (xs : List (List ℕ)) → IsKin w xs (kin w
             (asked-slot y c s g two.0 plain
             (ap (λ j. is_one_of (asked_by j (kin w c.interfaces)) s.name s.desc) same_supers ∙ ap (λ j. is_one_of (asked_by p j) s.name s.desc) same_interfaces ∙ two.1)
             (subst (λ j. has_open s.name s.desc j ≡ true → has_slot (slots (line_in w j)) s ≡ true) (sym same_supers) (rest z.0 z.1)))
-    open-slot xs k x s (known_here g sp ip (unknown_here f b)) e plain h = absurd (cc)
-    open-slot xs k x s (known_here g sp ip (known_here f sp' ip' b)) e plain h = absurd (cc)
+    open-slot xs k x s (known_here g sp ip (unknown_here f b)) classes e plain h = absurd (cc)
+    open-slot xs k x s (known_here g sp ip (known_here f sp' ip' b)) classes e plain h = absurd (cc)
 
     module _ (interfaces : KeepsInterfaces w) where
       plain-asked : (x : List ℕ) (c : Class) (m : Member) → class_named w x ≡ Some c → In m (asked_by (kin w c.supers) (kin w c.interfaces)) → is_special (signature_of m) ≡ false
@@ -282,11 +293,11 @@ module _ (w : List Class) (is_kin : (xs : List (List ℕ)) → IsKin w xs (kin w
               let z = rules.single x c e own in
               ap (λ q. has_slot (slots q) (signature_of m)) (line_of-declared w is_kin one_kin rules x c e own)
               ∙ asked-slot x c (signature_of m) e (takes f) plain (any-In (λ n. is_called m.name m.desc n) (asked_by (kin w c.supers) (kin w c.interfaces)) m i (same-refl (signature_of m)))
-              (open-slot c.supers (kin w c.supers) z.0 (signature_of m) (is_kin c.supers) z.1 plain)
+              (open-slot c.supers (kin w c.supers) z.0 (signature_of m) (is_kin c.supers) (supers-classes x c e) z.1 plain)
           by false f =
               let n = interfaces.methods x c m e own f i in
               let is = chosen-passes selects (signature_of m) (all_methods (line w x)) n.0 n.1 in
-              shown-slot (x ∷ []) (kin w (x ∷ [])) x n.0 (signature_of m) (is_kin (x ∷ [])) refl (chosen-In selects (signature_of m) (all_methods (line w x)) n.0 n.1) (public-shown n.0 (signature_of m) is.0 is.1 n.2 plain) is.0
+              shown-slot (x ∷ []) (kin w (x ∷ [])) x n.0 (signature_of m) (is_kin (x ∷ [])) (one-class x c e class_here) refl (chosen-In selects (signature_of m) (all_methods (line w x)) n.0 n.1) (public-shown n.0 (signature_of m) is.0 is.1 n.2 plain) is.0
 
       pub asked_token : (x : List ℕ) (c : Class) → class_named w x ≡ Some c → c.is_imported ≡ false → is_interface c.flags ≡ false
           → (j : ℕ) (i : Class) → slice_get (known (interfaces_at w c)) j ≡ Some i → (k : ℕ) (s : Signature) → slice_get (interface_methods w i) k ≡ Some s → (t : ℕ) × (token (slots (line_of w x)) s ≡ Some t)

@@ -1,6 +1,7 @@
 -- Each token of a class means the method of its slot, which has the name and the descriptor of the slot.
-use Rattle.std.proofs.Common.{◌≡◌, ℕ, refl, ap, ◌∙◌, List, [], ◌∷◌}
+use Rattle.std.proofs.Common.{◌≡◌, ℕ, refl, ap, ◌∙◌, false, List, [], ◌∷◌}
 use Rattle.std.specs.Prelude.{Option, Some, None, slice_get}
+use Rattle.cjc_bytes.specs.AccessFlags.{is_interface}
 use Rattle.cjc_world.specs.declared.found.Found.{Found}
 use Rattle.cjc_world.specs.Classes.{Class, class_named}
 use Rattle.cjc_world.specs.Kin.{Kin, kin, IsKin}
@@ -13,15 +14,15 @@ use Rattle.cjc_vtable.specs.Laws.{KeepsRules}
 use Rattle.cjc_vtable.proofs.Given.{proper-line}
 use Rattle.cjc_vtable.proofs.SlotNames.{implementing-named, seen-line, slot-there}
 use Rattle.cjc_vtable.proofs.Towers.{dispatched-slot, dispatched-hidden_slot, hidden_there, tower}
-use Rattle.cjc_vtable.proofs.Worlds.{told-line, tower-line}
+use Rattle.cjc_vtable.proofs.Worlds.{told-class, tower-line}
 use Rattle.cjc_slot_laws.specs.Meant.{AreNumbered, IsMeant, IsMeantHere}
 
 module _ (w : List Class) (is_kin : (xs : List (List ℕ)) → IsKin w xs (kin w xs)) (one_kin : (xs : List (List ℕ)) (j k : Kin) → IsKin w xs j → IsKin w xs k → j ≡ k) (rules : KeepsRules w) where
   tower-is : (x : List ℕ) → tower_of w x ≡ tower w (line_of w x)
   tower-is x = tower-line w is_kin one_kin rules (x ∷ []) (kin w (x ∷ [])) (is_kin (x ∷ []))
 
-  pub open_token : AreNumbered w → (x : List ℕ) (c : Class) → class_named w x ≡ Some c → (s : Signature) (t : ℕ) → token (slots (line_of w x)) s ≡ Some t → IsMeant w x s t
-  open_token numbered x c known s t e = by (implementing (line_of w x) s) refl
+  pub open_token : AreNumbered w → (x : List ℕ) (c : Class) → class_named w x ≡ Some c → is_interface c.flags ≡ false → (s : Signature) (t : ℕ) → token (slots (line_of w x)) s ≡ Some t → IsMeant w x s t
+  open_token numbered x c known class_here s t e = by (implementing (line_of w x) s) refl
     where
       slot : slice_get (slots (line_of w x)) t ≡ Some (Some s)
       slot = token-slot (slots (line_of w x)) s t e
@@ -29,7 +30,7 @@ module _ (w : List Class) (is_kin : (xs : List (List ℕ)) → IsKin w xs (kin w
       found : dispatched (tower_of w x) t ≡ implementing (line_of w x) s
       found =
           ap (λ q. dispatched q t) (tower-is x)
-          ∙ dispatched-slot w (line_of w x) t s (told-line w is_kin one_kin rules (x ∷ []) (kin w (x ∷ [])) (is_kin (x ∷ []))) (proper-line w is_kin one_kin (x ∷ []) (kin w (x ∷ [])) (is_kin (x ∷ []))) slot
+          ∙ dispatched-slot w (line_of w x) t s (told-class w is_kin one_kin rules x c known (λ im. class_here)) (proper-line w is_kin one_kin (x ∷ []) (kin w (x ∷ [])) (is_kin (x ∷ []))) slot
 
       by : (o : Option Found) → implementing (line_of w x) s ≡ o → IsMeant w x s t
       by None f = absurd (slot-there (line_of w x) t s slot f)

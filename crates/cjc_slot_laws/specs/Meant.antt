@@ -25,9 +25,9 @@ pub record IsMeantHere (w : List Class) (x : List ℕ) (s : Signature) (t : ℕ)
   pub by_token : dispatched_hidden (tower_of w x) t ≡ Some method
   pub own : method.imported ≡ false
 
--- Each token of each class means a method, and so does each package-visible one.
+-- Each token of each class that is no interface means a method, and so does each package-visible one of each class.
 abbrev pub TokensMean : List Class → Type 0
-TokensMean w = (x : List ℕ) (c : Class) → class_named w x ≡ Some c → (s : Signature) (t : ℕ) → token (slots (line_of w x)) s ≡ Some t → IsMeant w x s t
+TokensMean w = (x : List ℕ) (c : Class) → class_named w x ≡ Some c → is_interface c.flags ≡ false → (s : Signature) (t : ℕ) → token (slots (line_of w x)) s ≡ Some t → IsMeant w x s t
 
 -- each token of a package-visible method means a method of the package
 abbrev pub PackageTokensMean : List Class → Type 0

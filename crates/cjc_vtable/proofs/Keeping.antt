@@ -28,7 +28,7 @@ use Rattle.cjc_vtable.specs.Kept.{IsKept, Keeps}
 use Rattle.cjc_world.proofs.Rising.{known-append}
 use Rattle.cjc_vtable.proofs.Asked.{Among, among-split}
 use Rattle.cjc_vtable.proofs.Filed.{Has, at_front, behind, has-get, get-has, of-imports, IsFiled, in_class_file, in_export_file, filed, at-number}
-use Rattle.cjc_vtable.proofs.Ruled.{of-package, lists-interfaces, lists-imported}
+use Rattle.cjc_vtable.proofs.Ruled.{of-package, lists-classes, lists-interfaces, lists-imported}
 use Rattle.cjc_vtable.proofs.Clean.{fit-method, seen-declared, seen-imported, coded-declared, coded-imported}
 use Rattle.cjc_vtable.proofs.Stood.{in-class, in-interface, upwards-stands, upwards-below, among-named, gathered-stands, upwards-named, gathered-named, gathered-interface, line-imported}
 use Rattle.cjc_vtable.proofs.Read.{has-code, plain-interface}
@@ -410,6 +410,7 @@ module _ (list : List ℕ) (files : Files) (codes : List MethodCode) (settings :
       acyclic = acyclic;
       single = λ x c e im. single c (filed files x c e) im;
       apart = lists-imported list files kept.unbroken.world;
+      superclasses = lists-classes list files kept.unbroken.world;
       told = kept.agree;
       access = λ x c m n e im i j one plain.
           let a = in-class n (upwards (kin (all_classes files) c.supers)) j in

@@ -153,6 +153,17 @@ module _ (list : List ℕ) (files : Files) (unbroken : breaks list files ≡ [])
       by true e = refl
       by false e = cc
 
+  pub lists-classes : (x y : List ℕ) (c d : Class) → class_named (all_classes files) x ≡ Some c → Lists y c.supers → class_named (all_classes files) y ≡ Some d → is_interface d.flags ≡ false
+  unfolding lists_wrong
+  lists-classes x y c d e l f =
+      let w = all_classes files in
+      let off = front (list_any (λ z. is_interface_of (class_named w z)) c.supers) (list_any (λ z. is_class_of (class_named w z)) c.interfaces) (is_interface c.flags && list_any (λ z. not (bytes_eq z object)) c.supers) (c.is_imported && (list_any (λ z. is_of_class_file (class_named w z)) c.supers || list_any (λ z. is_of_class_file (class_named w z)) c.interfaces)) (rules-of x c e).kinds in
+      ap is_interface_of (sym f) ∙ any-false (λ z. is_interface_of (class_named w z)) c.supers y off l
+    where
+      front : (p q r s : Bool) → (p || q || r || s) ≡ false → p ≡ false
+      front false q r s e = refl
+      front true q r s e = cc
+
   pub lists-imported : (x y : List ℕ) (c d : Class) → class_named (all_classes files) x ≡ Some c → c.is_imported ≡ true → Lists y c.supers → class_named (all_classes files) y ≡ Some d → d.is_imported ≡ true
   unfolding lists_wrong
   lists-imported x y c d e im l f =

@@ -74,14 +74,24 @@ module _ (w : List Class) (is_kin : (xs : List (List ℕ)) → IsKin w xs (kin w
   kin-known : (x : List ℕ) (c : Class) → class_named w x ≡ Some c → kin w (x ∷ []) ≡ Known c (kin w c.supers) (kin w c.interfaces) End
   kin-known x c e = one_kin (x ∷ []) (kin w (x ∷ [])) (Known c (kin w c.supers) (kin w c.interfaces) End) (is_kin (x ∷ [])) (known_here e (is_kin c.supers) (is_kin c.interfaces) ends)
 
-  pub told-line : (xs : List (List ℕ)) (k : Kin) → IsKin w xs k → IsTold (line_in w k)
-  told-line xs k ends = tt
-  told-line xs k (unknown_here e a) = tt
-  told-line (x ∷ xs) k (known_here {c = c} {supers = p} {interfaces = q} e s i a) = by c.is_imported refl (told-line c.supers p s)
+  -- no interface of an export file is among these names
+  pub told-line : (xs : List (List ℕ)) (k : Kin) → IsKin w xs k → ((y : List ℕ) (d : Class) → Lists y xs → class_named w y ≡ Some d → d.is_imported ≡ true → is_interface d.flags ≡ false) → IsTold (line_in w k)
+  told-line xs k ends classes = tt
+  told-line xs k (unknown_here e a) classes = tt
+  told-line (x ∷ xs) k (known_here {c = c} {supers = p} {interfaces = q} e s i a) classes = by c.is_imported refl (told-line c.supers p s (λ y d l g im. rules.superclasses x y c d e l g))
     where
       by : (b : Bool) → c.is_imported ≡ b → IsTold (line_in w p) → IsTold (if b then Imported (c ∷ upwards p) else Declared c (added w c) (line_in w p))
-      by true f rest = subst (λ j. IsOneToOne (c.methods ++ all_methods (upwards j))) (one_kin c.supers (kin w c.supers) p (is_kin c.supers) s) (rules.told x c e f)
+      by true f rest = subst (λ j. IsOneToOne (c.methods ++ all_methods (upwards j))) (one_kin c.supers (kin w c.supers) p (is_kin c.supers) s) (rules.told x c e f (classes x c foremost e f))
       by false f rest = rest
+
+  one-class : (x : List ℕ) (c : Class) → class_named w x ≡ Some c → (c.is_imported ≡ true → is_interface c.flags ≡ false)
+      → (y : List ℕ) (d : Class) → Lists y (x ∷ []) → class_named w y ≡ Some d → d.is_imported ≡ true → is_interface d.flags ≡ false
+  one-class x c e plain y d foremost g im = let is : c ≡ d = cc in subst (λ (v : Class). v.is_imported ≡ true → is_interface v.flags ≡ false) is plain im
+  one-class x c e plain y d (after l) g im = elim l [ ]
+
+  -- the line of a class that is no interface of an export file
+  pub told-class : (x : List ℕ) (c : Class) → class_named w x ≡ Some c → (c.is_imported ≡ true → is_interface c.flags ≡ false) → IsTold (line_of w x)
+  told-class x c e plain = told-line (x ∷ []) (kin w (x ∷ [])) (is_kin (x ∷ [])) (one-class x c e plain)
 
   kept-line : (xs : List (List ℕ)) (k : Kin) → IsKin w xs k → KeepsAccess (line_in w k)
   kept-line xs k ends = tt
@@ -192,8 +202,13 @@ module _ (w : List Class) (is_kin : (xs : List (List ℕ)) → IsKin w xs (kin w
           only y s foremost = refl
           only y s (after l) = elim l [ ]
 
-  told : (x : List ℕ) → IsTold (line_of w x)
-  told x = told-line (x ∷ []) (kin w (x ∷ [])) (is_kin (x ∷ []))
+  -- a superclass of a class that is no interface is none
+  class-above : (x y : List ℕ) → Under w x y → ((c : Class) → class_named w x ≡ Some c → is_interface c.flags ≡ false) → (d : Class) → class_named w y ≡ Some d → is_interface d.flags ≡ false
+  class-above x y itself plain d f = plain d f
+  class-above x z (below {y = y} c e l under) plain d f = class-above y z under (λ k g. rules.superclasses x y c k e l g) d f
+
+  told : (x : List ℕ) (c : Class) → class_named w x ≡ Some c → is_interface c.flags ≡ false → IsTold (line_of w x)
+  told x c e class_here = told-class x c e (λ im. class_here)
 
   proper : (x : List ℕ) → IsProper (line_of w x)
   proper x = proper-line w is_kin one_kin (x ∷ []) (kin w (x ∷ [])) (is_kin (x ∷ []))
@@ -205,15 +220,15 @@ module _ (w : List Class) (is_kin : (xs : List (List ℕ)) → IsKin w xs (kin w
   tower-is x = tower-line (x ∷ []) (kin w (x ∷ [])) (is_kin (x ∷ []))
 
   pub virtual_calls_agree : VirtualCallsAgree w
-  virtual_calls_agree x y d f under = record {
+  virtual_calls_agree x y c d e class_here f under = record {
     open_method = λ s finds.
-        let r = open_calls w (line_of w x) (line_of w y) s (told x) (proper x) (kept x) (climbs x y d f under) finds in
+        let r = open_calls w (line_of w x) (line_of w y) s (told x c e class_here) (proper x) (kept x) (climbs x y d f under) finds in
         (r.0, r.1, ap (λ t. dispatched t r.0) (tower-is x) ∙ r.2 ∙ selection-is x s);
     package_method = λ s finds.
         let r = package_calls w (line_of w x) (line_of w y) s (proper x) (kept x) (climbs x y d f under) finds in
         (r.0, r.1, ap (λ t. dispatched_hidden t r.0) (tower-is x) ∙ r.2 ∙ selection-is x s);
-    by_token = λ s t e given.
-        ap (λ q. dispatched q t) (tower-is x) ∙ agree_shown w (line_of w x) (line_of w y) s t (told x) (proper x) (climbs x y d f under) e given ∙ selection-is x s;
+    by_token = λ s t has given.
+        ap (λ q. dispatched q t) (tower-is x) ∙ agree_shown w (line_of w x) (line_of w y) s t (told x c e class_here) (proper x) (climbs x y d f under) has given ∙ selection-is x s;
   }
 
   -- ---- interfaces
@@ -287,7 +302,8 @@ module _ (w : List Class) (is_kin : (xs : List (List ℕ)) → IsKin w xs (kin w
         let n = kept_interfaces.methods x c r.0 e im concrete r.1 in
         let plain = plain r.0 r.1 in
         let shown = subst (λ (u : Signature). selects_shown (line_of w x) u ≡ true) r.2 (selects-line (x ∷ []) (kin w (x ∷ [])) x (signature_of r.0) n.0 (is_kin (x ∷ [])) refl plain n.1 n.2) in
-        let t = token-some (slots (line_of w x)) s (shown-has_slot (line_of w x) s (told x) shown) in
+        let told_here = told-class x c e (λ far. abroad c.is_imported far im) in
+        let t = token-some (slots (line_of w x)) s (shown-has_slot (line_of w x) s told_here shown) in
         let l = line_of-declared x c e im in
         let tower_here = tower-is x ∙ ap (tower w) l in
         let found = map-found w (slots (Declared c (added w c) (line_in w (kin w c.supers)))) (known (interfaces_at w c)) name (map_of (tower w (line_in w (kin w c.supers))) name) i named in
@@ -297,8 +313,12 @@ module _ (w : List Class) (is_kin : (xs : List (List ℕ)) → IsKin w xs (kin w
         ∙ ap (at_index (tower w (Declared c (added w c) (line_in w (kin w c.supers))))) index
         ∙ ap (λ q. dispatched q t.0) (sym tower_here)
         ∙ ap (λ q. dispatched q t.0) (tower-is x)
-        ∙ agree_shown w (line_of w x) (line_of w x) s t.0 (told x) (proper x) here t.1 shown ∙ selection-is x s
+        ∙ agree_shown w (line_of w x) (line_of w x) s t.0 told_here (proper x) here t.1 shown ∙ selection-is x s
       where
+        abroad : (b : Bool) → b ≡ true → b ≡ false → is_interface c.flags ≡ false
+        abroad true g h = cc
+        abroad false g h = cc
+
         plain : (m : Member) → In m (methods_of (known (gathered false (kin w c.supers) ++ gathered true (kin w c.interfaces)))) → is_special (signature_of m) ≡ false
         plain m j = ⊎_elim
             (λ d. plain-asked false c.supers (kin w c.supers) m (is_kin c.supers) (λ l y d' v g. cc) d)
@@ -319,9 +339,9 @@ module _ (w : List Class) (is_kin : (xs : List (List ℕ)) → IsKin w xs (kin w
 
     pub imported_calls_agree : ImportedCallsAgree w
     unfolding full
-    imported_calls_agree x y d m f im under i hid =
+    imported_calls_agree x y c d m e class_here f im under i hid =
         ap (λ q. dispatched q m.token) (tower-is x)
-        ∙ imported_calls w (line_of w x) (told x) (proper x) (kept x) (far-line (x ∷ []) (kin w (x ∷ [])) (is_kin (x ∷ []))) (d ∷ upwards (kin w d.supers)) m
+        ∙ imported_calls w (line_of w x) (told x c e class_here) (proper x) (kept x) (far-line (x ∷ []) (kin w (x ∷ [])) (is_kin (x ∷ []))) (d ∷ upwards (kin w d.supers)) m
         (subst (Climbs (line_of w x)) (line_of-imported y d f im) (climbs x y d f under)) i hid
         ∙ selection-is x (signature_of m)
 
@@ -329,12 +349,15 @@ module _ (w : List Class) (is_kin : (xs : List (List ℕ)) → IsKin w xs (kin w
 
   pub tokens_are_once : TokensAreOnce w
   unfolding full
-  tokens_are_once x y d f under = record {
-    inherited = λ s t e. inherited_token (line_of w x) (line_of w y) s t (told x) (climbs x y d f under) e;
-    hidden_inherited = λ s t e. inherited_hidden_token (line_of w x) (line_of w y) s t (climbs x y d f under) e;
-    one_method = λ s u t e g. one_method (slots (line_of w x)) s u t e g;
-    one_hidden_method = λ s u t e g. one_method (hidden_slots (line_of w x)) s u t e g;
-    listed = λ d' m e im i shown.
-        ap (λ q. token (slots q) (signature_of m)) (line_of-imported y d' e im)
-        ∙ listed_token (d' ∷ upwards (kin w d'.supers)) m (subst (λ (q : Line). IsTold q) (line_of-imported y d' e im) (told y)) i shown;
+  tokens_are_once x y c d e class_here f under = record {
+    inherited = λ s t has. inherited_token (line_of w x) (line_of w y) s t (told x c e class_here) (climbs x y d f under) has;
+    hidden_inherited = λ s t has. inherited_hidden_token (line_of w x) (line_of w y) s t (climbs x y d f under) has;
+    one_method = λ s u t has g. one_method (slots (line_of w x)) s u t has g;
+    one_hidden_method = λ s u t has g. one_method (hidden_slots (line_of w x)) s u t has g;
+    listed = λ d' m h im i shown.
+        ap (λ q. token (slots q) (signature_of m)) (line_of-imported y d' h im)
+        ∙ listed_token (d' ∷ upwards (kin w d'.supers)) m (subst (λ (q : Line). IsTold q) (line_of-imported y d' h im) (told y d' h (class-above x y under same d' h))) i shown;
   }
+    where
+      same : (k : Class) → class_named w x ≡ Some k → is_interface k.flags ≡ false
+      same k g = let is : c ≡ k = cc in subst (λ (v : Class). is_interface v.flags ≡ false) is class_here

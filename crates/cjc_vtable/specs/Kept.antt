@@ -1,6 +1,7 @@
 -- What a package keeps that dispatch by class tables rests on, said by the rules that it does not break.
 use Rattle.std.specs.Prelude.{◌≡◌, ℕ, List, [], ◌++◌, true, false, slice_get, Some}
 use Rattle.cjc_bytes.specs.declared.settings.Settings.{Settings}
+use Rattle.cjc_bytes.specs.AccessFlags.{is_interface}
 use Rattle.cjc_bytes.specs.Format.{FileSpells}
 use Rattle.cjc_classfile.specs.declared.tree.ClassTree.{ClassTree}
 use Rattle.cjc_classfile.specs.ClassFile.{class_file}
@@ -40,10 +41,11 @@ pub record AreRead (files : Files) : Type 0 where
   pub classes : (n : ℕ) (c : ClassTree) → slice_get files.classes n ≡ Some c → (bytes : List ℕ) × FileSpells class_file c bytes
   pub exports : (e : ℕ) (t : ExportTree) → slice_get files.exports e ≡ Some t → IsWritable t
 
--- Export files don't contradict one another: along an imported class and its supers, package-visible methods included,
--- one name and descriptor has one virtual token, and one virtual token has one name and descriptor.
+-- Export files don't contradict one another: along an imported class that is no interface and its supers, package-visible
+-- methods included, one name and descriptor has one virtual token, and one virtual token has one name and descriptor. The
+-- tokens of an interface's methods are counted apart from those of its superclass java/lang/Object, from 0.
 abbrev pub ExportsAgree : List Class → Type 0
-ExportsAgree w = (x : List ℕ) (c : Class) → class_named w x ≡ Some c → c.is_imported ≡ true → IsOneToOne (c.methods ++ all_methods (upwards (kin w c.supers)))
+ExportsAgree w = (x : List ℕ) (c : Class) → class_named w x ≡ Some c → c.is_imported ≡ true → is_interface c.flags ≡ false → IsOneToOne (c.methods ++ all_methods (upwards (kin w c.supers)))
 
 -- A package of read files that breaks none of these rules, and whose export files don't contradict one another.
 pub record IsKept (list : List ℕ) (files : Files) (codes : List MethodCode) (settings : Settings) : Type 0 where

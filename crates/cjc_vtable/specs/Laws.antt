@@ -28,8 +28,10 @@ pub record KeepsRules (w : List Class) : Type 0 where
   pub single : (x : List ℕ) (c : Class) → class_named w x ≡ Some c → c.is_imported ≡ false → (s : List ℕ) × (c.supers ≡ s ∷ [])
   -- no class of an export file lists a class of the package as a super
   pub apart : (x y : List ℕ) (c d : Class) → class_named w x ≡ Some c → c.is_imported ≡ true → Lists y c.supers → class_named w y ≡ Some d → d.is_imported ≡ true
-  -- along an imported class and its supers, export files don't contradict one another
-  pub told : (x : List ℕ) (c : Class) → class_named w x ≡ Some c → c.is_imported ≡ true → IsOneToOne (c.methods ++ all_methods (upwards (kin w c.supers)))
+  -- what a class or an interface lists as a superclass is no interface
+  pub superclasses : (x y : List ℕ) (c d : Class) → class_named w x ≡ Some c → Lists y c.supers → class_named w y ≡ Some d → is_interface d.flags ≡ false
+  -- along an imported class that is no interface and its supers, export files don't contradict one another
+  pub told : (x : List ℕ) (c : Class) → class_named w x ≡ Some c → c.is_imported ≡ true → is_interface c.flags ≡ false → IsOneToOne (c.methods ++ all_methods (upwards (kin w c.supers)))
   -- of a method and one of a superclass, not one is package-visible and the other public or protected
   pub access : (x : List ℕ) (c : Class) (m n : Member) → class_named w x ≡ Some c → c.is_imported ≡ false → In m c.methods → In n (all_methods (upwards (kin w c.supers)))
       → signature_of m ≡ signature_of n → is_special (signature_of m) ≡ false → is_clash m.flags n.flags ≡ false
@@ -62,9 +64,9 @@ pub record CallsAlike (w : List Class) (x y : List ℕ) : Type 0 where
   -- one that class y has a token for, as for a method that it got, where selection gives a public or protected one
   pub by_token : (s : Signature) (t : ℕ) → token (slots (line_of w y)) s ≡ Some t → selects_shown (line_of w x) s ≡ true → dispatched (tower_of w x) t ≡ selection w x s
 
--- Virtual calls on an object of a class by a method that is found from it or from a superclass.
+-- Virtual calls on an object of a class, which is no interface, by a method that is found from it or from a superclass.
 abbrev pub VirtualCallsAgree : List Class → Type 0
-VirtualCallsAgree w = (x y : List ℕ) (d : Class) → class_named w y ≡ Some d → Under w x y → CallsAlike w x y
+VirtualCallsAgree w = (x y : List ℕ) (c d : Class) → class_named w x ≡ Some c → is_interface c.flags ≡ false → class_named w y ≡ Some d → Under w x y → CallsAlike w x y
 
 -- the first interface of a name
 abbrev pub interface_named : List Class → List ℕ → Option Class
@@ -78,9 +80,10 @@ InterfaceCallsAgree w = (x : List ℕ) (c : Class) → class_named w x ≡ Some 
     → (name : List ℕ) (i : Class) (k : ℕ) (s : Signature) → interface_named (known (interfaces_at w c)) name ≡ Some i → slice_get (interface_methods w i) k ≡ Some s
     → dispatched_interface (tower_of w x) name k ≡ selection w x s
 
--- Calls of a package-visible method that an imported class lists, which only a script can name, by its token there.
+-- Calls of a package-visible method that an imported class lists, which only a script can name, by its token there. The
+-- class of the object is no interface.
 abbrev pub ImportedCallsAgree : List Class → Type 0
-ImportedCallsAgree w = (x y : List ℕ) (d : Class) (m : Member) → class_named w y ≡ Some d → d.is_imported ≡ true → Under w x y → In m (d.methods ++ all_methods (upwards (kin w d.supers))) → is_hidden m ≡ true
+ImportedCallsAgree w = (x y : List ℕ) (c d : Class) (m : Member) → class_named w x ≡ Some c → is_interface c.flags ≡ false → class_named w y ≡ Some d → d.is_imported ≡ true → Under w x y → In m (d.methods ++ all_methods (upwards (kin w d.supers))) → is_hidden m ≡ true
     → dispatched (tower_of w x) m.token ≡ selection w x (signature_of m)
 
 -- A subclass gives a method the token that its superclass gives it, a token is one method's, and a method of an
@@ -92,5 +95,7 @@ pub record TokensOnce (w : List Class) (x y : List ℕ) : Type 0 where
   pub one_hidden_method : (s u : Signature) (t : ℕ) → token (hidden_slots (line_of w x)) s ≡ Some t → token (hidden_slots (line_of w x)) u ≡ Some t → s ≡ u
   pub listed : (d : Class) (m : Member) → class_named w y ≡ Some d → d.is_imported ≡ true → In m (d.methods ++ all_methods (upwards (kin w d.supers))) → is_shown m ≡ true → token (slots (line_of w y)) (signature_of m) ≡ Some m.token
 
+-- So it is of each class that is no interface and its superclasses: an interface's methods have tokens of their own, which
+-- are also those of methods of java/lang/Object.
 abbrev pub TokensAreOnce : List Class → Type 0
-TokensAreOnce w = (x y : List ℕ) (d : Class) → class_named w y ≡ Some d → Under w x y → TokensOnce w x y
+TokensAreOnce w = (x y : List ℕ) (c d : Class) → class_named w x ≡ Some c → is_interface c.flags ≡ false → class_named w y ≡ Some d → Under w x y → TokensOnce w x y
