@@ -1,0 +1,5 @@
+pub mod Upwards
+pub mod Worlds
+pub mod Kinds
+pub mod Once
+pub mod Entries
