@@ -1,1 +1,4 @@
 pub mod Alike
+pub mod Left
+pub mod Met
+pub mod Opcodes

@@ -2,6 +2,17 @@
 //! promises so of what was converted. It has a definition and laws alone; nothing here runs.
 #![tactic(auto)]
 
+mod call_opcodes;
+mod converted_laws;
+mod first_cells;
+mod insn_names;
+mod interface_calls;
+mod joined_laws;
+mod met_laws;
+mod named_calls;
+mod named_laws;
+mod virtual_calls;
+
 ghost use Rattle.std.specs.Prelude.{◌≡◌, ℕ, List, []};
 ghost use Rattle.cjc_alike.specs.Alike.{BehaveAlike};
 ghost use Rattle.cjc_components.specs.Components.{components_of};
@@ -15,10 +26,24 @@ ghost use Rattle.cjc_prepared.specs.Prepared.{IsSound};
 ghost use Rattle.cjc_sentences.specs.Consistent.{Consistent};
 ghost use Rattle.cjc_whole.specs.Conversion.{IsPackageOf};
 
+use crate::{converted_components_run_by_token, names_are_met};
+pub use call_opcodes::calls_have_opcodes;
 use cjc_fair_exports::fair_exports_are_sound;
-use cjc_joined_laws::converted_components_run_by_token;
-use cjc_met_laws::names_are_met;
 use cjc_sound_runs::sound_packages_run_alike;
+pub use converted_laws::converted_components_are_consistent;
+pub use first_cells::first_cells_are_typed;
+pub use insn_names::instructions_name_what_is_there;
+pub use interface_calls::{
+    fixed_calls_take_words, interface_calls_are_named, private_calls_are_named,
+};
+pub use joined_laws::{converted_components_run_by_token, converted_packages_are_joined};
+pub use met_laws::{
+    files_keep_promises, keys_are_known, lists_have_short_aids, members_are_there, names_are_met,
+    types_are_known,
+};
+pub use named_calls::calls_are_named;
+pub use named_laws::{export_files_are_kept, fixed_calls_are_named, names_are_there};
+pub use virtual_calls::{super_calls_are_named, virtual_calls_are_named};
 
 /// Of a list that was read, and files that break no rule, nor does what is written for them, with export files that are fair:
 /// the class files and the components of their package behave alike, and the components are consistent with the export files.

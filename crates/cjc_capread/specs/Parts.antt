@@ -17,6 +17,7 @@ bytes1 = do
   n ← u1
   raw n
 
+-- bytes behind their number, which has two bytes
 unfoldable pub bytes2 : Format (List ℕ)
 bytes2 = do
   n ← u2

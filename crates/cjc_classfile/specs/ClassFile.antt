@@ -46,6 +46,7 @@ back_part major pool items = do
   free ← in_a_row attribute_count (attribute pool)
   gives (record { major = major; flags = flags; name = name; superclass = superclass; interfaces = interfaces; pool = items; fields = fields; methods = methods })
 
+-- a whole class file; what the entries of its pool mean is settled before what stands behind the pool is read
 unfoldable pub class_file : Format ClassTree
 class_file = do
   front ← front_part

@@ -21,6 +21,7 @@ below m n = if nat_lt n m then Some n else None
 unfoldable pub catch_class_at : List Entry → ℕ → Option (Option (List ℕ))
 catch_class_at pool i = if i == 0 then Some None else option_map Some (class_name_at pool i)
 
+-- the index of the class that a handler catches; index 0 gives none
 unfoldable pub catch_class : List Entry → Format (Option (List ℕ))
 catch_class pool = number w16 (catch_class_at pool)
 

@@ -43,18 +43,23 @@ not_empty (b ∷ bs) = Some (b ∷ bs)
 unfoldable pub text_at : List Entry → ℕ → Option (List ℕ)
 text_at pool i = option_and_then as_text (slice_get pool i)
 
+-- the descriptor at an index, of a field or of a method
 unfoldable pub desc_at : List Entry → ℕ → Option (List ℕ)
 desc_at pool i = option_and_then as_desc (slice_get pool i)
 
+-- the descriptor at an index, where it is that of a method, or of a field, as is asked for
 unfoldable pub desc_of_at : List Entry → Bool → ℕ → Option (List ℕ)
 desc_of_at pool is_method i = option_and_then (as_desc_of is_method) (slice_get pool i)
 
+-- the text at an index, where the name of a class can be there: it has one byte or more
 unfoldable pub class_text_at : List Entry → ℕ → Option (List ℕ)
 class_text_at pool i = option_and_then not_empty (text_at pool i)
 
+-- the index of the name of the CONSTANT_Class at an index
 unfoldable pub class_at : List Entry → ℕ → Option Index
 class_at pool i = option_and_then as_class (slice_get pool i)
 
+-- the indices of the name and the descriptor of the CONSTANT_NameAndType at an index
 unfoldable pub pair_at : List Entry → ℕ → Option (Index × Index)
 pair_at pool i = option_and_then as_pair (slice_get pool i)
 
@@ -69,6 +74,7 @@ tested_member pool owner member = do
   m ← kept member.at (pair_at pool member.to)
   Ok tt
 
+-- each index of the entry leads to an entry of the tag that is needed; else the place of the first that does not
 unfoldable pub tested : List Entry → Entry → Result Unit ℕ
 tested pool (class name) = do
   n ← kept name.at (class_text_at pool name.to)
@@ -94,6 +100,7 @@ member pool owner pair = do
   d ← kept m.1.at (desc_at pool m.1.to)
   Ok (record { class = c; name = n; desc = d })
 
+-- a number, the name of a class, or a member with its class, name and descriptor; any other entry means nothing here
 unfoldable pub item : List Entry → Entry → Result PoolItem ℕ
 item pool (integer n) = Ok (items.Int n)
 item pool (class name) = do

@@ -12,9 +12,11 @@ use Rattle.cjc_classfile.specs.Items.{text_at, desc_of_at, class_name_at}
 unfoldable pub text_field : List Entry → Format (List ℕ)
 text_field pool = number w16 (text_at pool)
 
+-- the index of the descriptor of a method, or of a field; gives its bytes
 unfoldable pub desc_field : List Entry → Bool → Format (List ℕ)
 desc_field pool is_method = number w16 (desc_of_at pool is_method)
 
+-- the index of a class; gives its name
 unfoldable pub class_field : List Entry → Format (List ℕ)
 class_field pool = number w16 (class_name_at pool)
 
@@ -51,6 +53,7 @@ constant_of wide = Some None
 constant_of (string value) = Some None
 constant_of _ = None
 
+-- what a ConstantValue attribute gives that names the entry at this index
 unfoldable pub constant_at : List Entry → ℕ → Option (Option ℤ)
 constant_at pool i = option_and_then constant_of (slice_get pool i)
 
@@ -58,6 +61,7 @@ constant_at pool i = option_and_then constant_of (slice_get pool i)
 abbrev pub exactly : ℕ → ℕ → Option ℕ
 exactly m n = if n == m then Some n else None
 
+-- what stands behind the name of a field's attribute: a ConstantValue's length and index, or anything
 unfoldable pub constant_content : List Entry → Bool → Constant → Format Constant
 constant_content pool true so_far = do
   length ← number w32 (exactly 2)
@@ -67,9 +71,11 @@ constant_content pool false so_far = do
   free ← skipped
   gives so_far
 
+-- whether the attribute whose name is at this index is the field's constant
 unfoldable pub constant_name_at : List Entry → Bool → Constant → ℕ → Option Bool
 constant_name_at pool static so_far i = option_and_then (is_constant static so_far) (text_at pool i)
 
+-- an attribute of a field, with what is known of the constant before it and then behind it
 unfoldable pub field_attribute : List Entry → Bool → ℕ → Constant → Format Constant
 field_attribute pool static behind so_far =
     number w16 (constant_name_at pool static so_far) >>= λ constant. constant_content pool constant so_far
@@ -79,6 +85,7 @@ abbrev pub value_of : Constant → Option ℤ
 value_of (Some value) = value
 value_of None = None
 
+-- a field_info: its flags, name, descriptor and attributes, of which the constant is kept
 unfoldable pub field_tree : List Entry → Format FieldTree
 field_tree pool = do
   flags ← u2

@@ -19,9 +19,11 @@ is_code awaited behind name =
     else if awaited && (behind == 0) then None
     else Some false
 
+-- whether the attribute whose name is at this index is the method's code
 unfoldable pub code_name_at : List Entry → Bool → ℕ → ℕ → Option Bool
 code_name_at pool awaited behind i = option_and_then (is_code awaited behind) (text_at pool i)
 
+-- what stands behind the name of a method's attribute: the code, or anything
 unfoldable pub method_content : List Entry → Bool → Option CodeTree → Format (Option CodeTree)
 method_content pool true so_far = do
   tree ← code pool
@@ -30,6 +32,7 @@ method_content pool false so_far = do
   free ← skipped
   gives so_far
 
+-- an attribute of a method, with so many behind it; gives the code that has come so far
 unfoldable pub method_attribute : List Entry → Bool → ℕ → Option CodeTree → Format (Option CodeTree)
 method_attribute pool needed behind so_far =
     number w16 (code_name_at pool (needed && is_none so_far) behind) >>= λ is_it. method_content pool is_it so_far
@@ -42,6 +45,7 @@ attribute_count needed n = if needed && (n == 0) then None else Some n
 abbrev pub needs_code : ℕ → Bool
 needs_code flags = if is_abstract flags then false else (if has flags acc_native then false else true)
 
+-- a method_info: its flags, name, descriptor and attributes, of which the code is kept
 unfoldable pub method_tree : List Entry → Format MethodTree
 method_tree pool = do
   flags ← u2

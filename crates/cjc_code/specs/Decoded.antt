@@ -21,6 +21,7 @@ abbrev pub least_of : ℕ → List ℕ → ℕ
 least_of k [] = k
 least_of k (j ∷ ks) = least_of (min k j) ks
 
+-- the least of these numbers, none where there are no numbers
 unfoldable pub least : List ℕ → Option ℕ
 least [] = None
 least (k ∷ ks) = Some (least_of k ks)

@@ -11,6 +11,7 @@ use Rattle.cjc_code.specs.declared.table.Family.{Family}
 use Rattle.cjc_code.specs.declared.table.Family.TheVariants as family
 use Rattle.cjc_code.specs.Table.{row, heads, padding, tails, wide}
 
+-- the number that the bytes of one operand spell, signed or unsigned
 unfoldable pub operand : Operand → Format ℤ
 operand Unsigned1 = number w8 (λ n. Some (pos n))
 operand Signed1 = number w8 (λ n. Some (cast_signed w8 n))

@@ -25,7 +25,7 @@ use cjc_ncode::NMethod;
 use cjc_pool::{Pool, build};
 use cjc_tokens::Tokens;
 use cjc_whole::{Shaped, one_draft};
-use cjc_whole_laws::{converted_classes_are_ordered, converted_methods_are_emittable};
+use cjc_written_laws::{converted_classes_are_ordered, converted_methods_are_emittable};
 use cjc_world::World;
 use std::alloc::Global;
 

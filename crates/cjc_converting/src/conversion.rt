@@ -15,7 +15,7 @@ use crate::files::are_bytes;
 use crate::sizes::test_sizes;
 use cjc_bytes::{Bytes, Fault, Row};
 use cjc_capread::CapTree;
-use cjc_fitting_laws::static_images_fit;
+use cjc_written_laws::static_images_fit;
 use cjc_judge::{Group, Judged, judge};
 use cjc_list::List;
 use cjc_whole::{Shaped, shape};

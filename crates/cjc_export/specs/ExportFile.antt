@@ -32,6 +32,7 @@ name_taken so_far name = list_any (λ c. bytes_eq c.name name) so_far
 abbrev pub new_name : List ExportClass → List ℕ → Option (List ℕ)
 new_name so_far name = if name_taken so_far name then None else Some name
 
+-- the name of the class at an index, where no earlier class has it
 unfoldable pub new_name_at : List Entry → List ExportClass → ℕ → Option (List ℕ)
 new_name_at pool so_far i = option_and_then (new_name so_far) (class_name_at pool i)
 
@@ -39,6 +40,7 @@ new_name_at pool so_far i = option_and_then (new_name so_far) (class_name_at poo
 abbrev pub method_count : Bool → ℕ → Option ℕ
 method_count interface n = if interface && nat_lt 255 n then None else Some n
 
+-- the class_info of one class, with the classes before it known
 unfoldable pub class_tree : List Entry → List ExportClass → Format ExportClass
 class_tree pool so_far = do
   token ← number w8 (class_token so_far)
@@ -69,6 +71,7 @@ front_part = do
   count ← u2
   repeated count entry
 
+-- a whole export file: its pool, its package and its classes
 unfoldable pub export_file : Format ExportTree
 export_file = do
   pool ← front_part

@@ -22,6 +22,7 @@ grown p behind so_far = do
 unfoldable pub text_field : List Entry → Format (List ℕ)
 text_field pool = number w16 (text_at pool)
 
+-- the index of a CONSTANT_Classref; gives the name of the class
 unfoldable pub class_field : List Entry → Format (List ℕ)
 class_field pool = number w16 (class_name_at pool)
 
@@ -36,9 +37,11 @@ same_bool false b = not b
 abbrev pub as_desc : Bool → List ℕ → Option (List ℕ)
 as_desc method bytes = option_and_then (λ d. if same_bool method d.is_method then Some bytes else None) (desc_of bytes)
 
+-- the text at an index, where it is the descriptor of a method, or of a field
 unfoldable pub desc_at : List Entry → Bool → ℕ → Option (List ℕ)
 desc_at pool method i = option_and_then (as_desc method) (text_at pool i)
 
+-- the index of the descriptor of a method, or of a field; gives its bytes
 unfoldable pub desc_field : List Entry → Bool → Format (List ℕ)
 desc_field pool method = number w16 (desc_at pool method)
 
@@ -58,6 +61,7 @@ is_constant so_far name =
     if bytes_eq name (codes "ConstantValue") then (if is_some so_far then None else Some true)
     else Some false
 
+-- whether the attribute whose name is at this index is a ConstantValue
 unfoldable pub constant_name_at : List Entry → Option ℤ → ℕ → Option Bool
 constant_name_at pool so_far i = option_and_then (is_constant so_far) (text_at pool i)
 
@@ -66,6 +70,7 @@ abbrev pub as_integer : Entry → Option ℤ
 as_integer (integer n) = Some n
 as_integer _ = None
 
+-- the number of the CONSTANT_Integer at an index
 unfoldable pub integer_at : List Entry → ℕ → Option ℤ
 integer_at pool i = option_and_then as_integer (slice_get pool i)
 
@@ -132,6 +137,7 @@ method_token_taken so_far unbound token = list_any (λ m. (m.token == token) && 
 abbrev pub method_token_wrong : List ExportMethod → Bool → ℕ → Bool
 method_token_wrong so_far unbound token = method_token_taken so_far unbound token || (not unbound && nat_lt 127 token)
 
+-- a method of a class. Its token is answered for as soon as what it depends on has been read
 unfoldable pub class_method : List Entry → List ExportMethod → Format ExportMethod
 class_method pool so_far = do
   place ← here (λ k. k)
@@ -162,9 +168,11 @@ is_special name = bytes_eq name (codes "<init>") || bytes_eq name (codes "<clini
 abbrev pub not_special : List ℕ → Option (List ℕ)
 not_special name = if is_special name then None else Some name
 
+-- the name at an index, where it is one that a method of an interface may have
 unfoldable pub interface_name_at : List Entry → ℕ → Option (List ℕ)
 interface_name_at pool i = option_and_then not_special (text_at pool i)
 
+-- a method of an interface that has so many, with those before it known
 unfoldable pub interface_method : List Entry → ℕ → List ExportMethod → Format ExportMethod
 interface_method pool count so_far = do
   token ← number w8 (interface_token count so_far)
@@ -173,6 +181,7 @@ interface_method pool count so_far = do
   desc ← desc_field pool true
   gives (record { token = token; flags = flags; name = name; desc = desc })
 
+-- a method of an interface that has so many methods, or of a class
 unfoldable pub method : List Entry → Bool → ℕ → List ExportMethod → Format ExportMethod
 method pool true count so_far = interface_method pool count so_far
 method pool false count so_far = class_method pool so_far

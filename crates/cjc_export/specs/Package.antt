@@ -15,5 +15,6 @@ package_of pool _ = None
 unfoldable pub package_at : List Entry → ℕ → Option Package
 package_at pool i = option_and_then (package_of pool) (slice_get pool i)
 
+-- the index of the CONSTANT_Package that tells of the package of the file
 unfoldable pub package_field : List Entry → Format Package
 package_field pool = number w16 (package_at pool)

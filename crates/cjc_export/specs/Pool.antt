@@ -59,6 +59,7 @@ content tags.Package = do
   aid ← raw n
   gives (package_info (is_library flags) name minor major aid)
 
+-- an entry of the pool: its tag and what stands behind it
 unfoldable pub entry : Format Entry
 entry = number w8 tag_of >>= content
 
@@ -77,6 +78,7 @@ text_at pool i = option_and_then as_text (slice_get pool i)
 unfoldable pub tested_name : List Entry → Index → Result Unit ℕ
 tested_name pool name = kept name.at (text_at pool name.to) >>> λ n. Ok tt
 
+-- the name of a class or package is a text of the pool; else the place of the name's index
 unfoldable pub tested : List Entry → Entry → Result Unit ℕ
 tested pool (class name) = tested_name pool name
 tested pool (package_info library name minor major aid) = tested_name pool name

@@ -32,9 +32,11 @@ field_needs f = text f.name ∷ text f.desc ∷ value_needs f.constant
 abbrev pub method_needs : ExportMethod → List Constant
 method_needs m = text m.name ∷ text m.desc ∷ []
 
+-- the class, the classes and interfaces above it, then what its fields and its methods need
 unfoldable pub class_tree_needs : ExportClass → List Constant
 class_tree_needs c = class_needs c.name ++ (flat_map class_needs c.supers ++ (flat_map class_needs c.interfaces ++ (flat_map field_needs c.fields ++ flat_map method_needs c.methods)))
 
+-- the name of the package, the package, then what its classes need
 unfoldable pub needs : ExportTree → List Constant
 needs t = text t.name ∷ this ∷ flat_map class_tree_needs t.classes
 
@@ -61,9 +63,11 @@ abbrev pub value_bytes : List Constant → Option ℤ → List ℕ
 value_bytes pool None = to_be_bytes w16 0
 value_bytes pool (Some value) = to_be_bytes w16 1 ++ (index_bytes pool value_name ++ (to_be_bytes w32 2 ++ index_bytes pool (integer (cast_unsigned w32 value))))
 
+-- a field_info: its token, flags, name, descriptor and attributes
 unfoldable pub field_bytes : List Constant → ExportField → List ℕ
 field_bytes pool f = to_be_bytes w8 f.token ++ (to_be_bytes w16 f.flags ++ (index_bytes pool (text f.name) ++ (index_bytes pool (text f.desc) ++ value_bytes pool f.constant)))
 
+-- a method_info: its token, flags, name and descriptor
 unfoldable pub method_bytes : List Constant → ExportMethod → List ℕ
 method_bytes pool m = to_be_bytes w8 m.token ++ (to_be_bytes w16 m.flags ++ (index_bytes pool (text m.name) ++ index_bytes pool (text m.desc)))
 
@@ -71,6 +75,7 @@ method_bytes pool m = to_be_bytes w8 m.token ++ (to_be_bytes w16 m.flags ++ (ind
 unfoldable pub members_bytes : List Constant → ExportClass → List ℕ
 members_bytes pool c = to_be_bytes w16 (length c.fields) ++ (flat_map (field_bytes pool) c.fields ++ (to_be_bytes w16 (length c.methods) ++ flat_map (method_bytes pool) c.methods))
 
+-- a class_info: its token, flags, name, superclasses, interfaces and members
 unfoldable pub class_bytes : List Constant → ExportClass → List ℕ
 class_bytes pool c =
     to_be_bytes w8 c.token ++ (to_be_bytes w16 c.flags ++ (class_ref pool c.name
@@ -102,5 +107,6 @@ head_bytes pool = to_be_bytes w32 0x00FACADE ++ (to_be_bytes w8 2 ++ (to_be_byte
 unfoldable pub bytes_over : List Constant → ExportTree → List ℕ
 bytes_over pool t = head_bytes pool ++ (flat_map (constant_bytes t pool) pool ++ (index_bytes pool this ++ (to_be_bytes w8 (length t.classes) ++ flat_map (class_bytes pool) t.classes)))
 
+-- the whole file, with a pool of the constants that it needs
 unfoldable pub written : ExportTree → List ℕ
 written t = bytes_over (constants t) t

@@ -20,7 +20,7 @@ use Rattle.cjc_upward_laws.specs.Upwards.{OnLine}
 use Rattle.cjc_upward_laws.proofs.Lines.{above_on, below_line, line_below}
 use Rattle.cjc_vtable.specs.Calls.{IsOneToOne}
 use Rattle.cjc_vtable.specs.Kept.{ExportsAgree}
-use Rattle.cjc_whole_laws.proofs.Declared.{place_there}
+use Rattle.cjc_written_laws.proofs.WholeLaws.Declared.{place_there}
 use Rattle.cjc_world.specs.Added.{asked_by, by_token, methods_of, own_methods, without_initialiser}
 use Rattle.cjc_world.specs.Classes.{Class, Member, all_classes, class_named, imported, method_of_export}
 use Rattle.cjc_world.specs.Files.{Files}

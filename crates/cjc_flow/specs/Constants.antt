@@ -17,5 +17,6 @@ module _ (constant : MemberId → Option ℤ) where
   value_got (jop.Static put field) = constant field
   value_got _ = None
 
+  -- the constant that each of these instructions gets, none where it gets none
   abbrev pub values_of : List JInsn → List (Option ℤ)
   values_of insns = map (λ (i : JInsn). value_got i.op) insns

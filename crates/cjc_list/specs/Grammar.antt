@@ -52,6 +52,7 @@ begun name owner digits numbers = do
   version ← version_of numbers
   if is_name owner then Some (record { name = name; «package» = owner; aid = aid; major = version.0; minor = version.1; ints = false; applets = []; lines = [] }) else None
 
+-- the list of this name that begins with a package line of these words: the package, its AID and its version
 unfoldable pub package_of : List ℕ → List (List ℕ) → Option Listing
 package_of name (keyword ∷ owner ∷ digits ∷ numbers ∷ []) = if bytes_eq keyword (codes "package") then begun name owner digits numbers else None
 package_of name _ = None

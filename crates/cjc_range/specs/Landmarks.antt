@@ -12,6 +12,7 @@ landmarks =
 unfoldable pub landmark_above : ℤ → ℤ
 landmark_above z = unwrap_or (find (λ m. int_le z m) landmarks) (pos 2147483647)
 
+-- the nearest landmark that is not above z; the least one where all are above
 unfoldable pub landmark_below : ℤ → ℤ
 landmark_below z = unwrap_or (find (λ m. int_le m z) (reverse landmarks)) (negsuc 2147483647)
 

@@ -88,6 +88,7 @@ abbrev pub handler_edge : Body → (types : List (Option State)) → (offset : �
 handler_edge b types offset x c = if covers c offset then option_map (edge b types (caught x)) (place_at b.insns c.target) else None
 
 module _ (b : Body) (constant : MemberId → Option ℤ) (types : List (Option State)) where
+  -- from an instruction with these types before it: to those that may follow, and to its handlers
   abbrev pub insn_edges : (at : ℕ) → JInsn → State → RangeState → List (Edge RangeState)
   insn_edges at insn t x = map (edge b types (after constant insn.op (cells_of t.stack) x)) (successors b.insns at insn.op) ++ filter_map (handler_edge b types insn.at x) b.catches
 

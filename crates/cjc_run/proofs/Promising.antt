@@ -173,8 +173,7 @@ module _ (behave : OfPackages (λ list p. BehaveAlike list p.files (components_o
       let x = ready.inputs in
       let got = convert_got files name x ready.read in
       let made = ready.made.0 in
-      let built = ready.made.1 in
-      let is = built.converted in
+      let is = ready.made.1 in
       let trees = is.is_package.spelt.trees in
       let spell = is.is_package.spelt.is_world.0 in
       let world : is.whole.files ≡ files_spelt x.0 trees = is.is_package.spelt.world_is in

@@ -3,8 +3,9 @@ use Rattle.std.specs.Prelude.{◌≡◌, ◌==◌, ℕ, List, [], ◌∷◌, ◌
 use Rattle.cjc_bytes.specs.declared.fault.Refusal.{Refusal}
 use Rattle.cjc_list.specs.Listed.{ListTree, listed}
 use Rattle.cjc_capwrite.specs.declared.files.CapFiles.{CapFiles}
-use Rattle.cjc_conversion.specs.declared.conversion.Converted.{Converted}
-use Rattle.cjc_conversion.specs.Conversion.{IsBuilt, IsRefused}
+use Rattle.cjc_convert.specs.declared.conversion.Converted.{Converted}
+use Rattle.cjc_convert.specs.Conversion.{IsConverted}
+use Rattle.cjc_whole.specs.Conversion.{IsRefused}
 use Rattle.cjc_command.specs.Plan.{Plan, has, ◌>>=◌, read, read_each, unless_refused}
 use Rattle.cjc_command.specs.declared.status.File.{File}
 use Rattle.cjc_command.specs.declared.status.Todo.{Todo}
@@ -81,5 +82,5 @@ publication dir files = record { files = map (below dir) files; lines = map file
 
 -- What is made of the list and its files, or which rule they break first.
 abbrev pub Makes : List ℕ → ListTree × List (List ℕ) → Result Todo Refusal → Type 0
-Makes dir input (Ok todo) = (made : Converted) × IsBuilt input.0 input.1 made × (todo ≡ publication dir (files_made input.0.package made))
+Makes dir input (Ok todo) = (made : Converted) × IsConverted input.0 input.1 made × (todo ≡ publication dir (files_made input.0.package made))
 Makes dir input (Err r) = IsRefused input.0 input.1 r

@@ -16,7 +16,7 @@ use Rattle.cjc_fair_exports.specs.Fair.{ExportsAreFair}
 use Rattle.cjc_capread.specs.declared.tree.CapTree.{CapTree}
 use Rattle.cjc_capwrite.specs.Writable.{IsSpelt}
 use Rattle.cjc_alike.specs.Alike.{BehaveAlike}
-use Rattle.cjc_conversion.specs.declared.conversion.Converted.{Converted}
+use Rattle.cjc_convert.specs.declared.conversion.Converted.{Converted}
 use Rattle.cjc_judge.specs.Rules.{world_files}
 use Rattle.cjc_sentences.specs.Consistent.{Consistent}
 use Rattle.cjc_run.specs.Convert.{files_made, below}

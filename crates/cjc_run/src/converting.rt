@@ -9,7 +9,7 @@ ghost use Rattle.cjc_run.specs.Convert.{plan_of_convert, plan_of_list, plan_of_f
 
 use cjc_bytes::{Bytes, Fault, NoMemory, Out, Row};
 use cjc_command::{File, Status, Todo, fetch, fetch_each};
-use cjc_conversion::{Converted, convert};
+use cjc_convert::{Converted, convert};
 use cjc_list::{List, read_list};
 use cjc_shelf::Shelf;
 use itoa::Buffer;

@@ -8,7 +8,7 @@ ghost use Rattle.cjc_command.specs.declared.status.Status.{Status as Answer};
 ghost use Rattle.cjc_run.specs.Request.{Request};
 ghost use Rattle.cjc_run.specs.Command.{command_of};
 
-use cjc_conversion::one_answer;
+use cjc_convert::one_answer;
 
 /// The words and the told files decide one answer: two runs in which no fault count rises and memory is there end the same
 /// way, and of all refusals that a run may answer for them there is one.

@@ -39,5 +39,6 @@ unfoldable pub repeats_aid : List AppletLine → Bool
 repeats_aid [] = false
 repeats_aid (a ∷ rest) = list_any (λ b. bytes_eq b.aid a.aid) rest || repeats_aid rest
 
+-- an applet line names a class that an applet can not be of, or two lines have the same AID
 unfoldable pub has_unfit_applets : List Class → List AppletLine → Bool
 has_unfit_applets w applets = list_any (λ a. is_unfit_applet w a.class) applets || repeats_aid applets

@@ -33,6 +33,7 @@ abbrev pub is_imported_variable : Files → Option Found → Bool
 is_imported_variable files None = false
 is_imported_variable files (Some f) = f.imported && not (is_constant files f)
 
+-- the instruction reads or writes a field of an imported class that is no constant
 unfoldable pub names_variable : Files → JOp → Bool
 names_variable files (jop.Static put id) = is_imported_variable files (field_found (all_classes files) id)
 names_variable files (jop.Field put id) = is_imported_variable files (field_found (all_classes files) id)
@@ -40,6 +41,7 @@ names_variable files _ = false
 
 -- ---- by instructions
 
+-- of 301, 302 and 310, at an instruction of the method at this place of the class
 unfoldable pub insn_breaks : Files → Settings → FilePlace → ClassTree → (method : ℕ) → MethodTree → JInsn → List Break
 insn_breaks files settings f c i m insn =
     at (names_foreign insn.op) (at_method f c i m insn.at) 301
@@ -53,12 +55,14 @@ code_breaks files settings code =
 
 -- ---- by classes and their members
 
+-- of 301, 302 and 304, at the field at this place of the class
 unfoldable pub field_breaks : Settings → FilePlace → ClassTree → (place : ℕ) → FieldTree → List Break
 field_breaks settings f c i m =
     at (is_foreign_desc m.desc) (at_field f c i m) 301
     ++ at (not settings.ints && is_int_desc m.desc) (at_field f c i m) 302
     ++ at (is_unfit_field (is_interface c.flags) m.flags) (at_field f c i m) 304
 
+-- of 301, 302, 304, 404 and 405, at the method at this place of the class
 unfoldable pub method_breaks : Settings → FilePlace → ClassTree → (place : ℕ) → MethodTree → List Break
 method_breaks settings f c i m =
     at (is_foreign_desc m.desc) (at_method f c i m 0) 301
@@ -94,6 +98,7 @@ class_breaks files settings f n c =
 
 -- ---- by the list
 
+-- of 309, 401, 402, 407, 408 and 409, which are broken by the package as a whole
 unfoldable pub list_breaks : (list : List ℕ) → Files → Settings → List Break
 list_breaks list files settings =
     at (has_unfit_applets (all_classes files) settings.applets) (list_spot list) 309

@@ -17,6 +17,7 @@ use Rattle.cjc_subset.specs.Names.{catches_of}
 
 -- ---- 401: more than 255 exported classes
 
+-- more than 255 classes of the package are exported
 unfoldable pub has_many_exported : Files → Settings → Bool
 has_many_exported files settings = nat_lt 255 (count_by (λ c. is_exported (all_classes files) (nat_lt 0 (length settings.applets)) (declared 0 c)) files.classes)
 
@@ -55,6 +56,7 @@ noted known (x ∷ xs) = noted (if list_any (λ y. bytes_eq y x) known then know
 abbrev pub most_interfaces : ClassTree → ℕ
 most_interfaces c = if is_interface c.flags then 14 else 15
 
+-- the class and all that stand above it list more interfaces, each counted once, than it may have
 unfoldable pub has_many_interfaces : Files → ClassTree → Bool
 has_many_interfaces files c = nat_lt (most_interfaces c) (length (noted [] (listed_names files c)))
 
@@ -76,6 +78,7 @@ has_deep_stack (Some code) = nat_lt 255 code.max_stack
 abbrev pub cells : FieldTree → ℕ
 cells m = if is_static m.flags then 0 else if bytes_eq m.desc (codes "I") then 2 else 1
 
+-- the instance fields that the class itself declares take more than 255 cells
 unfoldable pub has_many_cells : ClassTree → Bool
 has_many_cells c = nat_lt 255 (sum_by cells c.fields)
 
@@ -89,5 +92,6 @@ handlers m = length (catches_of m.code)
 abbrev pub handlers_of_class : ClassTree → ℕ
 handlers_of_class c = sum_by handlers c.methods
 
+-- the exception tables of the whole package have more than 255 entries together
 unfoldable pub has_many_handlers : Files → Bool
 has_many_handlers files = nat_lt 255 (sum_by handlers_of_class files.classes)

@@ -48,6 +48,7 @@ abbrev pub hit_of : (field : Bool) → Found → Option Class → Option Hit
 hit_of field f None = None
 hit_of field f (Some c) = hit_at field f c
 
+-- the field or method that a look-up found; none where it found none
 unfoldable pub hit : List Class → (field : Bool) → Option Found → Option Hit
 hit w field None = None
 hit w field (Some f) = hit_of field f (class_at w f.imported f.class)

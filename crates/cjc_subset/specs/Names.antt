@@ -33,6 +33,7 @@ is_name_missing w name = if is_array name then not (is_descriptor name) || is_ty
 abbrev pub is_member_missing : List Class → MemberId → Bool
 is_member_missing w id = is_name_missing w id.class || is_desc_missing w id.desc
 
+-- the instruction names a class that is in no file, or a member with such a class or one in its descriptor
 unfoldable pub names_missing : List Class → JOp → Bool
 names_missing w (jop.Static put id) = is_member_missing w id
 names_missing w (jop.Field put id) = is_member_missing w id
@@ -60,6 +61,7 @@ is_not_found (Some f) = false
 abbrev pub is_unfound : List Class → MemberId → Option Found → Bool
 is_unfound w id found = not (is_name_missing w id.class) && (is_array id.class || is_not_found found)
 
+-- the instruction names a field or method that is in neither its class nor the supers, or that of an array
 unfoldable pub names_unfound : List Class → JOp → Bool
 names_unfound w (jop.Static put id) = is_unfound w id (find_field w id.class id.name id.desc)
 names_unfound w (jop.Field put id) = is_unfound w id (find_field w id.class id.name id.desc)
@@ -191,6 +193,7 @@ method_breaks files f c i m insns =
     each (λ _ insn. insn_breaks files f c i m insn) insns
     ++ each (λ _ k. catch_breaks files f c i m k) (catches_of m.code)
 
+-- at the instructions and catch types of the method that this code is of
 unfoldable pub code_breaks : Files → MethodCode → List Break
 code_breaks files code = of_code files code.class code.method (λ f c m. method_breaks files f c code.method m code.insns)
 

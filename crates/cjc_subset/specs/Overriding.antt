@@ -83,6 +83,7 @@ method_against f c d i m =
     at (not (is_special m.name) && hides_one d m.flags m.name m.desc) (at_method f c i m 0) 305
     ++ at (not (is_special m.name) && changes_kind d m.flags m.name m.desc) (at_method f c i m 0) 306
 
+-- at the class and its methods, against a class that is inherited from
 unfoldable pub class_against : List Class → FilePlace → ClassTree → Class → List Break
 class_against w f c d =
     at (lacks_code w c d) (at_class f c) 307

@@ -86,6 +86,7 @@ abbrev pub is_any_int : Option Parts → Bool
 is_any_int None = false
 is_any_int (Some d) = list_any (λ p. is_int_part p) (d.params ++ d.result ∷ [])
 
+-- int or an array of ints stands in a descriptor; bytes that are none, or that 32 bits don't count, have no type
 unfoldable pub is_int_desc : List ℕ → Bool
 is_int_desc desc = nat_lt (length desc) (2 ^ 32) && is_any_int (desc_of desc)
 

@@ -63,6 +63,7 @@ field_tokens exported fs i (f ∷ rest) = field_token exported fs i f ∷ field_
 abbrev pub instance_field_token : List FieldTree → (place : ℕ) → FieldTree → Option ℕ
 instance_field_token fs i f = if is_instance f then Some (instance_token fs i f) else None
 
+-- those of the fields from a place on, where static fields have none
 unfoldable pub instance_tokens : List FieldTree → (place : ℕ) → List FieldTree → List (Option ℕ)
 instance_tokens fs i [] = []
 instance_tokens fs i (f ∷ rest) = instance_field_token fs i f ∷ instance_tokens fs (i + 1) rest

@@ -86,6 +86,7 @@ pub record Assigned : Type 0 where
   -- of the members of all imported classes, in list order and as they stand in their files
   pub imports : List (List (Option ℕ))
 
+-- the tokens of a package, with applets or without, and of its imports
 unfoldable pub assigned : (applets : Bool) → Files → Assigned
 assigned applets files = record {
   classes = classes_from (all_classes files) applets 0 0 files.classes;

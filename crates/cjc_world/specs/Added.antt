@@ -51,6 +51,7 @@ unfoldable pub methods_of : List Class → List Member
 methods_of [] = []
 methods_of (c ∷ cs) = own_methods c ++ methods_of cs
 
+-- the methods of all interfaces, as far as some file has them, of a class with these supers and interfaces
 unfoldable pub asked_by : (supers interfaces : Kin) → List Member
 asked_by supers interfaces = methods_of (known (gathered false supers ++ gathered true interfaces))
 

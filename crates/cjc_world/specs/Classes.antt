@@ -107,6 +107,7 @@ classes_from classes exports c e i (line ∷ lines) =
     then of_class_file c (slice_get classes c) ++ classes_from classes exports (c + 1) e i lines
     else of_export_file i (slice_get exports e) ++ classes_from classes exports c (e + 1) (i + size (slice_get exports e)) lines
 
+-- the classes of all files, in the order of the lines of the list
 unfoldable pub all_classes : Files → List Class
 all_classes files = classes_from files.classes files.exports 0 0 0 files.lines
 

@@ -39,6 +39,7 @@ field_in own End = None
 field_in own (Unknown name next) = field_in own next
 field_in own (Known c supers interfaces next) = or_else (or_else (own c) (or_else (field_in own interfaces) (field_in own supers))) (field_in own next)
 
+-- the field of this name and descriptor, looked up from the class of this name on
 unfoldable pub find_field : List Class → (class name desc : List ℕ) → Option Found
 find_field w class name desc = field_in (own_field name desc) (kin w (class ∷ []))
 

@@ -34,6 +34,7 @@ abbrev pub is_slash_part : List ℕ → Bool
 is_slash_part [] = false
 is_slash_part (b ∷ bs) = (b == 47) && is_part bs
 
+-- the name of the package, a slash and one name part, which a class's name has to be
 unfoldable pub is_of_package : List ℕ → List ℕ → Bool
 is_of_package package_name name = bytes_eq (take (length package_name) name) package_name && is_slash_part (drop (length package_name) name)
 
@@ -112,6 +113,7 @@ is_under_cycle w c = list_any (λ d. stands d.name (kin w (c.supers ++ c.interfa
 -- ---- 203 again: the descriptor of a method that an abstract class gets names a class that is in no file. Which
 -- ---- methods a class gets is told only where no cycle is at it or above it: else this counts as unbroken.
 
+-- no class on a cycle stands above, and the descriptor of a method that the class gets names a class in no file
 unfoldable pub gets_missing : List Class → Class → Bool
 gets_missing w c = not (is_under_cycle w c) && list_any (λ m. is_desc_missing w m.desc) (added w c)
 
@@ -129,21 +131,25 @@ throwable = codes "java/lang/Throwable"
 abbrev pub has_exception : List Class → ExportTree → List ℕ → Bool
 has_exception w t name = has_class t name && is_below w name throwable
 
+-- the export file has java/lang/Object and java/lang/Throwable
 unfoldable pub has_roots : ExportTree → Bool
 has_roots t = has_class t object && has_class t throwable
 
+-- it has the exceptions of wrong indices, stores and sizes of arrays, as subclasses of Throwable
 unfoldable pub has_array_exceptions : List Class → ExportTree → Bool
 has_array_exceptions w t =
     has_exception w t (codes "java/lang/ArrayIndexOutOfBoundsException")
     && has_exception w t (codes "java/lang/ArrayStoreException")
     && has_exception w t (codes "java/lang/NegativeArraySizeException")
 
+-- it has the exceptions of division by zero, wrong casts and null, as subclasses of Throwable
 unfoldable pub has_other_exceptions : List Class → ExportTree → Bool
 has_other_exceptions w t =
     has_exception w t (codes "java/lang/ArithmeticException")
     && has_exception w t (codes "java/lang/ClassCastException")
     && has_exception w t (codes "java/lang/NullPointerException")
 
+-- it has all the classes that a package needs of java/lang
 unfoldable pub has_needed : List Class → ExportTree → Bool
 has_needed w t = has_roots t && has_array_exceptions w t && has_other_exceptions w t
 
@@ -170,6 +176,7 @@ abbrev pub is_of_class_file : Option Class → Bool
 is_of_class_file None = false
 is_of_class_file (Some c) = not c.is_imported
 
+-- one of the supers or interfaces that the class lists may not stand there
 unfoldable pub lists_wrong : List Class → Class → Bool
 lists_wrong w c =
     list_any (λ x. is_interface_of (class_named w x)) c.supers
@@ -232,12 +239,14 @@ members_from file file_name class w c field i (m ∷ rest) =
     map (λ rule. at_member file file_name class c.name (members_before field c + i + 1) (told field m.name m.desc) rule) (member_rules w c (members field c) i m.name m.desc)
     ++ members_from file file_name class w c field (i + 1) rest
 
+-- of a class, which has this number in its file, and of its fields and methods
 unfoldable pub class_breaks : List ℕ → FileKey → List ℕ → ℕ → List Class → Class → List Break
 class_breaks package_name file file_name class w c =
     map (λ rule. at_class file file_name class c.name rule) (class_rules package_name w c)
     ++ members_from file file_name class w c true 0 c.fields
     ++ members_from file file_name class w c false 0 c.methods
 
+-- of classes of a file, the first with this number there and the others with those that follow
 unfoldable pub classes_breaks : List ℕ → FileKey → List ℕ → ℕ → List Class → List Class → List Break
 classes_breaks package_name file file_name class w [] = []
 classes_breaks package_name file file_name class w (c ∷ cs) =

@@ -5,8 +5,8 @@ use Rattle.std.specs.List.{AllByRecursion}
 use Rattle.std.specs.Str.{bytes_eq}
 use Rattle.cjc_bytes.specs.Text.{TextLine}
 use Rattle.cjc_bytes.specs.declared.settings.AppletLine.{AppletLine}
-use Rattle.cjc_fitting_laws.proofs.Lists.{all_both}
-use Rattle.cjc_fitting_laws.specs.LaidOut.{AidsAreShort}
+use Rattle.cjc_written_laws.proofs.FittingLaws.Lists.{all_both}
+use Rattle.cjc_written_laws.specs.LaidOut.{AidsAreShort}
 use Rattle.cjc_judge.specs.Spelt.{IsRead}
 use Rattle.cjc_list.proofs.Items.{aid_is, onward, package_says, passed}
 use Rattle.cjc_list.proofs.Texts.{lines_are}

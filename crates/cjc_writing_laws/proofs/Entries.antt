@@ -16,10 +16,10 @@ use Rattle.cjc_vtable.proofs.Filed.{Has, at_front, behind}
 use Rattle.cjc_world.specs.Classes.{Class, Member}
 use Rattle.cjc_world.specs.Lookup.{member_at}
 use Rattle.cjc_world.specs.declared.found.Found.{Found}
-use Rattle.cjc_fitting_laws.proofs.Interfaces.{has_front}
-use Rattle.cjc_fitting_laws.proofs.Lists.{Apart, sum_within}
-use Rattle.cjc_fitting_laws.proofs.Order.{has_back, has_cons, has_either, has_none, ones}
-use Rattle.cjc_fitting_laws.proofs.Standing.{listed_in}
+use Rattle.cjc_written_laws.proofs.FittingLaws.Interfaces.{has_front}
+use Rattle.cjc_written_laws.proofs.FittingLaws.Lists.{Apart, sum_within}
+use Rattle.cjc_written_laws.proofs.FittingLaws.Order.{has_back, has_cons, has_either, has_none, ones}
+use Rattle.cjc_written_laws.proofs.FittingLaws.Standing.{listed_in}
 
 -- ---- no two of one token
 

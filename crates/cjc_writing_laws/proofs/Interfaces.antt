@@ -47,14 +47,14 @@ use Rattle.cjc_world.specs.Kin.{End, Kin, Known, kin}
 use Rattle.cjc_world.specs.Lookup.{first, is_called, is_wanted, member_at, method_of_interface, or_else, own_method, own_of}
 use Rattle.cjc_world.specs.Rules.{is_twice}
 use Rattle.cjc_world.specs.declared.found.Found.{Found}
-use Rattle.cjc_fitting_laws.proofs.Exported.{or_first}
-use Rattle.cjc_fitting_laws.proofs.Interfaces.{are_asked, has_front}
-use Rattle.cjc_fitting_laws.proofs.Limited.{acyclic, few_imports, is_kin, tokens, unbroken}
-use Rattle.cjc_fitting_laws.proofs.Lists.{mapped_at}
-use Rattle.cjc_fitting_laws.proofs.Meant.{IsMethodRead, named_method}
-use Rattle.cjc_fitting_laws.proofs.Order.{has_back, has_either, has_none}
-use Rattle.cjc_fitting_laws.proofs.Standing.{listed_in}
-use Rattle.cjc_fitting_laws.specs.LaidOut.{ExportedInterfacesStand, IsLaidOut, MethodsStand}
+use Rattle.cjc_written_laws.proofs.FittingLaws.Exported.{or_first}
+use Rattle.cjc_written_laws.proofs.FittingLaws.Interfaces.{are_asked, has_front}
+use Rattle.cjc_written_laws.proofs.FittingLaws.Limited.{acyclic, few_imports, is_kin, tokens, unbroken}
+use Rattle.cjc_written_laws.proofs.FittingLaws.Lists.{mapped_at}
+use Rattle.cjc_written_laws.proofs.FittingLaws.Meant.{IsMethodRead, named_method}
+use Rattle.cjc_written_laws.proofs.FittingLaws.Order.{has_back, has_either, has_none}
+use Rattle.cjc_written_laws.proofs.FittingLaws.Standing.{listed_in}
+use Rattle.cjc_written_laws.specs.LaidOut.{ExportedInterfacesStand, IsLaidOut, MethodsStand}
 use Rattle.cjc_writing_laws.proofs.Entries.{Differ, IsMet, as_many, differ_append, listed_differ, listed_has, stand, supers_differ, supers_has, supers_in}
 use Rattle.cjc_writing_laws.proofs.Signatures.{asked_plain, mapped_has, new_has, new_once, own_kept_there}
 

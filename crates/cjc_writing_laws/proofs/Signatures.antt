@@ -13,7 +13,7 @@ use Rattle.cjc_world.specs.Added.{asked_by, by_token, methods_of, own_methods, w
 use Rattle.cjc_world.specs.Classes.{Class, Member}
 use Rattle.cjc_world.specs.Interfaces.{gathered, known}
 use Rattle.cjc_world.specs.Kin.{Kin}
-use Rattle.cjc_fitting_laws.proofs.Order.{has_cons, has_either, has_none}
+use Rattle.cjc_written_laws.proofs.FittingLaws.Order.{has_cons, has_either, has_none}
 
 -- ---- signatures that are new
 

@@ -7,7 +7,7 @@ use Rattle.cjc_capwrite.specs.Files.{infos_of, is_too_large, limit_of}
 use Rattle.cjc_components.specs.Components.{components_of}
 use Rattle.cjc_components.specs.Limits.{has_far_types, has_large_component, size_breaks, spot_of_list, widest_method}
 use Rattle.cjc_components.specs.Package.{Package}
-use Rattle.cjc_fitting_laws.proofs.Exported.{or_first, or_second}
+use Rattle.cjc_written_laws.proofs.FittingLaws.Exported.{or_first, or_second}
 
 module _ (p : Package) (kept : size_breaks p ≡ []) where
   none_broken : (has_far_types p ≡ false) × (has_large_component p ≡ false)

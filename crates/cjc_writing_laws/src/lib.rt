@@ -11,12 +11,12 @@ ghost use Rattle.cjc_components.specs.ExportFile.{export_of};
 ghost use Rattle.cjc_components.specs.Limits.{size_breaks};
 ghost use Rattle.cjc_components.specs.Package.{Package};
 ghost use Rattle.cjc_export.specs.Writable.{IsWritable as CanBeExported};
-ghost use Rattle.cjc_fitting_laws.specs.LaidOut.{AidsAreShort, ExportedInterfacesStand, IsLaidOut};
+ghost use Rattle.cjc_written_laws.specs.LaidOut.{AidsAreShort, ExportedInterfacesStand, IsLaidOut};
 ghost use Rattle.cjc_judge.specs.Spelt.{IsRead};
 ghost use Rattle.cjc_judge.specs.declared.judged.Judged.{Judged};
 ghost use Rattle.cjc_list.specs.Listed.{ListTree};
 
-use cjc_fitting_laws::{export_files_fit, exported_classes_stand, laid_out_packages_fit};
+use cjc_written_laws::{export_files_fit, exported_classes_stand, laid_out_packages_fit};
 
 /// A list that was read has applets with AIDs of at most 16 bytes.
 pub fn aids_are_short()

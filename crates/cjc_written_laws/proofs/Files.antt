@@ -39,7 +39,7 @@ use Rattle.cjc_world.specs.Rules.{breaks}
 use Rattle.cjc_written_calls.specs.Standing.{AreMethods}
 use Rattle.cjc_written_laws.specs.Converted.{IsConverted}
 use Rattle.cjc_written_laws.proofs.PackageNames.{package_named}
-use Rattle.cjc_fitting_laws.proofs.Initialisers.{stand_once}
+use Rattle.cjc_written_laws.proofs.FittingLaws.Initialisers.{stand_once}
 
 -- ---- the lines
 

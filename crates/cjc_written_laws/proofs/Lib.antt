@@ -9,3 +9,5 @@ pub mod Shaping
 pub mod Made
 pub mod Ready
 pub mod Ordering
+pub mod FittingLaws
+pub mod WholeLaws

@@ -3,6 +3,9 @@
 //! here runs.
 #![tactic(auto)]
 
+mod fitting_laws;
+mod whole_laws;
+
 ghost use Rattle.std.specs.Prelude.{◌≡◌, ◌≢◌, ℕ, Bool, List};
 ghost use Rattle.cjc_call_laws.specs.Solid.{IsSolid};
 ghost use Rattle.cjc_card.specs.ByToken.{run as run_by_token};
@@ -34,6 +37,7 @@ ghost use Rattle.cjc_written_calls.specs.Standing.{AreMethods, AreReady, IsSmall
 ghost use Rattle.cjc_written_laws.specs.Converted.{IsConverted};
 ghost use Rattle.cjc_written_laws.specs.Joined.{IsJoined, NamesAreThere};
 
+use crate::converted_methods_are_emittable;
 use cjc_calls_by_token::methods_are_placed;
 use cjc_code_promises::{
     made_methods_are_consistent, packages_have_their_methods, written_methods_are_made,
@@ -47,10 +51,14 @@ use cjc_tables_by_token::{
     tables_agree_by_parts,
 };
 use cjc_vtable::package_laws;
-use cjc_whole_laws::converted_methods_are_emittable;
 use cjc_written_calls::{
     calls_reach, calls_take_objects_alike, entries_are_called, methods_stand, sent_methods_stand,
 };
+pub use fitting_laws::{
+    export_files_fit, exported_classes_stand, interfaces_and_applets_fit, laid_out_packages_fit,
+    sizes_fit, static_images_fit,
+};
+pub use whole_laws::{converted_classes_are_ordered, converted_methods_are_emittable};
 
 /// The files of a converted package are read ones that break no rule of classes and names. Its fields are of types that values
 /// have, and its static image is what its initialisers make, of which each class has one at most.

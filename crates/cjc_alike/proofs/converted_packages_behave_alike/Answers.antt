@@ -6,7 +6,7 @@ use Rattle.cjc_alike.proofs.converted_packages_behave_alike.Goals as goal
 use Rattle.cjc_alike.specs.Alike.{RunAlike}
 use Rattle.cjc_by_name.specs.ByName.{run as run_by_name}
 use Rattle.cjc_card.specs.ByToken.{run as run_by_token}
-use Rattle.cjc_joined_laws.specs.Left.{AreLeft}
+use Rattle.cjc_alike.specs.Left.{AreLeft}
 use Rattle.cjc_list.specs.Listed.{ListTree}
 use Rattle.cjc_narrow.specs.Package.{run as narrow_run}
 use Rattle.cjc_paired.specs.Naming.{loaded_of}

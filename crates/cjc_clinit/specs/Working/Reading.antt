@@ -112,6 +112,7 @@ or_wrong at (Some s) go = go s
 
 -- of the class of this number
 module _ (files : Files) (number : ℕ) (c : ClassTree) where
+  -- these contents are put in the field at this place, an array of theirs is made, and the statement is over
   abbrev pub state_with : Contents → MemberId → State → ℕ → State
   state_with contents id s k = state (slice_set s.fields k (held_by contents)) (s.arrays ++ array_in (own_field c id) contents) stages.Free
 
@@ -120,6 +121,7 @@ module _ (files : Files) (number : ℕ) (c : ClassTree) where
   after_put None id s = None
   after_put (Some contents) id s = option_map (λ k. state_with contents id s k) (place_for files number c s.fields contents id)
 
+  -- putstatic puts what is on the stack; getstatic can not stand in an initialiser
   abbrev pub after_static : Bool → MemberId → State → Option State
   after_static true id s = after_put (contents_of s.stage) id s
   after_static false id s = None
@@ -199,12 +201,15 @@ breaks_at breaks (Some at) = breaks at
 unfoldable pub offset_break : Files → MethodCode → (offset : ℕ) → List Break
 offset_break files code offset = of_code files code.class code.method (λ f c m. broken_at (at_method f c code.method m offset) 308 ∷ [])
 
+-- at the offset with which the code of a method is no initialiser, where it should be one
 unfoldable pub code_breaks : Files → MethodCode → List Break
 code_breaks files code = breaks_at (offset_break files code) (wrong_in (after_code files (puts [] []) code))
 
+-- at the class itself
 unfoldable pub class_breaks : FilePlace → ClassTree → List Break
 class_breaks f c = at (is_wrong_class c) (at_class f c) 308
 
+-- All that is broken of 308, at the classes and in their initialisers.
 unfoldable pub image_breaks : Files → List MethodCode → List Break
 image_breaks files codes = each (λ n c. class_breaks (file_of files.lines n) c) files.classes ++ each (λ _ code. code_breaks files code) codes
 

@@ -22,28 +22,36 @@ pub record Ranged : Type 0 where
   pub types : List (Option State)
 
 module _ (r : Ranged) where
+  -- what comes to a place: by the types where the place is marked, else as it was given
   abbrev pub kept_arrival : (to : ℕ) → RangeState → RangeState
   kept_arrival to x = if is_marked r.body to then arrival r.body r.types to x else x
 
+  -- the state, as it comes to this place
   abbrev pub kept_edge : RangeState → ℕ → Edge RangeState
   kept_edge x to = record { to = to; state = kept_arrival to x }
 
+  -- what an instruction at this offset hands to the handler: nothing if the handler does not cover it
   abbrev pub kept_handler : (offset : ℕ) → RangeState → Catch → Option (Edge RangeState)
   kept_handler offset x c = if covers c offset then option_map (kept_edge (caught x)) (place_at r.body.insns c.target) else None
 
+  -- the constant that the instruction at a place gets
   abbrev pub value_at : ℕ → Option ℤ
   value_at at = get_or r.values at None
 
+  -- the state behind the instruction at a place, with these types before it
   abbrev pub after_at : (at : ℕ) → JInsn → State → RangeState → RangeState
   after_at at insn t x = after (λ _. value_at at) insn.op (cells_of t.stack) x
 
+  -- from an instruction with these types before it: to those that may follow, and to its handlers
   abbrev pub kept_edges : (at : ℕ) → JInsn → State → RangeState → List (Edge RangeState)
   kept_edges at insn t x = map (kept_edge (after_at at insn t x)) (successors r.body.insns at insn.op) ++ filter_map (kept_handler insn.at x) r.body.catches
 
+  -- from an instruction that the type table reaches
   abbrev pub kept_place : (at : ℕ) → Option JInsn → Option State → RangeState → List (Edge RangeState)
   kept_place at (Some insn) (Some t) x = kept_edges at insn t x
   kept_place at insn t x = []
 
+  -- the intervals of a method, as they are solved
   abbrev pub kept_flow : Dataflow RangeState
   kept_flow = flow_of (states r.body.max_locals) (entry r.body r.types) (λ at x. kept_place at (slice_get r.body.insns at) (get_or r.types at None) x)
 
@@ -52,5 +60,6 @@ module _ (r : Ranged) where
   kept_on_by at (Some insn) (Some t) x = if goes_on insn.op then Some (after_at at insn t x) else None
   kept_on_by at insn t x = None
 
+  -- the same from the place alone; nothing goes on behind the last instruction
   abbrev pub kept_on : (at : ℕ) → RangeState → Option RangeState
   kept_on at x = if nat_lt (at + 1) (length r.body.insns) then kept_on_by at (slice_get r.body.insns at) (get_or r.types at None) x else None

@@ -40,9 +40,11 @@ map_to f (y ∷ ys) x has = elim (contains_cons y ys x has) [
 ]
 
 module _ (r : Ranged) where
+  -- a state that the flow of this method may hold
   abbrev pub Own : RangeState → Type 0
   Own x = (states r.body.max_locals).Own x
 
+  -- the second state allows all that the first allows
   abbrev pub Below : RangeState → RangeState → Type 0
   Below x y = (states r.body.max_locals).Below x y
 

@@ -125,6 +125,7 @@ past_zero at = go (suc at == 0) refl
 
 -- A flow over the instructions of a method, with what is handed to a handler of an instruction at an offset.
 module _ {S : Type 0} (b : Body) (flow : Dataflow S) (to_handler : (offset : ℕ) → S → Catch → Option (Edge S)) where
+  -- What the edges of the flow keep to: they lead where the instructions do, and handlers get the same again.
   pub record GoesByInsns : Type 0 where
     -- each edge is one to a place that may follow, or one to a handler
     pub edges : (at : ℕ) (j : JInsn) (y : S) (e : Edge S) → slice_get b.insns at ≡ Some j → Contains (flow.edges at y) e → Contains (successors b.insns at j.op) e.to ⊎ Contains (filter_map (to_handler j.at y) b.catches) e

@@ -63,6 +63,7 @@ has_id ids name desc = list_any (λ i. bytes_eq i.name name && bytes_eq i.desc d
 unfoldable pub got_one : (List ℕ → List ℕ → Bool) → (class : List ℕ) → List MemberId → (name desc : List ℕ) → List MemberId
 got_one is_there class ids name desc = if is_there name desc || has_id ids name desc then ids else ids ++ record { class = class; name = name; desc = desc } ∷ []
 
+-- what was got, and of these methods each that a class neither has nor got
 unfoldable pub got : (List ℕ → List ℕ → Bool) → (class : List ℕ) → List MemberId → List Member → List MemberId
 got is_there class ids [] = ids
 got is_there class ids (m ∷ ms) = got is_there class (got_one is_there class ids m.name m.desc) ms
@@ -72,6 +73,7 @@ abbrev pub methods_of_option : Option Class → List Member
 methods_of_option None = []
 methods_of_option (Some c) = own_methods c
 
+-- the same of the own methods of the interfaces at these places, one interface after the other
 unfoldable pub got_all : List Class → (List ℕ → List ℕ → Bool) → (class : List ℕ) → List MemberId → List ℕ → List MemberId
 got_all w is_there class ids [] = ids
 got_all w is_there class ids (p ∷ ps) = got_all w is_there class (got is_there class ids (methods_of_option (slice_get w p))) ps

@@ -22,6 +22,7 @@ name_stands_at name known x (Some p) = unwrap_or (slice_get known p) false
 abbrev pub name_stands : List Class → List ℕ → List Bool → List ℕ → Bool
 name_stands w name known x = name_stands_at name known x (place_named w x)
 
+-- the same of at least one of these names
 unfoldable pub any_stands : List Class → List ℕ → List Bool → List (List ℕ) → Bool
 any_stands w name known xs = list_any (λ x. name_stands w name known x) xs
 

@@ -51,6 +51,7 @@ abbrev pub piece : Order → (listed : Bool) → List (Option Above) → Option 
 piece order listed rows None = []
 piece order listed rows (Some q) = row_at order (slice_get rows q) ++ (if listed then q ∷ [] else [])
 
+-- what these names add, one after the other
 unfoldable pub pieces : List Class → Order → (listed : Bool) → List (Option Above) → List (List ℕ) → List ℕ
 pieces w order listed rows [] = []
 pieces w order listed rows (x ∷ xs) = piece order listed rows (place_named w x) ++ pieces w order listed rows xs
@@ -78,6 +79,7 @@ is_ready_at rows (Some q) = is_row (slice_get rows q)
 abbrev pub is_ready : List Class → List (Option Above) → List ℕ → Bool
 is_ready w rows x = is_ready_at rows (place_named w x)
 
+-- each super and interface that the class lists is of no class, or its row is there
 unfoldable pub are_ready : List Class → List (Option Above) → Class → Bool
 are_ready w rows c = list_all (λ x. is_ready w rows x) c.supers && list_all (λ x. is_ready w rows x) c.interfaces
 

@@ -5,7 +5,7 @@ use Rattle.std.proofs.lemmas.Option.{slice_get-map}
 use Rattle.cjc_components.specs.Package.{LaidMethod, codes, has_applets, tokens}
 use Rattle.cjc_prepared.proofs.Sound.{is_tested}
 use Rattle.cjc_tables_by_token.specs.Loading.{naming}
-use Rattle.cjc_whole_laws.proofs.Emittable.{pooled}
+use Rattle.cjc_written_laws.proofs.WholeLaws.Emittable.{pooled}
 use Rattle.cjc_written_laws.proofs.Made.{short_at, whole_at, written_at}
 use Rattle.cjc_written_laws.proofs.Ready.{one_ready}
 use Rattle.cjc_written_laws.proofs.Shaping.{has_pool, is_shaped, layout_for, layout_is, layout_wide, pool_of, shaped_for}

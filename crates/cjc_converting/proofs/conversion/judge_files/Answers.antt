@@ -2,7 +2,7 @@ use Rattle.std.proofs.Common.{◌≡◌, ◌<◌, ◌≤◌, ◌^◌, ℕ, All, 
 use Rattle.std.proofs.lemmas.List.Elements.{All-get_or, All-weaker}
 use Rattle.std.proofs.lemmas.Option.{get_or_from_slice_get, slice_get_within}
 use Rattle.std.proofs.lemmas.Result.{IfOk-weaker, MatchResult-weaker}
-use Rattle.cjc_fitting_laws.proofs.Listed.{spelt}
+use Rattle.cjc_written_laws.proofs.FittingLaws.Listed.{spelt}
 use Rattle.cjc_judge.specs.Judged.{IsJudged, IsStopped}
 use Rattle.cjc_prepared.specs.Prepared.{IsSound, tested}
 use Rattle.cjc_whole.specs.Working.Shaped.{Stopped}

@@ -1,6 +1,6 @@
 use Rattle.std.proofs.Common.{◌∙◌, ap, sym}
 use Rattle.std.proofs.lemmas.Result.{err_from_is_err_and}
-use Rattle.cjc_fitting_laws.specs.LaidOut.{IsLaidOut}
+use Rattle.cjc_written_laws.specs.LaidOut.{IsLaidOut}
 use Rattle.cjc_list.specs.Listed.{ListTree}
 use Rattle.cjc_converting.proofs.Shapes.{by_list, its_codes, its_draft}
 use Rattle.cjc_converting.proofs.Stops.{stopped_by_sizes}

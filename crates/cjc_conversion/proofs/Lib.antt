@@ -1,4 +1,0 @@
-mod Shapes
-mod Told
-mod Answered
-mod OneAnswer

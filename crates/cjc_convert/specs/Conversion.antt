@@ -1,0 +1,33 @@
+-- What a conversion makes of a list and the files that it names.
+use Rattle.std.specs.Prelude.{◌≡◌, ℕ, List, []}
+use Rattle.cjc_bytes.specs.Breaks.{Break}
+use Rattle.cjc_bytes.specs.Format.{FileSpells}
+use Rattle.cjc_capwrite.specs.Files.{files_of}
+use Rattle.cjc_capwrite.specs.Writable.{IsSpelt}
+use Rattle.cjc_components.specs.Components.{components_of}
+use Rattle.cjc_components.specs.ExportFile.{export_of}
+use Rattle.cjc_components.specs.Limits.{limit_breaks}
+use Rattle.cjc_components.specs.Package.{Package}
+use Rattle.cjc_convert.specs.declared.conversion.Converted.{Converted}
+use Rattle.cjc_export.specs.ExportFile.{export_file}
+use Rattle.cjc_export.specs.Written.{written}
+use Rattle.cjc_judge.specs.Rules.{Breach}
+use Rattle.cjc_judge.specs.declared.judged.Judged.{Judged}
+use Rattle.cjc_list.specs.Listed.{ListTree}
+use Rattle.cjc_prepared.specs.Prepared.{IsSound, tested}
+use Rattle.cjc_whole.specs.Conversion.{IsPackageOf}
+
+-- The files break no rule, nor does what is written for them; and these are the component files and the export file of their
+-- package. They spell its components and its export file.
+pub record IsConverted (list : ListTree) (files : List (List ℕ)) (made : Converted) : Type 0 where
+  pub unbroken : (b : Break) → Breach list files tested b → ⊥
+  pub whole : Package
+  pub is_package : IsPackageOf list files whole
+  pub limits : limit_breaks whole ≡ []
+  pub caps : made.caps ≡ files_of (components_of whole)
+  pub caps_spelt : IsSpelt (components_of whole) made.caps
+  pub export : made.export ≡ written (export_of whole)
+  pub export_spelt : FileSpells export_file (export_of whole) made.export
+  -- what was read of the files, by which the laws of converted packages go
+  pub judged : Judged
+  pub sound : IsSound list files judged
