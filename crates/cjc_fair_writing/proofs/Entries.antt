@@ -13,12 +13,12 @@ use Rattle.cjc_components.specs.Names.{member_token}
 use Rattle.cjc_components.specs.Package.{Package, has_applets, world}
 use Rattle.cjc_export.specs.declared.tree.ExportClass.{ExportClass}
 use Rattle.cjc_export.specs.declared.tree.ExportMethod.{ExportMethod}
-use Rattle.cjc_fitting_laws.proofs.Exported.{is_bare, or_first, or_second}
-use Rattle.cjc_fitting_laws.proofs.Lists.{mapped_at}
-use Rattle.cjc_fitting_laws.proofs.Order.{has_cons, has_either, has_none}
-use Rattle.cjc_fitting_laws.proofs.OwnTokens.{Offers, added_token, offers_given, offers_shown, shown_token, slot_there}
-use Rattle.cjc_fitting_laws.proofs.Rules as Rules
-use Rattle.cjc_fitting_laws.proofs.Standing.{added_in, inherited_in, listed_in}
+use Rattle.cjc_written_laws.proofs.FittingLaws.Exported.{is_bare, or_first, or_second}
+use Rattle.cjc_written_laws.proofs.FittingLaws.Lists.{mapped_at}
+use Rattle.cjc_written_laws.proofs.FittingLaws.Order.{has_cons, has_either, has_none}
+use Rattle.cjc_written_laws.proofs.FittingLaws.OwnTokens.{Offers, added_token, offers_given, offers_shown, shown_token, slot_there}
+use Rattle.cjc_written_laws.proofs.FittingLaws.Rules as Rules
+use Rattle.cjc_written_laws.proofs.FittingLaws.Standing.{added_in, inherited_in, listed_in}
 use Rattle.cjc_narrow_laws.proofs.Own.{class_by_name}
 use Rattle.cjc_subset.specs.Checks.{check_breaks}
 use Rattle.cjc_subset.specs.Flags.{has_two_accesses, is_unfit_method}

@@ -16,7 +16,7 @@ use Rattle.cjc_export.specs.declared.tree.ExportMethod.{ExportMethod}
 use Rattle.cjc_export.specs.declared.tree.ExportTree.{ExportTree}
 use Rattle.cjc_export_laws.proofs.Own.{IsOwn, own_class}
 use Rattle.cjc_fair_exports.specs.Fair.{ExportsAreFair, OfEach, OfMethods, world_of}
-use Rattle.cjc_fitting_laws.proofs.Lists.{mapped_at}
+use Rattle.cjc_written_laws.proofs.FittingLaws.Lists.{mapped_at}
 use Rattle.cjc_narrow_laws.proofs.ClassNames.{each_name}
 use Rattle.cjc_narrow_laws.specs.Unbroken.{AreSpelt}
 use Rattle.cjc_solid_laws.specs.Files.{IsImportedClass}
