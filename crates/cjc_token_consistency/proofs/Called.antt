@@ -77,7 +77,7 @@ module _ (list : List ℕ) (p : Package) (sound : IsSound list p.files) (is_kin 
   module _ (m : MemberId) (d : Class) (known : class_named w m.class ≡ Some d) (class_here : is_interface d.flags ≡ false) where
     open_has : (t : ℕ) → token (slots (line_of w m.class)) (signature m) ≡ Some t → finds_hidden (line_of w m.class) (signature m) ≡ false → HasToken m
     open_has t e none =
-        let r = mean m.class d known (signature m) t e in
+        let r = mean m.class d known class_here (signature m) t e in
         record {
           number = t;
           there = open_there list p sound is_kin one_kin rules m.class d known class_here t (tokens m.class d (signature m) t known class_here e) r.method r.by_token;
@@ -98,8 +98,8 @@ module _ (list : List ℕ) (p : Package) (sound : IsSound list p.files) (is_kin 
         }
 
     has_token : IsSought w m → HasToken m
-    has_token (shown finds none) = let calls = virtual_calls m.class m.class d known itself in let r = calls.open_method (signature m) finds in open_has r.0 r.1 none
-    has_token (hidden finds) = let calls = virtual_calls m.class m.class d known itself in let r = calls.package_method (signature m) finds in package_has r.0 r.1 finds
+    has_token (shown finds none) = let calls = virtual_calls m.class m.class d d known class_here known itself in let r = calls.open_method (signature m) finds in open_has r.0 r.1 none
+    has_token (hidden finds) = let calls = virtual_calls m.class m.class d d known class_here known itself in let r = calls.package_method (signature m) finds in package_has r.0 r.1 finds
     has_token (got t e none selects) = open_has t e none
 
   virtual_there : (m : MemberId) → IsNamed w (OnObject m) → names_member (whole p) (exports_of p) (entry_of (names p) (keys.Virtual m)) ≡ true
@@ -125,7 +125,7 @@ module _ (list : List ℕ) (p : Package) (sound : IsSound list p.files) (is_kin 
       let rule = right_supers w c (let u = kept list p.files sound c (has_named w m.class c known) in u.supers) in
       let here : is_interface d.flags ≡ false = sym (ap is_interface_of super_is) ∙ rule.supers super listed in
       let r = has_token (of_class super m) d super_is here sought in
-      let keeps = once m.class super d super_is (below c known listed itself) in
+      let keeps = once m.class super c d known class_here super_is (below c known listed itself) in
       above_is m.class super c known own class_here supers (virtual_token p m)
       ∙ ap (has_virtual (whole p) (exports_of p) (class_ref p super)) (r.is (line_of w m.class) alike (keeps.inherited (signature m)) (keeps.hidden_inherited (signature m)))
       ∙ r.there

@@ -79,7 +79,7 @@ module _ (list : List ℕ) (p : Package) (sound : IsSound list p.files) (is_kin 
         let here : token (slots (line_at w c)) q ≡ Some t.0 = ap (λ x. token (slots (line_in w x)) q) (sym (kin-known w is_kin one_kin c.name c named)) ∙ t.1 in
         let low = tokens c.name c q t.0 named class_here t.1 in
         let other : (t.0 == 0xFF) ≡ false = grind (arith, nat_tests, low) in
-        let is = mean c.name c named q t.0 t.1 in
+        let is = mean c.name c named class_here q t.0 t.1 in
         ap (λ o. is_index (whole p) (exports_of p) s (or_zero o)) here
         ∙ ap (λ b. not b && has_virtual (whole p) (exports_of p) (Inside s) t.0) other
         ∙ ap (λ r. has_virtual (whole p) (exports_of p) r t.0) (sym stands)

@@ -6,7 +6,7 @@ use Rattle.std.specs.Str.{bytes_eq}
 use Rattle.std.proofs.lemmas.Bool.Decides.{nat_tests}
 use Rattle.std.proofs.lemmas.List.Quantifiers.{position-Some}
 use Rattle.std.proofs.lemmas.Option.{slice_get-get_or}
-use Rattle.cjc_bytes.specs.AccessFlags.{is_static, is_private}
+use Rattle.cjc_bytes.specs.AccessFlags.{is_interface, is_private, is_static}
 use Rattle.cjc_calls_by_token.specs.Dispatching.{SaysFile, event}
 use Rattle.cjc_card.specs.Dispatch.{Outward, dispatched_outward, exported_line, in_files, outward}
 use Rattle.cjc_components.specs.Names.{class_at as card_class}
@@ -291,9 +291,6 @@ module _ (p : Package) (facts : Facts p) where
     above_all : AllReached c.supers (kins.upwards (kin w c.supers))
     above_all = all_reached c.supers c.supers (kin w c.supers) (facts.is_kin c.supers) (λ y h. at (lists_one y c.supers h)) own_supers
 
-    told : IsOneToOne (all_methods line)
-    told = facts.rules.told x c is import
-
     -- a method of a class by its token
     own_token : (t : ℕ) (d : Class) (f : Found) (s : Signature) → own_by_token t d ≡ Some f → class_at w d.is_imported d.number ≡ Some d → named w f ≡ Some s
         → (i : ℕ) × (m : Member) × (slice_get d.methods i ≡ Some m) × (is_virtual m ≡ true) × (m.token ≡ t) × (signature_of m ≡ s)
@@ -317,14 +314,6 @@ module _ (p : Package) (facts : Facts p) where
             let both : Some (signature_of r.0) ≡ Some s = sym told_name ∙ ap (named w) same ∙ names in
             (i, r.0, r.1, two.0, number_same r.0.token t two.1, cc)
 
-    -- what any class of the export files above says is what is found
-    says_same : (t : ℕ) (m : Member) → In m (all_methods line) → is_virtual m ≡ true → m.token ≡ t → (k : ℕ) (e : ExportClass) → IsPlain e
-        → ((o : Member) → In o (imported k e).methods → In o (all_methods line)) → Says t (signature_of m) e
-    says_same t m there virtual token k e plain sub o is =
-        let r = method_says t k e o plain is in
-        let both = told (method_of_export o) m (sub (method_of_export o) r.0) there r.1 virtual in
-        both.0 (r.2 ∙ sym token)
-
     supers_same : c.supers ≡ has.entry.supers
     supers_same = ap (λ (q : Class). q.supers) has.class
 
@@ -339,63 +328,11 @@ module _ (p : Package) (facts : Facts p) where
         ap (λ (q : Member). is_static q.flags) (sym r.2)
         ∙ facts.plain x file.1 file.2 k r.0 r.1 (ap (λ (q : Member). is_initialiser q.name) r.2 ∙ init)
 
-    all_say : (t : ℕ) (m : Member) → In m (all_methods line) → is_virtual m ≡ true → m.token ≡ t → (us : List ExportClass) → ((k : ℕ) (e : ExportClass) → slice_get us k ≡ Some e → exports.class_named es e.name ≡ Some e)
-        → ((y : List ℕ) → is_one_of (map (λ (e : ExportClass). e.name) us) y ≡ true → IsAtOrAbove es c.supers y) → AllSay t (signature_of m) us
-    all_say t m there virtual token [] own up = tt
-    all_say t m there virtual token (e ∷ us) own up =
-        let known = own 0 e refl in
-        let d = facts.of_file e.name e known in
-        let r = reached_in c.supers e.name (up e.name (ap (λ q. q || is_one_of (map (λ (u : ExportClass). u.name) us) e.name) (bytes_same e.name))) own_supers (imported d.0 e) d.1 in (
-          says_same t m there virtual token d.0 e (facts.plain e.name e known) (λ o h. in_back o c.methods (all_methods (kins.upwards (kin w c.supers))) (r.1 o (in_front o (imported d.0 e).methods (all_methods (kins.upwards (kin w e.supers))) h))),
-          all_say t m there virtual token us (λ k u h. own (suc k) u h) (λ y h. up y (later_name y h)),
-        )
-      where
-        later_name : (y : List ℕ) → is_one_of (map (λ (u : ExportClass). u.name) us) y ≡ true → (bytes_eq e.name y || is_one_of (map (λ (u : ExportClass). u.name) us) y) ≡ true
-        later_name y h = by (bytes_eq e.name y)
-          where
-            by : (q : Bool) → (q || is_one_of (map (λ (u : ExportClass). u.name) us) y) ≡ true
-            by true = refl
-            by false = h
-
-    -- where one class of these lists a virtual method by the token, the first that does says what is found
-    event_by : (t : ℕ) (s : Signature) (m : Member) → In m (all_methods line) → is_virtual m ≡ true → m.token ≡ t → signature_of m ≡ s → (k : ℕ) (e : ExportClass) (o : ExportMethod) → slice_get (has.entry ∷ ups) k ≡ Some e → virtual_method t e ≡ Some o
-        → dispatched_outward has.entry.name (has.entry ∷ ups) t ≡ Outward (event x s)
-    event_by t s m there virtual token names k e o at_k finds =
-        let head : Says t (signature_of m) has.entry = says_same t m there virtual token has.number has.entry entry_plain
-        (λ q h. in_front q c.methods (all_methods (kins.upwards (kin w c.supers))) (subst (λ (d : Class). In q d.methods) (sym has.class) h)) in
-        let tail : AllSay t (signature_of m) ups = all_say t m there virtual token ups (own_at es ups (each_own es has.entry.supers))
-        (λ y h. subst (λ ns. IsAtOrAbove es ns y) (sym supers_same) (found_is es has.entry.supers y h).0) in
-        outward_first t (signature_of m) has.entry.name (has.entry ∷ ups) (head, tail) k e o at_k finds
-        ∙ ap (λ q. Outward (event q (signature_of m))) (sym (ap (λ (q : Class). q.name) has.class) ∙ name_is w x c is)
-        ∙ ap (λ q. Outward (event x q)) names
-
     exported_method : (t i k : ℕ) (e : ExportClass) (m : Member) → IsPlain e → slice_get (imported k e).methods i ≡ Some m → is_virtual m ≡ true → m.token ≡ t → (o : ExportMethod) × (virtual_method t e ≡ Some o)
     exported_method t i k e m plain at_i virtual token =
         let r = export_from e.methods i m at_i in
         find_there (λ (q : ExportMethod). exports.is_virtual q && (q.token == t)) e.methods i r.0 r.1
         (both_true (exports.is_virtual r.0) (r.0.token == t) (export_virtual r.0 (plain i r.0 r.1) ∙ ap is_virtual r.2 ∙ virtual) (same_number r.0.token t (ap (λ (q : Member). q.token) r.2 ∙ token)))
-
-    found_event : (t : ℕ) (f : Found) (s : Signature) → first (own_by_token t) line ≡ Some f → named w f ≡ Some s → in_files (exported_line (loaded p) (Some has.entry)) t ≡ Outward (event x s)
-    unfolding first
-    found_event t f s e names = by (own_by_token t c) refl e
-      where
-        by : (o : Option Found) → own_by_token t c ≡ o → or_else o (first (own_by_token t) (kins.upwards (kin w c.supers))) ≡ Some f → dispatched_outward has.entry.name (has.entry ∷ ups) t ≡ Outward (event x s)
-        by (Some g) own h =
-            let same : g ≡ f = cc in
-            let r = own_token t c f s (own ∙ ap Some same) (facts.placed x c is) names in
-            let o = exported_method t r.0 has.number has.entry r.1 entry_plain (ap (λ (q : Class). slice_get q.methods r.0) (sym has.class) ∙ r.2) r.3 r.4 in
-            event_by t s r.1 (in_front r.1 c.methods (all_methods (kins.upwards (kin w c.supers))) (in_at c.methods r.0 r.1 r.2)) r.3 r.4 r.5 0 has.entry o.0 refl o.1
-        by None own h =
-            let d = first_reached (own_by_token t) c.supers (kins.upwards (kin w c.supers)) f above_all h in
-            let known = d.1.known in
-            let r = own_token t d.0 f s d.2 (facts.placed d.0.name d.0 known) names in
-            let file = facts.in_file d.0.name d.0 known d.1.imported in
-            let name = all_found es has.entry.supers d.0.name file.1 (subst (λ ns. IsAtOrAbove es ns d.0.name) supers_same d.1.above) file.2 in
-            let u = class_of_name d.0.name ups name in
-            let same : u.1 ≡ file.1 =
-            let both : Some u.1 ≡ Some file.1 = sym (own_at es ups (each_own es has.entry.supers) u.0 u.1 u.2) ∙ ap (exports.class_named es) u.3 ∙ file.2 in cc in
-            let o = exported_method t r.0 file.0 file.1 r.1 (facts.plain d.0.name file.1 file.2) (ap (λ (q : Class). slice_get q.methods r.0) (sym file.3) ∙ r.2) r.3 r.4 in
-            event_by t s r.1 (in_back r.1 c.methods (all_methods (kins.upwards (kin w c.supers))) (d.3 r.1 (in_at d.0.methods r.0 r.1 r.2))) r.3 r.4 r.5 (suc u.0) u.1 o.0 u.2 (ap (virtual_method t) same ∙ o.1)
 
     -- what is found from an imported class is imported
     pub first_imported_found : (own : Class → Option Found) → ((d : Class) (f : Found) → own d ≡ Some f → f.imported ≡ d.is_imported) → (f : Found) → first own line ≡ Some f → f.imported ≡ true
@@ -406,13 +343,78 @@ module _ (p : Package) (facts : Facts p) where
         by (Some g) is_own h = let same : g ≡ f = cc in kind c f (is_own ∙ ap Some same) ∙ import
         by None is_own h = let d = first_reached own c.supers (kins.upwards (kin w c.supers)) f above_all h in kind d.0 f d.2 ∙ d.1.imported
 
-    pub file_says : SaysFile w (naming p) x c
-    file_says = record {
-      tree = has.file;
-      token = has.entry.token;
-      entry = has.entry;
-      on_card = sym (ap (card_class p) (name_is w x c is)) ∙ has.on_card;
-      there = has.there;
-      imported = λ t f e. first_imported_found (own_by_token t) (own_kind t) f e;
-      methods = found_event;
-    }
+    -- a class that is no interface: along it and its supers a virtual token has one name and descriptor
+    module _ (class_here : is_interface c.flags ≡ false) where
+      told : IsOneToOne (all_methods line)
+      told = facts.rules.told x c is import class_here
+
+      -- what any class of the export files above says is what is found
+      says_same : (t : ℕ) (m : Member) → In m (all_methods line) → is_virtual m ≡ true → m.token ≡ t → (k : ℕ) (e : ExportClass) → IsPlain e
+          → ((o : Member) → In o (imported k e).methods → In o (all_methods line)) → Says t (signature_of m) e
+      says_same t m there virtual token k e plain sub o is =
+          let r = method_says t k e o plain is in
+          let both = told (method_of_export o) m (sub (method_of_export o) r.0) there r.1 virtual in
+          both.0 (r.2 ∙ sym token)
+
+      all_say : (t : ℕ) (m : Member) → In m (all_methods line) → is_virtual m ≡ true → m.token ≡ t → (us : List ExportClass) → ((k : ℕ) (e : ExportClass) → slice_get us k ≡ Some e → exports.class_named es e.name ≡ Some e)
+          → ((y : List ℕ) → is_one_of (map (λ (e : ExportClass). e.name) us) y ≡ true → IsAtOrAbove es c.supers y) → AllSay t (signature_of m) us
+      all_say t m there virtual token [] own up = tt
+      all_say t m there virtual token (e ∷ us) own up =
+          let known = own 0 e refl in
+          let d = facts.of_file e.name e known in
+          let r = reached_in c.supers e.name (up e.name (ap (λ q. q || is_one_of (map (λ (u : ExportClass). u.name) us) e.name) (bytes_same e.name))) own_supers (imported d.0 e) d.1 in (
+            says_same t m there virtual token d.0 e (facts.plain e.name e known) (λ o h. in_back o c.methods (all_methods (kins.upwards (kin w c.supers))) (r.1 o (in_front o (imported d.0 e).methods (all_methods (kins.upwards (kin w e.supers))) h))),
+            all_say t m there virtual token us (λ k u h. own (suc k) u h) (λ y h. up y (later_name y h)),
+          )
+        where
+          later_name : (y : List ℕ) → is_one_of (map (λ (u : ExportClass). u.name) us) y ≡ true → (bytes_eq e.name y || is_one_of (map (λ (u : ExportClass). u.name) us) y) ≡ true
+          later_name y h = by (bytes_eq e.name y)
+            where
+              by : (q : Bool) → (q || is_one_of (map (λ (u : ExportClass). u.name) us) y) ≡ true
+              by true = refl
+              by false = h
+
+      -- where one class of these lists a virtual method by the token, the first that does says what is found
+      event_by : (t : ℕ) (s : Signature) (m : Member) → In m (all_methods line) → is_virtual m ≡ true → m.token ≡ t → signature_of m ≡ s → (k : ℕ) (e : ExportClass) (o : ExportMethod) → slice_get (has.entry ∷ ups) k ≡ Some e → virtual_method t e ≡ Some o
+          → dispatched_outward has.entry.name (has.entry ∷ ups) t ≡ Outward (event x s)
+      event_by t s m there virtual token names k e o at_k finds =
+          let head : Says t (signature_of m) has.entry = says_same t m there virtual token has.number has.entry entry_plain
+          (λ q h. in_front q c.methods (all_methods (kins.upwards (kin w c.supers))) (subst (λ (d : Class). In q d.methods) (sym has.class) h)) in
+          let tail : AllSay t (signature_of m) ups = all_say t m there virtual token ups (own_at es ups (each_own es has.entry.supers))
+          (λ y h. subst (λ ns. IsAtOrAbove es ns y) (sym supers_same) (found_is es has.entry.supers y h).0) in
+          outward_first t (signature_of m) has.entry.name (has.entry ∷ ups) (head, tail) k e o at_k finds
+          ∙ ap (λ q. Outward (event q (signature_of m))) (sym (ap (λ (q : Class). q.name) has.class) ∙ name_is w x c is)
+          ∙ ap (λ q. Outward (event x q)) names
+
+      found_event : (t : ℕ) (f : Found) (s : Signature) → first (own_by_token t) line ≡ Some f → named w f ≡ Some s → in_files (exported_line (loaded p) (Some has.entry)) t ≡ Outward (event x s)
+      unfolding first
+      found_event t f s e names = by (own_by_token t c) refl e
+        where
+          by : (o : Option Found) → own_by_token t c ≡ o → or_else o (first (own_by_token t) (kins.upwards (kin w c.supers))) ≡ Some f → dispatched_outward has.entry.name (has.entry ∷ ups) t ≡ Outward (event x s)
+          by (Some g) own h =
+              let same : g ≡ f = cc in
+              let r = own_token t c f s (own ∙ ap Some same) (facts.placed x c is) names in
+              let o = exported_method t r.0 has.number has.entry r.1 entry_plain (ap (λ (q : Class). slice_get q.methods r.0) (sym has.class) ∙ r.2) r.3 r.4 in
+              event_by t s r.1 (in_front r.1 c.methods (all_methods (kins.upwards (kin w c.supers))) (in_at c.methods r.0 r.1 r.2)) r.3 r.4 r.5 0 has.entry o.0 refl o.1
+          by None own h =
+              let d = first_reached (own_by_token t) c.supers (kins.upwards (kin w c.supers)) f above_all h in
+              let known = d.1.known in
+              let r = own_token t d.0 f s d.2 (facts.placed d.0.name d.0 known) names in
+              let file = facts.in_file d.0.name d.0 known d.1.imported in
+              let name = all_found es has.entry.supers d.0.name file.1 (subst (λ ns. IsAtOrAbove es ns d.0.name) supers_same d.1.above) file.2 in
+              let u = class_of_name d.0.name ups name in
+              let same : u.1 ≡ file.1 =
+              let both : Some u.1 ≡ Some file.1 = sym (own_at es ups (each_own es has.entry.supers) u.0 u.1 u.2) ∙ ap (exports.class_named es) u.3 ∙ file.2 in cc in
+              let o = exported_method t r.0 file.0 file.1 r.1 (facts.plain d.0.name file.1 file.2) (ap (λ (q : Class). slice_get q.methods r.0) (sym file.3) ∙ r.2) r.3 r.4 in
+              event_by t s r.1 (in_back r.1 c.methods (all_methods (kins.upwards (kin w c.supers))) (d.3 r.1 (in_at d.0.methods r.0 r.1 r.2))) r.3 r.4 r.5 (suc u.0) u.1 o.0 u.2 (ap (virtual_method t) same ∙ o.1)
+
+      pub file_says : SaysFile w (naming p) x c
+      file_says = record {
+        tree = has.file;
+        token = has.entry.token;
+        entry = has.entry;
+        on_card = sym (ap (card_class p) (name_is w x c is)) ∙ has.on_card;
+        there = has.there;
+        imported = λ t f e. first_imported_found (own_by_token t) (own_kind t) f e;
+        methods = found_event;
+      }

@@ -69,7 +69,7 @@ module _ (p : Package) (facts : Facts p) (subtypes : KeepsSubtypes (world p)) (t
   pub agrees : (x : List ℕ) (c : Class) (e : class_named w x ≡ Some c) (class_here : is_interface c.flags ≡ false) → SelectionsAgree w n (method_offset p) x (let s = class_stands p facts x c e class_here in s.foot)
   agrees x c e class_here =
       let s = class_stands p facts x c e class_here in
-      selections.selections_agree w n (method_offset p) x s.foot facts.virtual_calls facts.interface_calls
+      selections.selections_agree w n (method_offset p) x s.foot c e class_here facts.virtual_calls facts.interface_calls
       (dispatch.dispatch_agrees w facts.is_kin facts.one_kin n (method_offset p) facts.low kinds s.height x s.foot s.tower (height_fits p facts x c e s))
 
   -- ---- virtual calls
@@ -297,7 +297,7 @@ module _ (p : Package) (facts : Facts p) (subtypes : KeepsSubtypes (world p)) (t
     token_same = by sought
       where
         once : Rattle.cjc_vtable.specs.Laws.TokensOnce w m.class super
-        once = facts.tokens_once m.class super d super_is under
+        once = facts.tokens_once m.class super c d known class_here super_is under
 
         open_same : (t : ℕ) → token (slots (line_of w super)) (signature m) ≡ Some t → finds_hidden (line_of w super) (signature m) ≡ false → n.dispatch_token m ≡ n.dispatch_token (of_class super m)
         open_same t is no_hidden =
@@ -306,11 +306,11 @@ module _ (p : Package) (facts : Facts p) (subtypes : KeepsSubtypes (world p)) (t
 
         by : Rattle.cjc_written_calls.specs.Calls.IsSought w (of_class super m) → n.dispatch_token m ≡ n.dispatch_token (of_class super m)
         by (shown finds no_hidden) =
-            let calls = facts.virtual_calls super super d super_is itself in
+            let calls = facts.virtual_calls super super d d super_is super_class super_is itself in
             let r = calls.open_method (signature m) finds in
             open_same r.0 r.1 no_hidden
         by (hidden finds) =
-            let calls = facts.virtual_calls super super d super_is itself in
+            let calls = facts.virtual_calls super super d d super_is super_class super_is itself in
             let r = calls.package_method (signature m) finds in
             let at_super = hidden_own super d (signature m) super_is finds in
             let at_class = facts.own m.class c known own in

@@ -44,11 +44,11 @@ module _ (p : Package) (facts : Facts p) where
   unfolding line
   line_of_names x = refl
 
-  tower_file : (x : List ℕ) (c : Class) → class_named w x ≡ Some c → c.is_imported ≡ true → Stands x
-  tower_file x c e import = record {
+  tower_file : (x : List ℕ) (c : Class) → class_named w x ≡ Some c → c.is_imported ≡ true → is_interface c.flags ≡ false → Stands x
+  tower_file x c e import class_here = record {
     height = 0;
     foot = x;
-    tower = of_file c e import (file_says p facts x c e import);
+    tower = of_file c e import (file_says p facts x c e import class_here);
     imported = ap first_imported (line_is x c e) ∙ ap (λ t. if t then c.name else first_imported (upwards (kin w c.supers))) import ∙ name_is w x c e;
     low = λ d k f g. omega arith;
     flat = λ d f g. refl;
@@ -78,7 +78,7 @@ module _ (p : Package) (facts : Facts p) where
       by c.is_imported refl (λ s b is named_s not_interface. tower_by supers s b is named_s not_interface) (let same : d ≡ c = (let both : Some d ≡ Some c = sym known ∙ e in cc) in subst (λ (q : Class). IsKin w q.supers supers) same ks)
     where
       by : (t : Bool) → c.is_imported ≡ t → ((s : List ℕ) (b : Class) → IsKin w (s ∷ []) supers → class_named w s ≡ Some b → is_interface b.flags ≡ false → Stands s) → IsKin w c.supers supers → Stands x
-      by true is rest ks = tower_file x c e is
+      by true is rest ks = tower_file x c e is class_here
       by false is rest ks =
           let one = facts.rules.single x c e is in
           let up = facts.super_there x one.0 c e is one.1 in

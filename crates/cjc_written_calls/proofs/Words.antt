@@ -215,7 +215,7 @@ module _ (p : Package) (facts : Facts p) (subtypes : KeepsSubtypes (world p)) (t
   got_taken : (m : MemberId) (d : Class) → class_named w m.class ≡ Some d → is_interface d.flags ≡ false → is_initialiser m.name ≡ false → (t : ℕ) → token (slots (line_of w m.class)) (signature m) ≡ Some t → finds_hidden (line_of w m.class) (signature m) ≡ false → (s : Signature) → signature_of m.desc ≡ Some s
       → card.words (loaded p) (callee n (OnObject m)) ≡ Some (words_with true m)
   got_taken m d known class_here plain t e none s sig =
-      let r = mean m.class d known (signature m) t e in
+      let r = mean m.class d known class_here (signature m) t e in
       let stands = class_stands p facts m.class d known class_here in
       let agree = dispatch_agrees w facts.is_kin facts.one_kin n (method_offset p) facts.low kinds stands.height m.class stands.foot stands.tower (height_fits p facts m.class d known stands) in
       ap (λ q. card.words_of (loaded p) true (dispatched (tower (loaded p) (n.class m.class)) q)) (dispatched_shown p tokens m d known class_here none t e)
@@ -224,12 +224,12 @@ module _ (p : Package) (facts : Facts p) (subtypes : KeepsSubtypes (world p)) (t
 
   virtual_taken : (m : MemberId) (d : Class) → class_named w m.class ≡ Some d → is_interface d.flags ≡ false → is_initialiser m.name ≡ false → IsSought w m → (s : Signature) → signature_of m.desc ≡ Some s → card.words (loaded p) (callee n (OnObject m)) ≡ Some (words_with true m)
   virtual_taken m d known class_here plain (shown finds none) s sig =
-      let calls = facts.virtual_calls m.class m.class d known itself in
+      let calls = facts.virtual_calls m.class m.class d d known class_here known itself in
       let t = calls.open_method (signature m) finds in
-      let r = mean m.class d known (signature m) t.0 t.1 in
+      let r = mean m.class d known class_here (signature m) t.0 t.1 in
       selected_virtual m d known class_here plain (shown finds none) s sig r.method (sym t.2 ∙ r.by_token)
   virtual_taken m d known class_here plain (hidden finds) s sig =
-      let calls = facts.virtual_calls m.class m.class d known itself in
+      let calls = facts.virtual_calls m.class m.class d d known class_here known itself in
       let t = calls.package_method (signature m) finds in
       let r = mean_here m.class d known (signature m) t.0 t.1 in
       selected_virtual m d known class_here plain (hidden finds) s sig r.method (sym t.2 ∙ r.by_token)

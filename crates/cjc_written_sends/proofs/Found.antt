@@ -228,7 +228,7 @@ module _ (list : List ℕ) (p : Package) (sound : IsSound list p.files) (facts :
   -- a public or protected method, by the token of its slot
   open_dispatches : (y : List ℕ) (d : Class) → class_named w y ≡ Some d → finds_shown (line_of w y) s ≡ true → (f : Found) → first selects (line w y) ≡ Some f → (t : ℕ) → token (slots (line_of w y)) s ≡ Some t → Dispatches y (Open t)
   open_dispatches y d known shown_here f selected t is x c e class_here under =
-      let calls = facts.virtual_calls x y d known under in
+      let calls = facts.virtual_calls x y c d e class_here known under in
       let r = calls.open_method s shown_here in
       let g = selected_below under f selected in
       let both : Some r.0 ≡ Some t = sym r.1 ∙ is in
@@ -239,7 +239,7 @@ module _ (list : List ℕ) (p : Package) (sound : IsSound list p.files) (facts :
   -- a package-visible one
   hidden_dispatches : (y : List ℕ) (d : Class) → class_named w y ≡ Some d → finds_hidden (line_of w y) s ≡ true → (f : Found) → first selects (line w y) ≡ Some f → (t : ℕ) → token (hidden_slots (line_of w y)) s ≡ Some t → Dispatches y (Hidden 0 t)
   hidden_dispatches y d known hidden_here f selected t is x c e class_here under =
-      let calls = facts.virtual_calls x y d known under in
+      let calls = facts.virtual_calls x y c d e class_here known under in
       let r = calls.package_method s hidden_here in
       let g = selected_below under f selected in
       let both : Some r.0 ≡ Some t = sym r.1 ∙ is in
@@ -252,7 +252,7 @@ module _ (list : List ℕ) (p : Package) (sound : IsSound list p.files) (facts :
   outside_dispatches y d m known import there is_one names f selected x c e class_here under =
       let g = selected_below under f selected in
       let a = agree x c e class_here in
-      let same = imported_calls x y d m known import under there is_one in
+      let same = imported_calls x y c d m e class_here known import under there is_one in
       (g.0, g.1, a.open_method m.token g.0 s (same ∙ ap (selection w x) names ∙ g.1) (line_found p facts true id.name id.desc x g.0 g.1))
 
   -- ---- the method that is found, and its token
@@ -359,9 +359,9 @@ module _ (list : List ℕ) (p : Package) (sound : IsSound list p.files) (facts :
   own_line : (x : List ℕ) (c : Class) → class_named w x ≡ Some c → c.is_imported ≡ false → line_of w x ≡ Declared c (added w c) (line_in w (kin w c.supers))
   own_line x c e own = ap (line_in w) (kin-known w facts.is_kin facts.one_kin x c e) ∙ ap (λ t. if t then Imported (c ∷ upwards (kin w c.supers)) else Declared c (added w c) (line_in w (kin w c.supers))) own
 
-  -- an imported class: its export file and those of what stands above it
-  pub files_told : (x : List ℕ) (c : Class) → class_named w x ≡ Some c → c.is_imported ≡ true → (k : ℕ) → Told x (first finds (line w x)) (found_token n.loaded (suc k) (Some (n.class x)) id)
-  files_told x c known import k = subst (Told x (first finds (line w x))) (sym token_is) (by (first finds (c ∷ upwards (kin w c.supers))) refl)
+  -- an imported class that is no interface: its export file and those of what stands above it
+  pub files_told : (x : List ℕ) (c : Class) → class_named w x ≡ Some c → c.is_imported ≡ true → is_interface c.flags ≡ false → (k : ℕ) → Told x (first finds (line w x)) (found_token n.loaded (suc k) (Some (n.class x)) id)
+  files_told x c known import class_here k = subst (Told x (first finds (line w x))) (sym token_is) (by (first finds (c ∷ upwards (kin w c.supers))) refl)
     where
       h : HasEntry p c
       h = Rattle.cjc_written_calls.proofs.Files.has p facts x c known import
@@ -407,7 +407,7 @@ module _ (list : List ℕ) (p : Package) (sound : IsSound list p.files) (facts :
 
           open_one : (r : FirstOf (c ∷ upwards (kin w c.supers)) f) (g : Found) → first selects (line w x) ≡ Some g → is_virtual r.method ≡ true → (t : Bool) → is_shown r.method ≡ t → Dispatches x (Open r.method.token)
           open_one r g selected is_one true shown_one =
-              let once = facts.tokens_once x x c known itself in
+              let once = facts.tokens_once x x c c known class_here known itself in
               let there = once.listed c r.method known import r.among shown_one in
               open_dispatches x c known (shown_is r ∙ shown_one) g selected r.method.token (ap (token (slots (line_of w x))) (sym r.names) ∙ there)
           open_one r g selected is_one false not_shown = outside_dispatches x c r.method known import r.among (Rattle.cjc_written_sends.proofs.Tokens.virtual_kinds r.method is_one not_shown) r.names g selected
@@ -466,13 +466,13 @@ module _ (list : List ℕ) (p : Package) (sound : IsSound list p.files) (facts :
             by : (t : Bool) → is_shown m ≡ t → Told x (Some f) (Some (described_token (record { part = 0; method = method_descriptor p c (member_at c (length c.fields + i)) })))
             by true shown_one =
                 let finds_it : finds_shown (line_of w x) s ≡ true = ap (λ l. finds_shown l s) (own_line x c known own) ∙ ap (λ o. passes is_shown o (finds_shown (line_in w (kin w c.supers)) s)) first_one ∙ shown_one in
-                let calls = facts.virtual_calls x x c known itself in
+                let calls = facts.virtual_calls x x c c known class_here known itself in
                 let r = calls.open_method s finds_it in
                 subst (λ t. Told x (Some f) (Some t)) (sym (shown_described list p sound facts x c known own class_here i m there is_one shown_one r.0 (ap (token (slots (line_of w x))) names ∙ r.1) (tokens x c s r.0 known class_here r.1)))
                 (bears sends (open_dispatches x c known finds_it chosen_one.0 selected r.0 r.1))
             by false not_shown =
                 let finds_it : finds_hidden (line_of w x) s ≡ true = ap (λ l. finds_hidden l s) (own_line x c known own) ∙ ap (λ o. passes is_hidden o (finds_hidden (line_in w (kin w c.supers)) s)) first_one ∙ Rattle.cjc_written_sends.proofs.Tokens.virtual_kinds m is_one not_shown in
-                let calls = facts.virtual_calls x x c known itself in
+                let calls = facts.virtual_calls x x c c known class_here known itself in
                 let r = calls.package_method s finds_it in
                 subst (λ t. Told x (Some f) (Some t)) (sym (hidden_described list p sound facts x c known own class_here i m there is_one not_shown r.0 (ap (token (hidden_slots (line_of w x))) names ∙ r.1)))
                 (bears sends (hidden_dispatches x c known finds_it chosen_one.0 selected r.0 r.1))
@@ -485,7 +485,10 @@ module _ (list : List ℕ) (p : Package) (sound : IsSound list p.files) (facts :
 
     -- What is found from a class over superclasses has its token, or none where no script may send it.
     pub line_told : {h : ℕ} {x foot : List ℕ} → SaysTower w n (method_offset p) h x foot → (c : Class) → class_named w x ≡ Some c → is_interface c.flags ≡ false → (k : ℕ) → h ≤ k → Told x (first finds (line w x)) (found_token n.loaded (suc k) (Some (n.class x)) id)
-    line_told {x = x} (of_file d known import file) c e class_here k low = files_told x d known import k
+    line_told {x = x} (of_file d known import file) c e class_here k low =
+        let both : Some d ≡ Some c = sym known ∙ e in
+        let same : d ≡ c = cc in
+        files_told x d known import (ap (λ (q : Class). is_interface q.flags) same ∙ class_here) k
     line_told (of_package d super known own supers t rest) c e class_here zero low = absurd (omega (arith, low))
     line_told {x = x} (of_package d super known own supers t rest) c e class_here (suc k) low =
         let both : Some d ≡ Some c = sym known ∙ e in

@@ -105,7 +105,7 @@ module _ (list : List ℕ) (p : Package) (sound : IsSound list p.files) (facts :
     object_told =
         let o = facts.object_class in
         subst (λ q. Told object (first finds (line w object)) (found_token n.loaded (suc (depth n.loaded)) q id)) (sym kinds.object_class)
-        (sought.files_told list p sound facts tokens kinds imported_calls id object o.0 o.1 o.2 (depth n.loaded))
+        (sought.files_told list p sound facts tokens kinds imported_calls id object o.0 o.1 o.2 o.3 (depth n.loaded))
 
     -- by token, by the name of a class
     class_token_sent : (d : Class) → class_named w id.class ≡ Some d → is_interface d.flags ≡ false → (o : Option card.Class) → sent_to n.loaded o (n.class id.class) id ≡ sent_by n.loaded o (n.class id.class) id (found_token n.loaded (suc (depth n.loaded)) (Some (n.class id.class)) id)
@@ -327,20 +327,24 @@ module _ (list : List ℕ) (p : Package) (sound : IsSound list p.files) (facts :
         told_none y o t (sought.bears b dispatches) = let clash : false ≡ true = sym (unsendable b.hit) ∙ b.is in absurd (cc)
 
         -- of an initialiser the classes of the package say nothing
-        initialiser_none : is_initialiser id.name ≡ true → {h : ℕ} {y foot : List ℕ} → SaysTower w n (method_offset p) h y foot → (k : ℕ) → h ≤ k → IsNone (found_token n.loaded (suc k) (Some (n.class y)) id)
-        initialiser_none init {y = y} (of_file d known import file) k low = told_none y (first finds (line w y)) (found_token n.loaded (suc k) (Some (n.class y)) id) (sought.files_told list p sound facts tokens kinds imported_calls id y d known import k)
-        initialiser_none init (of_package d super known own_class listed t rest) zero low = absurd (omega (arith, low))
-        initialiser_none init {y = y} (of_package d super known own_class listed t rest) (suc k) low =
+        initialiser_none : is_initialiser id.name ≡ true → {h : ℕ} {y foot : List ℕ} → SaysTower w n (method_offset p) h y foot → (b : Class) → class_named w y ≡ Some b → is_interface b.flags ≡ false → (k : ℕ) → h ≤ k → IsNone (found_token n.loaded (suc k) (Some (n.class y)) id)
+        initialiser_none init {y = y} (of_file d known import file) b named_b plain k low =
+            let both : Some d ≡ Some b = sym known ∙ named_b in
+            let same : d ≡ b = cc in
+            told_none y (first finds (line w y)) (found_token n.loaded (suc k) (Some (n.class y)) id) (sought.files_told list p sound facts tokens kinds imported_calls id y d known import (ap (λ (q : Class). is_interface q.flags) same ∙ plain) k)
+        initialiser_none init (of_package d super known own_class listed t rest) b named_b plain zero low = absurd (omega (arith, low))
+        initialiser_none init {y = y} (of_package d super known own_class listed t rest) b named_b plain (suc k) low =
+            let up = facts.super_there y super d known own_class listed in
             subst IsNone
             (sym (sought.step_up list p sound facts tokens kinds imported_calls id y super d k known own_class t
             ∙ ap (λ b. token_or (option_map (λ m. record { part = 0; method = m }) (option_map (method_descriptor p d) (if b then None else finds d))) (found_token n.loaded (suc k) (Some (n.class super)) id)) init))
-            (initialiser_none init rest k (omega (arith, low)))
+            (initialiser_none init rest up.0 up.1 up.2 k (omega (arith, low)))
 
         class_none : (d : Class) → class_named w id.class ≡ Some d → is_interface d.flags ≡ false → IsNone (found_token n.loaded (suc (depth n.loaded)) (Some (n.class id.class)) id)
         class_none d named named_class = by (is_initialiser id.name) refl
           where
             by : (b : Bool) → is_initialiser id.name ≡ b → IsNone (found_token n.loaded (suc (depth n.loaded)) (Some (n.class id.class)) id)
-            by true init = let q = class_stands p facts id.class d named named_class in initialiser_none init q.tower (depth n.loaded) (height_fits p facts id.class d named q)
+            by true init = let q = class_stands p facts id.class d named named_class in initialiser_none init q.tower d named named_class (depth n.loaded) (height_fits p facts id.class d named q)
             by false plain =
                 let q = class_stands p facts id.class d named named_class in
                 told_none id.class (first finds (line w id.class)) (found_token n.loaded (suc (depth n.loaded)) (Some (n.class id.class)) id)
