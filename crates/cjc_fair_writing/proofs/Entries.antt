@@ -18,8 +18,9 @@ use Rattle.cjc_written_laws.proofs.FittingLaws.Lists.{mapped_at}
 use Rattle.cjc_written_laws.proofs.FittingLaws.Order.{has_cons, has_either, has_none}
 use Rattle.cjc_written_laws.proofs.FittingLaws.OwnTokens.{Offers, added_token, offers_given, offers_shown, shown_token, slot_there}
 use Rattle.cjc_written_laws.proofs.FittingLaws.Rules as Rules
-use Rattle.cjc_written_laws.proofs.FittingLaws.Standing.{added_in, inherited_in, listed_in}
-use Rattle.cjc_narrow_laws.proofs.Own.{class_by_name}
+use Rattle.cjc_written_laws.proofs.FittingLaws.Standing.{IsInheritedAt, added_in, inherited_in, listed_in}
+use Rattle.cjc_tables_by_token.proofs.Clean.{own_name}
+use Rattle.cjc_tables_by_token.proofs.Filed.{own_in}
 use Rattle.cjc_subset.specs.Checks.{check_breaks}
 use Rattle.cjc_subset.specs.Flags.{has_two_accesses, is_unfit_method}
 use Rattle.cjc_subset.specs.Members.{imports}
@@ -130,8 +131,8 @@ no_both e = absurd cc
 -- ---- a package
 
 module _ (list : List ℕ) (p : Package) (codes : List MethodCode) (settings : Settings) (sound : IsSound list p.files) (checks : check_breaks list p.files codes settings ≡ []) (ordered : IsOrdered (world p))
-    (visible : (n : ℕ) (c : ExportClass) → (let v = p.files in slice_get (imports v.exports) n ≡ Some c) → (k : ℕ) (m : ExportMethod) → slice_get c.methods k ≡ Some m → is_private m.flags ≡ false)
-    (bound : (n : ℕ) (c : ExportClass) → (let v = p.files in slice_get (imports v.exports) n ≡ Some c) → is_interface c.flags ≡ true → (k : ℕ) (m : ExportMethod) → slice_get c.methods k ≡ Some m → is_static m.flags ≡ false) where
+    (imports_visible : (n : ℕ) (c : ExportClass) → (let v = p.files in slice_get (imports v.exports) n ≡ Some c) → (k : ℕ) (m : ExportMethod) → slice_get c.methods k ≡ Some m → is_private m.flags ≡ false)
+    (imports_bound : (n : ℕ) (c : ExportClass) → (let v = p.files in slice_get (imports v.exports) n ≡ Some c) → is_interface c.flags ≡ true → (k : ℕ) (m : ExportMethod) → slice_get c.methods k ≡ Some m → is_static m.flags ≡ false) where
   abbrev w : List Class
   w = world p
 
@@ -154,7 +155,7 @@ module _ (list : List ℕ) (p : Package) (codes : List MethodCode) (settings : S
       by (in_export_file n c at) here g =
           let place = has-get m (map method_of_export c.methods) g in
           let k = mapped_at method_of_export c.methods place.0 m place.1 in
-          (ap (λ (y : Member). is_private y.flags) (sym k.2) ∙ visible n c at place.0 k.0 k.1, ap (λ (y : Member). is_static y.flags) (sym k.2) ∙ bound n c at here place.0 k.0 k.1)
+          (ap (λ (y : Member). is_private y.flags) (sym k.2) ∙ imports_visible n c at place.0 k.0 k.1, ap (λ (y : Member). is_static y.flags) (sym k.2) ∙ imports_bound n c at here place.0 k.0 k.1)
 
   -- ---- what is found
 
@@ -244,7 +245,7 @@ module _ (list : List ℕ) (p : Package) (codes : List MethodCode) (settings : S
     c = declared n t
 
     named : class_named w t.name ≡ Some c
-    named = class_by_name p.files list sound.classes sound.unbroken n t there
+    named = own_name list p.files sound c (own_in p.files sound.classes sound.exports n t there)
 
     abbrev tok : ℕ → ℕ
     tok j = member_token p (Some (member_at c j))
@@ -277,7 +278,7 @@ module _ (list : List ℕ) (p : Package) (codes : List MethodCode) (settings : S
       pub visible : is_private e.flags ≡ false
       pub plain : is_initialiser e.name ≡ false
       pub exposed : is_exposed e.flags ≡ true
-      pub token : is_virtual (method_of_export e) ≡ true → token (slots (line_of w t.name)) (signature_of (method_of_export e)) ≡ Some e.token
+      pub its_token : is_virtual (method_of_export e) ≡ true → token (slots (line_of w t.name)) (signature_of (method_of_export e)) ≡ Some e.token
 
     module _ (plain : is_interface t.flags ≡ false) (rules : KeepsRules w) where
       same_line : line_of w t.name ≡ line_at w c
@@ -311,7 +312,7 @@ module _ (list : List ℕ) (p : Package) (codes : List MethodCode) (settings : S
             visible = exposed_visible m.flags one l.0;
             plain = l.1;
             exposed = l.0;
-            token = λ virtual.
+            its_token = λ virtual.
                 let shown = both_true (is_exposed m.flags) (is_virtual m) l.0 virtual in
                 at_slot (signature_of m) (fields + k) (offers_shown p.files (has_applets p) n t there plain k m at shown) (ap (λ q. unwrap_or q 0xFF) (shown_token p.files (has_applets p) n t there plain k m at shown));
           }
@@ -324,7 +325,7 @@ module _ (list : List ℕ) (p : Package) (codes : List MethodCode) (settings : S
         visible = refl;
         plain = added_plain w c k m at;
         exposed = refl;
-        token = λ virtual. at_slot (signature_of m) (fields + length methods + k) (offers_given p.files (has_applets p) n t there plain k m at) (ap (λ q. unwrap_or q 0xFF) (added_token p.files (has_applets p) n t there plain k m at));
+        its_token = λ virtual. at_slot (signature_of m) (fields + length methods + k) (offers_given p.files (has_applets p) n t there plain k m at) (ap (λ q. unwrap_or q 0xFF) (added_token p.files (has_applets p) n t there plain k m at));
       }
 
       given_entry : (e : ExportMethod) → Has e B → IsEntry e
@@ -336,6 +337,7 @@ module _ (list : List ℕ) (p : Package) (codes : List MethodCode) (settings : S
       inherited_entry : (e : ExportMethod) → Has e C → IsEntry e
       inherited_entry e h = by slot.0 slot.1 slot.2
         where
+          r : IsInheritedAt w c 0 (row (line_at w c)) e
           r = inherited_in w c 0 (row (line_at w c)) e h
 
           slot : (q : Option Signature) × (slice_get (slots (line_at w c)) r.place ≡ Some q) × (meant_by (implementing (line_at w c)) q ≡ Some r.found)
@@ -352,7 +354,7 @@ module _ (list : List ℕ) (p : Package) (codes : List MethodCode) (settings : S
                 visible = ap (λ (y : Member). is_private y.flags) (sym same) ∙ m.visible;
                 plain = ap (λ (y : Member). is_initialiser y.name) (sym same) ∙ m.plain;
                 exposed = r.exposed;
-                token = λ virtual.
+                its_token = λ virtual.
                     ap (token (slots (line_of w t.name))) signature
                     ∙ place_token (line_of w t.name) told r.place s (ap (λ l. slice_get (slots l) r.place) same_line ∙ at)
                     ∙ ap Some (sym zero_more);

@@ -39,15 +39,14 @@ use Rattle.cjc_vtable.proofs.Worlds.{tokens_are_once}
 use Rattle.cjc_vtable.specs.Calls.{IsOneToOne, selects}
 use Rattle.cjc_vtable.specs.Laws.{KeepsRules, Under, below, itself}
 use Rattle.cjc_world.specs.Classes.{Class, Member, all_classes, class_named, declared, imported, method_of_export}
-use Rattle.cjc_world.specs.Kin.{End, IsKin, Kin, Known, Lists, after, foremost, is_below, kin, line, upwards}
-use Rattle.cjc_world.specs.Kin as kin_specs
+use Rattle.cjc_world.specs.Kin.{End, IsKin, Kin, Known, Lists, after, foremost, grown, is_below, kin, line, upwards}
 use Rattle.cjc_world.specs.Lookup.{object}
 use Rattle.cjc_world.proofs.Cycles.{class_named-name}
 use Rattle.cjc_world.proofs.Settled.{IsKin-one, kin-IsKin, kin-known, lists-front}
 use Rattle.cjc_written_sends.specs.Sends.{ExportsImplement}
 use Rattle.cjc_fair_writing.specs.Open.{ExportsAreOpen}
 use Rattle.cjc_fair_writing.proofs.Entries.{IsBound, IsEntry, class_entry, interface_entry}
-use Rattle.cjc_fair_writing.proofs.Kinds.{IsFrom, IsImport, IsKnown, IsOn, IsWritten, all_from, beside, cs, found_by_name, import_known, import_there, known, of_one, on_line, own_here, own_named, own_there, still_acyclic, v}
+use Rattle.cjc_fair_writing.proofs.Beside.{IsFrom, IsImport, IsKnown, IsOn, IsWritten, all_from, beside, cs, found_by_name, import_named, import_there, known, of_one, on_line, own_here, own_named, own_there, still_acyclic, v}
 use Rattle.cjc_fair_writing.proofs.Upwards.{line_under, under_super}
 use Rattle.cjc_fair_writing.proofs.Worlds.{found}
 
@@ -99,7 +98,7 @@ both_true false b e f = cc
 module _ (list : List ℕ) (p : Package) (codes : List MethodCode) (settings : Settings) (sound : IsSound list p.files) (checks : check_breaks list p.files codes settings ≡ []) (spelt : AreSpelt p.files)
     (ordered : IsOrdered (world p)) (rules : KeepsRules (world p)) (root : IsImportedClass p.files object)
     (fair : (let files = p.files in ExportsAreFair files.exports)) (open_ones : (let files = p.files in ExportsAreOpen files.exports))
-    (before «after» : List ExportTree) (split : (let files = p.files in files.exports ≡ before ++ «after»)) where
+    (before following : List ExportTree) (split : (let files = p.files in files.exports ≡ before ++ following)) where
   abbrev w : List Class
   w = world p
 
@@ -107,19 +106,19 @@ module _ (list : List ℕ) (p : Package) (codes : List MethodCode) (settings : S
   exports = let files = p.files in files.exports
 
   abbrev all : List ExportClass
-  all = cs list p sound before «after» split
+  all = cs list p sound before following split
 
   abbrev u : List Class
-  u = v list p sound before «after» split
+  u = v list p sound before following split
 
   abbrev Knows : ExportClass → Type 0
-  Knows = IsKnown list p sound before «after» split
+  Knows = IsKnown list p sound before following split
 
   knows : (e : ExportClass) → Has e all → Knows e
-  knows = known list p sound before «after» split
+  knows = known list p sound before following split
 
   -- so it is with each class of these files
-  each : (P : ExportClass → Type 0) → ((n : ℕ) (e : ExportClass) → slice_get (imports exports) n ≡ Some e → P e) → ((k : ℕ) (c : Class) → slice_get (exported_classes p) k ≡ Some c → P (export_class p c)) → OfEach (beside list p sound before «after» split) P
+  each : (P : ExportClass → Type 0) → ((n : ℕ) (e : ExportClass) → slice_get (imports exports) n ≡ Some e → P e) → ((k : ℕ) (c : Class) → slice_get (exported_classes p) k ≡ Some c → P (export_class p c)) → OfEach (beside list p sound before following split) P
   each P of_import of_own n e at =
       let k = knows e (get-has e all n at) in
       ⊎_elim
@@ -162,41 +161,41 @@ module _ (list : List ℕ) (p : Package) (codes : List MethodCode) (settings : S
     -- it is not java/lang/Object
     not_object : c.name ≡ object → ⊥
     not_object same =
-        let one : c ≡ imported root.number root.class = same_class (sym (own_named list p sound before «after» split k c at) ∙ ap (class_named w) same ∙ root.found) in
-        no_both (ap (λ (d : Class). d.is_imported) (sym one) ∙ own_here list p sound before «after» split k c at)
+        let one : c ≡ imported root.number root.class = same_class (sym (own_named list p sound before following split k c at) ∙ ap (class_named w) same ∙ root.found) in
+        no_both (ap (λ (d : Class). d.is_imported) (sym one) ∙ own_here list p sound before following split k c at)
 
   -- ---- the easy ones
 
-  names : OfEach (beside list p sound before «after» split) (λ c. IsClassName c.name)
-  names = each (λ c. IsClassName c.name) fair.names (λ k c at. each_name p.files list sound.classes sound.unbroken spelt c.name c (own_named list p sound before «after» split k c at))
+  names : OfEach (beside list p sound before following split) (λ c. IsClassName c.name)
+  names = each (λ c. IsClassName c.name) fair.names (λ k c at. each_name p.files list sound.classes sound.unbroken spelt c.name c (own_named list p sound before following split k c at))
 
-  visible : OfEach (beside list p sound before «after» split) (λ c. OfMethods c (λ m. is_private m.flags ≡ false))
+  visible : OfEach (beside list p sound before following split) (λ c. OfMethods c (λ m. is_private m.flags ≡ false))
   visible = each (λ c. OfMethods c (λ m. is_private m.flags ≡ false)) fair.visible (λ k c at j m g. (written_plain k c at m (get-has m (let x = export_class p c in x.methods) j g)).0)
 
-  initialisers : OfEach (beside list p sound before «after» split) (λ c. OfMethods c (λ m. is_initialiser m.name ≡ true → is_static m.flags ≡ true))
+  initialisers : OfEach (beside list p sound before following split) (λ c. OfMethods c (λ m. is_initialiser m.name ≡ true → is_static m.flags ≡ true))
   initialisers = each (λ c. OfMethods c (λ m. is_initialiser m.name ≡ true → is_static m.flags ≡ true)) fair.initialisers
       (λ k c at j m g is. no_both (sym is ∙ (written_plain k c at m (get-has m (let x = export_class p c in x.methods) j g)).1))
 
-  interfaces : OfEach (beside list p sound before «after» split) (λ c. is_interface c.flags ≡ true → OfMethods c (λ m. is_static m.flags ≡ false))
+  interfaces : OfEach (beside list p sound before following split) (λ c. is_interface c.flags ≡ true → OfMethods c (λ m. is_static m.flags ≡ false))
   interfaces = each (λ c. is_interface c.flags ≡ true → OfMethods c (λ m. is_static m.flags ≡ false)) fair.interfaces
       (λ k c at is j m g. (let r = written_bound k c at is m (get-has m (let x = export_class p c in x.methods) j g) in r.bound))
 
-  roots_static : OfEach (beside list p sound before «after» split) (λ c. c.name ≡ object → OfMethods c (λ m. is_static m.flags ≡ true → is_initialiser m.name ≡ true))
+  roots_static : OfEach (beside list p sound before following split) (λ c. c.name ≡ object → OfMethods c (λ m. is_static m.flags ≡ true → is_initialiser m.name ≡ true))
   roots_static = each (λ c. c.name ≡ object → OfMethods c (λ m. is_static m.flags ≡ true → is_initialiser m.name ≡ true)) fair.root
       (λ k c at same. absurd (not_object k c at same))
 
-  exposed : OfEach (beside list p sound before «after» split) (λ c. is_interface c.flags ≡ false → OfMethods c (λ m. is_exposed m.flags ≡ true))
+  exposed : OfEach (beside list p sound before following split) (λ c. is_interface c.flags ≡ false → OfMethods c (λ m. is_exposed m.flags ≡ true))
   exposed = each (λ c. is_interface c.flags ≡ false → OfMethods c (λ m. is_exposed m.flags ≡ true)) open_ones.exposed
       (λ k c at plain j m g. (let r = written_entry k c at plain m (get-has m (let x = export_class p c in x.methods) j g) in r.exposed))
 
-  top : OfEach (beside list p sound before «after» split) (λ c. c.name ≡ object → c.supers ≡ [])
+  top : OfEach (beside list p sound before following split) (λ c. c.name ≡ object → c.supers ≡ [])
   top = each (λ c. c.name ≡ object → c.supers ≡ []) open_ones.top (λ k c at same. absurd (not_object k c at same))
 
   -- ---- superclasses of interfaces
 
   -- above java/lang/Object is nothing
   object_alone : names_upwards (kin w (object ∷ [])) ≡ object ∷ []
-  unfolding kin kin_specs.grown
+  unfolding kin grown
   object_alone =
       let o = imported root.number root.class in
       let name : o.name ≡ object = class_named-name w object o root.found in
@@ -207,12 +206,12 @@ module _ (list : List ℕ) (p : Package) (codes : List MethodCode) (settings : S
 
   own_supers : (k : ℕ) (c : Class) → slice_get (exported_classes p) k ≡ Some c → is_interface (let x = export_class p c in x.flags) ≡ true → superclasses w c ≡ object ∷ []
   own_supers k c at is =
-      let named = own_named list p sound before «after» split k c at in
-      let s = rules.single c.name c named (own_here list p sound before «after» split k c at) in
+      let named = own_named list p sound before following split k c at in
+      let s = rules.single c.name c named (own_here list p sound before following split k c at) in
       let up_is : s.0 ≡ object = ordered.only_object c.name s.0 c named (sym (kept k c at) ∙ is) (subst (Lists s.0) (sym s.1) foremost) in
       ap (λ xs. each_once [] (names_upwards (kin w xs))) (s.1 ∙ ap (λ x. x ∷ []) up_is) ∙ ap (each_once []) object_alone
 
-  supers : OfEach (beside list p sound before «after» split) (λ c. is_interface c.flags ≡ true → c.supers ≡ object ∷ [])
+  supers : OfEach (beside list p sound before following split) (λ c. is_interface c.flags ≡ true → c.supers ≡ object ∷ [])
   supers = each (λ c. is_interface c.flags ≡ true → c.supers ≡ object ∷ []) fair.supers own_supers
 
   -- ---- java/lang/Object above each class
@@ -224,7 +223,7 @@ module _ (list : List ℕ) (p : Package) (codes : List MethodCode) (settings : S
       let is = abroad c f in
       let r = import_filed p.files sound.classes sound.exports c (has_named w x c f) is in
       let e = r.1 in
-      let there = found_by_name list p sound before «after» split e (import_there list p sound before «after» split r.0 e r.2) in
+      let there = found_by_name list p sound before following split e (import_there list p sound before following split r.0 e r.2) in
       let name : e.name ≡ x = ap (λ (d : Class). d.name) (sym r.3) ∙ class_named-name w x c f in
       let l_here : Lists m e.supers = subst (λ (d : Class). Lists m d.supers) r.3 l in
       below (imported there.0 e) (ap (class_named u) (sym name) ∙ there.1) l_here (import_under m z rest (λ d g. ordered.abroad x m c d f is (lists-front m c.supers c.interfaces l) g))
@@ -234,7 +233,7 @@ module _ (list : List ℕ) (p : Package) (codes : List MethodCode) (settings : S
   under_line x y d (below {y = m} c e l rest) f = up c e l (under_line m y d rest f)
 
   abbrev object_there : (n : ℕ) × (class_named u (let o = root.class in o.name) ≡ Some (imported n root.class))
-  object_there = found_by_name list p sound before «after» split root.class (import_there list p sound before «after» split root.number root.class root.listed)
+  object_there = found_by_name list p sound before following split root.class (import_there list p sound before following split root.number root.class root.listed)
 
   object_name : (let o = root.class in o.name) ≡ object
   object_name = class_named-name w object (imported root.number root.class) root.found
@@ -243,7 +242,7 @@ module _ (list : List ℕ) (p : Package) (codes : List MethodCode) (settings : S
   object_found = ap (class_named u) (sym object_name) ∙ object_there.1
 
   below_object : (x : List ℕ) → Under u x object → is_below u x object ≡ true
-  below_object x under = ap (is_below u x) (sym object_name) ∙ line_is_below u (still_acyclic list p sound before «after» split) x (imported object_there.0 root.class) (under_line x object (imported object_there.0 root.class) under object_found)
+  below_object x under = ap (is_below u x) (sym object_name) ∙ line_is_below u (still_acyclic list p sound before following split) x (imported object_there.0 root.class) (under_line x object (imported object_there.0 root.class) under object_found)
 
   -- a class that is no interface has it above it in the world of the package
   over_object : (x : List ℕ) (c : Class) → class_named w x ≡ Some c → is_interface c.flags ≡ false → Under w x object
@@ -254,26 +253,26 @@ module _ (list : List ℕ) (p : Package) (codes : List MethodCode) (settings : S
 
   import_root : (n : ℕ) (e : ExportClass) → slice_get (imports exports) n ≡ Some e → is_interface e.flags ≡ false → is_below u e.name object ≡ true
   import_root n e at plain =
-      let k = import_known list p sound before «after» split n e at in
-      below_object e.name (import_under e.name object (over_object e.name (imported n e) k.named plain) (λ c f. ap (λ (d : Class). d.is_imported) (same_class (sym f ∙ k.named))))
+      let named = import_named list p sound before following split n e at in
+      below_object e.name (import_under e.name object (over_object e.name (imported n e) named plain) (λ c f. ap (λ (d : Class). d.is_imported) (same_class (sym f ∙ named))))
 
   own_root : (k : ℕ) (c : Class) → slice_get (exported_classes p) k ≡ Some c → is_interface (let x = export_class p c in x.flags) ≡ false → is_below u c.name object ≡ true
   own_root k c at plain =
       let e = export_class p c in
-      let there = found_by_name list p sound before «after» split e (own_there list p sound before «after» split k c at) in
-      let l : Lists object (superclasses w c) = listed c.name (over_object c.name c named (sym (kept k c at) ∙ plain)) refl in
+      let there = found_by_name list p sound before following split e (own_there list p sound before following split k c at) in
+      let l : Lists object (superclasses w c) = listed c.name object (over_object c.name c named (sym (kept k c at) ∙ plain)) refl refl in
       below_object c.name (below (imported there.0 e) there.1 l itself)
     where
       named : class_named w c.name ≡ Some c
-      named = own_named list p sound before «after» split k c at
+      named = own_named list p sound before following split k c at
 
-      listed : (x : List ℕ) → Under w x object → x ≡ c.name → Lists object (superclasses w c)
-      listed x itself same = absurd (not_object k c at (sym same))
-      listed x (below {y = m} d f l rest) same =
+      listed : (x y : List ℕ) → Under w x y → x ≡ c.name → y ≡ object → Lists y (superclasses w c)
+      listed x y itself same is = absurd (not_object k c at (sym same ∙ is))
+      listed x y (below {y = m} d f l rest) same is =
           let one : d ≡ c = same_class (sym f ∙ ap (class_named w) same ∙ named) in
-          under_super w ordered.acyclic c m object (subst (λ (b : Class). Lists m b.supers) one l) rest
+          under_super w ordered.acyclic c m y (subst (λ (b : Class). Lists m b.supers) one l) rest
 
-  roots : OfEach (beside list p sound before «after» split) (λ c. is_interface c.flags ≡ false → is_below u c.name object ≡ true)
+  roots : OfEach (beside list p sound before following split) (λ c. is_interface c.flags ≡ false → is_below u c.name object ≡ true)
   roots = each (λ c. is_interface c.flags ≡ false → is_below u c.name object ≡ true) import_root own_root
 
   -- ---- tokens
@@ -311,13 +310,13 @@ module _ (list : List ℕ) (p : Package) (codes : List MethodCode) (settings : S
       k : Knows e
       k = knows e h
 
-      of_import : IsImport list p sound before «after» split e k.class → token (slots (line_of w e.name)) (signature_of m) ≡ Some m.token
+      of_import : IsImport list p sound before following split e k.class → token (slots (line_of w e.name)) (signature_of m) ≡ Some m.token
       of_import j =
           let c = k.class in
           let t = tokens_are_once w (λ xs. kin-IsKin w ordered.acyclic xs) (IsKin-one w) rules e.name e.name c c k.named (known_flags e k ∙ plain) k.named itself in
           t.listed c m k.named (ap (λ (d : Class). d.is_imported) j.is) (In-front m c.methods (all_methods (upwards (kin w c.supers))) (subst (λ (d : Class). In m d.methods) (sym j.is) i)) (both_true (is_exposed m.flags) (is_virtual m) (all_exposed e h plain m i) virtual)
 
-      of_own : IsWritten list p sound before «after» split e k.class → token (slots (line_of w e.name)) (signature_of m) ≡ Some m.token
+      of_own : IsWritten list p sound before following split e k.class → token (slots (line_of w e.name)) (signature_of m) ≡ Some m.token
       of_own j =
           let c = k.class in
           let at = in_at m (map method_of_export e.methods) i in
@@ -327,11 +326,11 @@ module _ (list : List ℕ) (p : Package) (codes : List MethodCode) (settings : S
           let own_one = own_class p j.place c j.listed in
           let name : (let t = own_one.tree in t.name) ≡ e.name = ap (λ (d : Class). d.name) (sym own_one.is) ∙ ap (λ (x : ExportClass). x.name) j.is in
           subst (λ (y : Member). token (slots (line_of w e.name)) (signature_of y) ≡ Some y.token) r.2
-          (subst (λ x. token (slots (line_of w x)) (signature_of (method_of_export r.0)) ≡ Some (let z = r.0 in z.token)) name (entry.token (ap is_virtual r.2 ∙ virtual)))
+          (subst (λ x. token (slots (line_of w x)) (signature_of (method_of_export r.0)) ≡ Some (let z = r.0 in z.token)) name (entry.its_token (ap is_virtual r.2 ∙ virtual)))
 
   -- and in each class below it
-  its_token : (e : ExportClass) → Has e all → is_interface e.flags ≡ false → (m : Member) → IsFrom list p sound before «after» split e.name m → is_virtual m ≡ true → token (slots (line_of w e.name)) (signature_of m) ≡ Some m.token
-  its_token e h plain m f virtual =
+  token_below : (e : ExportClass) → Has e all → is_interface e.flags ≡ false → (m : Member) → IsFrom list p sound before following split e.name m → is_virtual m ≡ true → token (slots (line_of w e.name)) (signature_of m) ≡ Some m.token
+  token_below e h plain m f virtual =
       let k = knows e h in
       let l = knows f.class f.there in
       let t = tokens_are_once w (λ xs. kin-IsKin w ordered.acyclic xs) (IsKin-one w) rules e.name (let q = f.class in q.name) k.class l.class k.named (known_flags e k ∙ plain) l.named f.under in
@@ -340,21 +339,21 @@ module _ (list : List ℕ) (p : Package) (codes : List MethodCode) (settings : S
   some_number : {a b : ℕ} → Some a ≡ Some b → a ≡ b
   some_number e = cc
 
-  tokens : OfEach (beside list p sound before «after» split) (λ c. is_interface c.flags ≡ false → IsOneToOne (map method_of_export c.methods ++ all_methods (upwards (kin u c.supers))))
+  tokens : OfEach (beside list p sound before following split) (λ c. is_interface c.flags ≡ false → IsOneToOne (map method_of_export c.methods ++ all_methods (upwards (kin u c.supers))))
   tokens place e at plain m n i j virtual other =
       let h = get-has e all place at in
       let S = slots (line_of w e.name) in
-      let a = its_token e h plain m (all_from list p sound before «after» split e h m i) virtual in
-      let b = its_token e h plain n (all_from list p sound before «after» split e h n j) other in
+      let a = token_below e h plain m (all_from list p sound before following split e h m i) virtual in
+      let b = token_below e h plain n (all_from list p sound before following split e h n j) other in
       (λ same. one_method S (signature_of m) (signature_of n) m.token a (b ∙ ap (λ (t : ℕ). Some t) (sym same)), λ same. some_number (sym a ∙ ap (token S) same ∙ b))
 
   -- ---- methods for those of interfaces
 
   implements : ExportsImplement u
   implements x c i asked given e is plain f interface sub among choice =
-      let acyclic_here = still_acyclic list p sound before «after» split in
+      let acyclic_here = still_acyclic list p sound before following split in
       let o = of_one (line u x) given (chosen-In selects (signature_of asked) (all_methods (line u x)) given choice) in
-      let on = on_line list p sound before «after» split x o.0 (of_line u acyclic_here x o.0 o.1) in
+      let on = on_line list p sound before following split x o.0 (of_line u acyclic_here x o.0 o.1) in
       let first = found all x c e in
       let under : Under w (let q = first.class in q.name) (let q = on.class in q.name) = subst (λ y. Under w y (let q = on.class in q.name)) (sym first.name) on.under in
       let plain_first : is_interface (let q = first.class in q.flags) ≡ false = ap (λ (d : Class). is_interface d.flags) (sym first.is) ∙ plain in
@@ -362,7 +361,7 @@ module _ (list : List ℕ) (p : Package) (codes : List MethodCode) (settings : S
 
   -- ---- all
 
-  pub still_fair : ExportsAreFair (beside list p sound before «after» split)
+  pub still_fair : ExportsAreFair (beside list p sound before following split)
   still_fair = record {
     names = names;
     roots = roots;
@@ -375,5 +374,5 @@ module _ (list : List ℕ) (p : Package) (codes : List MethodCode) (settings : S
     root = roots_static;
   }
 
-  pub still_open : ExportsAreOpen (beside list p sound before «after» split)
+  pub still_open : ExportsAreOpen (beside list p sound before following split)
   still_open = record { exposed = exposed; top = top }

@@ -8,10 +8,9 @@ use Rattle.cjc_components.specs.Package.{Package, world}
 use Rattle.cjc_export.specs.declared.tree.ExportClass.{ExportClass}
 use Rattle.cjc_export.specs.declared.tree.ExportTree.{ExportTree}
 use Rattle.cjc_export_laws.proofs.Own.{IsOwn, own_class}
-use Rattle.cjc_narrow_laws.proofs.Own.{class_by_name}
 use Rattle.cjc_subset.specs.Members.{imports}
 use Rattle.cjc_tables_by_token.proofs.Clean.{own_name}
-use Rattle.cjc_tables_by_token.proofs.Filed.{has-back, has-front, import_in}
+use Rattle.cjc_tables_by_token.proofs.Filed.{has-back, has-front, import_in, own_in}
 use Rattle.cjc_tables_by_token.specs.Sound.{IsSound}
 use Rattle.cjc_tokens.specs.Members.{In, all_methods}
 use Rattle.cjc_upward_laws.specs.Upwards.{Below, OnLine, here, up}
@@ -20,7 +19,7 @@ use Rattle.cjc_upward_laws.proofs.Lines.{above_on, listed_line}
 use Rattle.cjc_vtable.proofs.Filed.{Has, at_front, behind, get-has, has-get}
 use Rattle.cjc_vtable.proofs.Given.{In-split}
 use Rattle.cjc_vtable.specs.Laws.{Under, below, itself}
-use Rattle.cjc_world.specs.Classes.{Class, Member, all_classes, class_named, imported, method_of_export, numbered}
+use Rattle.cjc_world.specs.Classes.{Class, Member, class_named, declared, imported, method_of_export, numbered}
 use Rattle.cjc_world.specs.Kin.{Above, IsAcyclic, Kin, Lists, directly, kin, onwards, upwards}
 use Rattle.cjc_world.proofs.Cycles.{class_named-name}
 use Rattle.cjc_world.proofs.Settled.{kin-IsKin, lists-behind, lists-front}
@@ -50,23 +49,23 @@ mapped f [] y h = no_item h
 mapped f (x ∷ xs) y h = ⊎_elim (λ same. (x, at_front, sym same)) (λ g. let r = mapped f xs y g in (r.0, behind r.1, r.2)) (item_cons (f x) y (map f xs) h)
 
 -- a class of the file in the midst, or of the others
-either_file : (t : ExportTree) (before «after» : List ExportTree) (e : ExportClass) → Has e (imports (before ++ t ∷ «after»)) → Has e t.classes ⊎ Has e (imports (before ++ «after»))
-either_file t [] «after» e h = has_either e t.classes (imports «after») h
-either_file t (u ∷ before) «after» e h = ⊎_elim
-    (λ a. inr (has-front e u.classes (imports (before ++ «after»)) a))
-    (λ b. ⊎_elim (λ c. inl c) (λ c. inr (has-back e u.classes (imports (before ++ «after»)) c)) (either_file t before «after» e b))
-    (has_either e u.classes (imports (before ++ t ∷ «after»)) h)
+either_file : (t : ExportTree) (before following : List ExportTree) (e : ExportClass) → Has e (imports (before ++ t ∷ following)) → Has e t.classes ⊎ Has e (imports (before ++ following))
+either_file t [] following e h = has_either e t.classes (imports following) h
+either_file t (u ∷ before) following e h = ⊎_elim
+    (λ a. inr (has-front e u.classes (imports (before ++ following)) a))
+    (λ b. ⊎_elim (λ c. inl c) (λ c. inr (has-back e u.classes (imports (before ++ following)) c)) (either_file t before following e b))
+    (has_either e u.classes (imports (before ++ t ∷ following)) h)
 
-from_file : (t : ExportTree) (before «after» : List ExportTree) (e : ExportClass) → Has e t.classes → Has e (imports (before ++ t ∷ «after»))
-from_file t [] «after» e h = has-front e t.classes (imports «after») h
-from_file t (u ∷ before) «after» e h = has-back e u.classes (imports (before ++ t ∷ «after»)) (from_file t before «after» e h)
+from_file : (t : ExportTree) (before following : List ExportTree) (e : ExportClass) → Has e t.classes → Has e (imports (before ++ t ∷ following))
+from_file t [] following e h = has-front e t.classes (imports following) h
+from_file t (u ∷ before) following e h = has-back e u.classes (imports (before ++ t ∷ following)) (from_file t before following e h)
 
-from_others : (t : ExportTree) (before «after» : List ExportTree) (e : ExportClass) → Has e (imports (before ++ «after»)) → Has e (imports (before ++ t ∷ «after»))
-from_others t [] «after» e h = has-back e t.classes (imports «after») h
-from_others t (u ∷ before) «after» e h = ⊎_elim
-    (λ a. has-front e u.classes (imports (before ++ t ∷ «after»)) a)
-    (λ b. has-back e u.classes (imports (before ++ t ∷ «after»)) (from_others t before «after» e b))
-    (has_either e u.classes (imports (before ++ «after»)) h)
+from_others : (t : ExportTree) (before following : List ExportTree) (e : ExportClass) → Has e (imports (before ++ following)) → Has e (imports (before ++ t ∷ following))
+from_others t [] following e h = has-back e t.classes (imports following) h
+from_others t (u ∷ before) following e h = ⊎_elim
+    (λ a. has-front e u.classes (imports (before ++ t ∷ following)) a)
+    (λ b. has-back e u.classes (imports (before ++ t ∷ following)) (from_others t before following e b))
+    (has_either e u.classes (imports (before ++ following)) h)
 
 -- a method among those of some classes is of one of them
 pub of_one : (ds : List Class) (m : Member) → In m (all_methods ds) → (d : Class) × Among d ds × In m d.methods
@@ -81,13 +80,13 @@ same_class e = cc
 
 -- ---- a package with the export files beside it
 
-module _ (list : List ℕ) (p : Package) (sound : IsSound list p.files) (before «after» : List ExportTree) (split : (let files = p.files in files.exports ≡ before ++ «after»)) where
+module _ (list : List ℕ) (p : Package) (sound : IsSound list p.files) (before following : List ExportTree) (split : (let files = p.files in files.exports ≡ before ++ following)) where
   abbrev w : List Class
   w = world p
 
   -- the export file that is written, with the others
   abbrev pub beside : List ExportTree
-  beside = before ++ export_of p ∷ «after»
+  beside = before ++ export_of p ∷ following
 
   -- their classes
   abbrev pub cs : List ExportClass
@@ -117,17 +116,20 @@ module _ (list : List ℕ) (p : Package) (sound : IsSound list p.files) (before 
     pub named : class_named w e.name ≡ Some class
     pub kind : IsImport e class ⊎ IsWritten e class
 
-  pub import_known : (n : ℕ) (e : ExportClass) → (let files = p.files in slice_get (imports files.exports) n ≡ Some e) → IsKnown e
+  pub import_named : (n : ℕ) (e : ExportClass) → (let files = p.files in slice_get (imports files.exports) n ≡ Some e) → class_named w e.name ≡ Some (imported n e)
+  import_named n e at = own_name list p.files sound (imported n e) (import_in p.files sound.classes sound.exports n e at)
+
+  import_known : (n : ℕ) (e : ExportClass) → (let files = p.files in slice_get (imports files.exports) n ≡ Some e) → IsKnown e
   import_known n e at = record {
     class = imported n e;
-    named = own_name list p.files sound (imported n e) (import_in p.files sound.classes sound.exports n e at);
+    named = import_named n e at;
     kind = inl (record { number = n; listed = at; is = refl });
   }
 
   pub own_named : (k : ℕ) (c : Class) → slice_get (exported_classes p) k ≡ Some c → class_named w c.name ≡ Some c
   own_named k c at =
       let own = own_class p k c at in
-      ap (λ (d : Class). class_named w d.name) own.is ∙ class_by_name p.files list sound.classes sound.unbroken own.number own.tree own.is_tree ∙ ap (λ (d : Class). Some d) (sym own.is)
+      ap (λ (d : Class). class_named w d.name) own.is ∙ own_name list p.files sound (declared own.number own.tree) (own_in p.files sound.classes sound.exports own.number own.tree own.is_tree) ∙ ap (λ (d : Class). Some d) (sym own.is)
 
   pub own_here : (k : ℕ) (c : Class) → slice_get (exported_classes p) k ≡ Some c → c.is_imported ≡ false
   own_here k c at = let own = own_class p k c at in ap (λ (d : Class). d.is_imported) own.is
@@ -146,11 +148,11 @@ module _ (list : List ℕ) (p : Package) (sound : IsSound list p.files) (before 
   known e h = ⊎_elim
       (λ a. written_known e a)
       (λ b. let g = subst (λ ts. Has e (imports ts)) (sym split) b in let at = has-get e (imports (let files = p.files in files.exports)) g in import_known at.0 e at.1)
-      (either_file (export_of p) before «after» e h)
+      (either_file (export_of p) before following e h)
 
   -- each stands there
   pub import_there : (n : ℕ) (e : ExportClass) → (let files = p.files in slice_get (imports files.exports) n ≡ Some e) → Has e cs
-  import_there n e at = from_others (export_of p) before «after» e (subst (λ ts. Has e (imports ts)) split (get-has e (imports (let files = p.files in files.exports)) n at))
+  import_there n e at = from_others (export_of p) before following e (subst (λ ts. Has e (imports ts)) split (get-has e (imports (let files = p.files in files.exports)) n at))
 
   mapped_there : (xs : List Class) (k : ℕ) (c : Class) → slice_get xs k ≡ Some c → Has (export_class p c) (map (export_class p) xs)
   mapped_there [] k c at = absurd cc
@@ -158,7 +160,7 @@ module _ (list : List ℕ) (p : Package) (sound : IsSound list p.files) (before 
   mapped_there (x ∷ xs) (suc k) c at = behind (mapped_there xs k c at)
 
   pub own_there : (k : ℕ) (c : Class) → slice_get (exported_classes p) k ≡ Some c → Has (export_class p c) cs
-  own_there k c at = from_file (export_of p) before «after» (export_class p c) (mapped_there (exported_classes p) k c at)
+  own_there k c at = from_file (export_of p) before following (export_class p c) (mapped_there (exported_classes p) k c at)
 
   -- no two have one name
   one_kind : (a b : ExportClass) (c d : Class) → c ≡ d → IsImport a c ⊎ IsWritten a c → IsImport b d ⊎ IsWritten b d → a ≡ b
