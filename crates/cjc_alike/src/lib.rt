@@ -26,7 +26,6 @@ ghost use Rattle.cjc_prepared.specs.Prepared.{IsSound};
 ghost use Rattle.cjc_sentences.specs.Consistent.{Consistent};
 ghost use Rattle.cjc_whole.specs.Conversion.{IsPackageOf};
 
-use crate::{converted_components_run_by_token, names_are_met};
 pub use call_opcodes::calls_have_opcodes;
 use cjc_fair_exports::fair_exports_are_sound;
 use cjc_sound_runs::sound_packages_run_alike;

@@ -123,11 +123,12 @@ module _ (list : List ℕ) (files : Files) (sound : IsSound list files) (fair : 
   -- ---- tokens
 
   pub exports_agree : ExportsAgree w
-  exports_agree x c e is =
+  exports_agree x c e is class_here =
       let r = filed list files sound x c e is in
+      let plain : is_interface r.1.flags ≡ false = ap (λ (v : Class). is_interface v.flags) (sym r.3) ∙ class_here in
       let abroad = supers_abroad list files sound x c e is in
       subst (λ k. IsOneToOne (c.methods ++ all_methods (upwards k))) (sym (same_kin list files sound c.supers abroad))
-      (subst (λ (q : Class). IsOneToOne (q.methods ++ all_methods (upwards (kin (world_of files.exports) q.supers)))) (sym r.3) (fair.tokens r.0 r.1 r.2))
+      (subst (λ (q : Class). IsOneToOne (q.methods ++ all_methods (upwards (kin (world_of files.exports) q.supers)))) (sym r.3) (fair.tokens r.0 r.1 r.2 plain))
 
   -- ---- interfaces
 

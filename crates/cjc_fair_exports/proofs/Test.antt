@@ -1,6 +1,6 @@
 -- A test of export files by which they are fair.
 use Rattle.std.proofs.Common.{◌≡◌, ℕ, zero, suc, refl, sym, ap, subst, ◌∙◌, arith, Bool, true, false, List, [], ◌∷◌, ◌++◌, map}
-use Rattle.std.specs.Prelude.{◌==◌, ◌&&◌, ◌||◌, not, Some, slice_get, if◌then◌else◌}
+use Rattle.std.specs.Prelude.{◌==◌, ◌&&◌, ◌||◌, not, Option, Some, None, slice_get, if◌then◌else◌}
 use Rattle.std.specs.List.{list_all}
 use Rattle.std.specs.Str.{bytes_eq}
 use Rattle.std.proofs.lemmas.Bool.{eqb-true}
@@ -13,12 +13,14 @@ use Rattle.cjc_export.specs.declared.tree.ExportMethod.{ExportMethod}
 use Rattle.cjc_export.specs.declared.tree.ExportTree.{ExportTree}
 use Rattle.cjc_fair_exports.specs.Fair.{ExportsAreFair, world_of}
 use Rattle.cjc_subset.specs.Members.{imports}
-use Rattle.cjc_tokens.specs.Members.{In, all_methods, first_of, is_virtual, later, same, signature_of}
+use Rattle.cjc_tokens.specs.Members.{In, all_methods, chosen, first_of, is_exposed, is_virtual, later, same, signature_of}
 use Rattle.cjc_tokens.proofs.Facts.{same-refl, same-true}
-use Rattle.cjc_vtable.specs.Calls.{IsOneToOne}
+use Rattle.cjc_vtable.specs.Calls.{IsOneToOne, selects}
 use Rattle.cjc_world.specs.Classes.{Class, Member, class_named, method_of_export}
-use Rattle.cjc_world.specs.Kin.{is_below, kin, upwards}
+use Rattle.cjc_world.specs.Kin.{is_below, kin, line, upwards}
 use Rattle.cjc_world.specs.Lookup.{object}
+use Rattle.cjc_world.specs.Subtype.{is_subtype}
+use Rattle.cjc_world.proofs.Cycles.{class_named-name}
 use Rattle.cjc_world.proofs.Settled.{bytes-refl, bytes-true}
 use Rattle.cjc_written_sends.specs.Sends.{ExportsImplement}
 
@@ -135,12 +137,24 @@ unfoldable pub fair_class : List Class → ExportClass → Bool
 fair_class w c =
     names_from false c.name
     && (if is_interface c.flags then same_names c.supers (object ∷ []) else is_below w c.name object)
-    && one_to_one (members_above w c)
+    && (is_interface c.flags || one_to_one (members_above w c))
     && list_all (fair_method (is_interface c.flags) (bytes_eq c.name object)) c.methods
+
+-- what is selected, if anything, is public or protected
+abbrev exposes : Option Member → Bool
+exposes None = true
+exposes (Some given) = is_exposed given.flags
+
+-- for a method of the interface, selection on the class gives no package-visible one, where the class implements it
+unfoldable pub implements_one : List Class → (interface class : Class) → Bool
+implements_one w i c = is_interface c.flags || not (is_subtype w c.name i.name) || list_all (λ asked. exposes (chosen selects (signature_of asked) (all_methods (line w c.name)))) i.methods
+
+unfoldable pub all_implement : List Class → Bool
+all_implement w = list_all (λ i. not (is_interface i.flags) || list_all (implements_one w i) w) w
 
 -- each class is so
 unfoldable pub are_fair : List ExportTree → Bool
-are_fair exports = list_all (fair_class (world_of exports)) (imports exports)
+are_fair exports = list_all (fair_class (world_of exports)) (imports exports) && all_implement (world_of exports)
 
 -- ---- what the test tells
 
@@ -162,7 +176,7 @@ record IsFairClass (w : List Class) (c : ExportClass) : Type 0 where
   name : IsClassName c.name
   root : is_interface c.flags ≡ false → is_below w c.name object ≡ true
   super : is_interface c.flags ≡ true → c.supers ≡ object ∷ []
-  tokens : IsOneToOne (map method_of_export c.methods ++ all_methods (upwards (kin w c.supers)))
+  tokens : is_interface c.flags ≡ false → IsOneToOne (map method_of_export c.methods ++ all_methods (upwards (kin w c.supers)))
   methods : (k : ℕ) (m : ExportMethod) → slice_get c.methods k ≡ Some m → fair_method (is_interface c.flags) (bytes_eq c.name object) m ≡ true
 
 told_class : (w : List Class) (c : ExportClass) → fair_class w c ≡ true → IsFairClass w c
@@ -170,7 +184,7 @@ unfolding fair_class members_above
 told_class w c e =
     let N = names_from false c.name in
     let S = if is_interface c.flags then same_names c.supers (object ∷ []) else is_below w c.name object in
-    let T = one_to_one (members_above w c) in
+    let T = is_interface c.flags || one_to_one (members_above w c) in
     let M = list_all (fair_method (is_interface c.flags) (bytes_eq c.name object)) c.methods in
     let three = both_front (N && S && T) M e in
     let two = both_front (N && S) T three in
@@ -178,7 +192,7 @@ told_class w c e =
       name = (named_so c.name).0 (both_front N S two);
       root = λ f. ap (λ b. if b then same_names c.supers (object ∷ []) else is_below w c.name object) (sym f) ∙ both_back N S two;
       super = λ f. same_names_are c.supers (object ∷ []) (ap (λ b. if b then same_names c.supers (object ∷ []) else is_below w c.name object) (sym f) ∙ both_back N S two);
-      tokens = is_one_to_one (members_above w c) (both_back (N && S) T three);
+      tokens = λ f. is_one_to_one (members_above w c) (ap (λ b. b || one_to_one (members_above w c)) (sym f) ∙ both_back (N && S) T three);
       methods = each_of (fair_method (is_interface c.flags) (bytes_eq c.name object)) c.methods (both_back (N && S && T) M e);
     }
 
@@ -205,38 +219,49 @@ told_method interface root m e =
       only = λ f g. both_told root (is_static m.flags) (is_initialiser m.name) f g (both_back (P && I && B) O e);
     }
 
--- no class of the files is an interface
-abbrev pub no_interface : List Class → Bool
-no_interface w = list_all (λ (c : Class). not (is_interface c.flags)) w
+-- ---- methods of interfaces
 
-named_plain : (w : List Class) (x : List ℕ) (c : Class) → no_interface w ≡ true → class_named w x ≡ Some c → is_interface c.flags ≡ false
+-- what is so of each class is so of one that a name finds
+named_told : (test : Class → Bool) (w : List Class) (x : List ℕ) (c : Class) → list_all test w ≡ true → class_named w x ≡ Some c → test c ≡ true
 unfolding class_named
-named_plain [] x c e f = absurd cc
-named_plain (d ∷ w) x c e f = by (bytes_eq d.name x) (λ g. named_plain w x c (both_back (not (is_interface d.flags)) (no_interface w) e) g) f
+named_told test [] x c e f = absurd cc
+named_told test (d ∷ w) x c e f = by (bytes_eq d.name x) (λ g. named_told test w x c (both_back (test d) (list_all test w) e) g) f
   where
-    by : (t : Bool) → (class_named w x ≡ Some c → is_interface c.flags ≡ false) → (if t then Some d else class_named w x) ≡ Some c → is_interface c.flags ≡ false
-    by true rest g = let same : d ≡ c = cc in ap (λ (q : Class). is_interface q.flags) (sym same) ∙ is_not (is_interface d.flags) (both_front (not (is_interface d.flags)) (no_interface w) e)
+    by : (t : Bool) → (class_named w x ≡ Some c → test c ≡ true) → (if t then Some d else class_named w x) ≡ Some c → test c ≡ true
+    by true rest g = let same : d ≡ c = cc in ap test (sym same) ∙ both_front (test d) (list_all test w) e
     by false rest g = rest g
 
-none_implemented : (w : List Class) → no_interface w ≡ true → ExportsImplement w
-none_implemented w e x c i asked given f is plain g interface sub among choice =
-    let clash : true ≡ false = sym interface ∙ named_plain w i.name i e g in absurd cc
+last_told : (a b t : Bool) → a ≡ false → b ≡ true → (a || not b || t) ≡ true → t ≡ true
+last_told true b t e f g = absurd cc
+last_told false true t e f g = g
+last_told false false t e f g = absurd cc
 
-module _ (exports : List ExportTree) (e : are_fair exports ≡ true) (bare : no_interface (world_of exports) ≡ true) where
+exports_implement : (w : List Class) → all_implement w ≡ true → ExportsImplement w
+unfolding all_implement implements_one
+exports_implement w e x c i asked given f is plain g interface sub among choice =
+    let of_interface = either_told (is_interface i.flags) (list_all (implements_one w i) w) (named_told (λ j. not (is_interface j.flags) || list_all (implements_one w j) w) w i.name i e g) interface in
+    let of_class = named_told (implements_one w i) w x c of_interface f in
+    let name : c.name ≡ x = class_named-name w x c f in
+    let test = λ (m : Member). exposes (chosen selects (signature_of m) (all_methods (line w c.name))) in
+    let each = last_told (is_interface c.flags) (is_subtype w c.name i.name) (list_all test i.methods) plain (ap (λ y. is_subtype w y i.name) name ∙ sub) of_class in
+    ap exposes (sym (ap (λ y. chosen selects (signature_of asked) (all_methods (line w y))) name ∙ choice)) ∙ all_in test i.methods asked each among
+
+module _ (exports : List ExportTree) (e : are_fair exports ≡ true) where
   one : (n : ℕ) (c : ExportClass) → slice_get (imports exports) n ≡ Some c → IsFairClass (world_of exports) c
   unfolding are_fair
-  one n c f = told_class (world_of exports) c (each_of (fair_class (world_of exports)) (imports exports) e n c f)
+  one n c f = told_class (world_of exports) c (each_of (fair_class (world_of exports)) (imports exports) (both_front (list_all (fair_class (world_of exports)) (imports exports)) (all_implement (world_of exports)) e) n c f)
 
   method : (n : ℕ) (c : ExportClass) → slice_get (imports exports) n ≡ Some c → (k : ℕ) (m : ExportMethod) → slice_get c.methods k ≡ Some m → IsFairMethod (is_interface c.flags) (bytes_eq c.name object) m
   method n c f k m g = told_method (is_interface c.flags) (bytes_eq c.name object) m ((one n c f).methods k m g)
 
   pub tested_exports_are_fair : ExportsAreFair exports
+  unfolding are_fair
   tested_exports_are_fair = record {
     names = λ n c f. (one n c f).name;
     roots = λ n c f. (one n c f).root;
     supers = λ n c f. (one n c f).super;
     tokens = λ n c f. (one n c f).tokens;
-    implements = none_implemented (world_of exports) bare;
+    implements = exports_implement (world_of exports) (both_back (list_all (fair_class (world_of exports)) (imports exports)) (all_implement (world_of exports)) e);
     visible = λ n c f k m g. (method n c f k m g).visible;
     initialisers = λ n c f k m g. (method n c f k m g).initialiser;
     interfaces = λ n c f is k m g. (method n c f k m g).bound is;

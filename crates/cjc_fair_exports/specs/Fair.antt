@@ -35,8 +35,9 @@ pub record ExportsAreFair (exports : List ExportTree) : Type 0 where
   pub roots : OfEach exports (λ c. is_interface c.flags ≡ false → is_below (world_of exports) c.name object ≡ true)
   -- the superclass of an interface is java/lang/Object, and it lists no other
   pub supers : OfEach exports (λ c. is_interface c.flags ≡ true → c.supers ≡ object ∷ [])
-  -- along a class and its superclasses one name and descriptor has one virtual token, and one virtual token has one name and descriptor
-  pub tokens : OfEach exports (λ c. IsOneToOne (map method_of_export c.methods ++ all_methods (upwards (kin (world_of exports) c.supers))))
+  -- Along a class that is no interface and its superclasses one name and descriptor has one virtual token, and one virtual token has one name and descriptor.
+  -- The tokens of an interface's methods are counted apart from those of its superclass java/lang/Object.
+  pub tokens : OfEach exports (λ c. is_interface c.flags ≡ false → IsOneToOne (map method_of_export c.methods ++ all_methods (upwards (kin (world_of exports) c.supers))))
   -- for a method of one of its interfaces, selection on a class gives none that is package-visible
   pub implements : ExportsImplement (world_of exports)
   -- no method is private

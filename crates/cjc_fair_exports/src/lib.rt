@@ -24,7 +24,8 @@ pub fn fair_exports_are_sound()
     ensures send { (list : List ℕ) (p : Package) → IsSound list p.files → (let files = p.files in ExportsAreFair files.exports) → ExportsSend p }
 {}
 
-/// Export files made by hand are fair: java/lang by itself, and with a package and javacard/framework beside it.
+/// Export files made by hand are fair: java/lang by itself, and with a package and javacard/framework beside it, which has an
+/// interface whose first method has token 0, and a class that implements it.
 pub fn worked_export_files_are_fair()
     ensures alone { ExportsAreFair (lang ∷ []) }
     ensures together { ExportsAreFair (lang ∷ q ∷ framework ∷ []) }

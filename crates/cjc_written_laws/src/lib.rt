@@ -37,7 +37,6 @@ ghost use Rattle.cjc_written_calls.specs.Standing.{AreMethods, AreReady, IsSmall
 ghost use Rattle.cjc_written_laws.specs.Converted.{IsConverted};
 ghost use Rattle.cjc_written_laws.specs.Joined.{IsJoined, NamesAreThere};
 
-use crate::converted_methods_are_emittable;
 use cjc_calls_by_token::methods_are_placed;
 use cjc_code_promises::{
     made_methods_are_consistent, packages_have_their_methods, written_methods_are_made,

@@ -1,6 +1,7 @@
 -- Public or protected methods and package-visible ones at or above a class, and what is found and selected from there.
 use Rattle.std.proofs.Common.{◌≡◌, ℕ, refl, sym, ap, subst, ◌∙◌, Bool, true, false, List, [], ◌∷◌, ◌++◌}
 use Rattle.std.specs.Prelude.{◌||◌, Option, Some, None, if◌then◌else◌}
+use Rattle.cjc_bytes.specs.AccessFlags.{is_interface}
 use Rattle.cjc_tokens.specs.Lines.{Declared, Imported, line_in, line_of}
 use Rattle.cjc_tokens.specs.Members.{In, Signature, all_methods, chosen, first_of, has, is_hidden, is_shown, later, same, signature_of, signatures}
 use Rattle.cjc_tokens.specs.Slots.{slots, token}
@@ -9,14 +10,14 @@ use Rattle.cjc_tokens.proofs.Held.{shown-virtual}
 use Rattle.cjc_tokens.proofs.Walks.{kin-known}
 use Rattle.cjc_upward_laws.specs.Upwards.{OnLine, here, up}
 use Rattle.cjc_upward_laws.proofs.Lines.{line_listed}
-use Rattle.cjc_vtable.specs.Calls.{IsOneToOne, IsTold, any_method, finds_hidden, is_special, passes, selects, selects_shown}
+use Rattle.cjc_vtable.specs.Calls.{IsTold, any_method, finds_hidden, is_special, passes, selects, selects_shown}
 use Rattle.cjc_vtable.specs.Laws.{KeepsRules, Under, below, itself}
 use Rattle.cjc_vtable.proofs.Agrees.{hidden-virtual, hidden_selects, shown-has_slot, virtual_plain}
 use Rattle.cjc_vtable.proofs.Calls.{In-behind, In-front, token-some}
-use Rattle.cjc_vtable.proofs.Worlds.{line_of-declared}
+use Rattle.cjc_vtable.proofs.Worlds.{line_of-declared, told-class}
 use Rattle.cjc_world.specs.Added.{added}
 use Rattle.cjc_world.specs.Classes.{Class, Member, class_named}
-use Rattle.cjc_world.specs.Kin.{IsKin, Kin, Lists, after, ends, foremost, kin, known_here, unknown_here, upwards}
+use Rattle.cjc_world.specs.Kin.{IsKin, Kin, Lists, after, foremost, kin, upwards}
 use Rattle.cjc_alike.proofs.VirtualCalls.Chosen.{any_none, any_selects, has_methods, hidden_kept, hidden_or_shown, never_both, shown_kept}
 
 -- what stands on the line of a superclass stands on the line of the class
@@ -86,15 +87,6 @@ module _ (w : List Class) (is_kin : (xs : List (List ℕ)) → IsKin w xs (kin w
 
   above_in : (y : List ℕ) (c d : Class) (m : Member) → Lists y c.supers → OnLine w y d → In m d.methods → In m (all_methods (upwards (kin w c.supers)))
   above_in y c d m l on i = has_methods d (upwards (kin w c.supers)) m (line_listed w y c.supers (kin w c.supers) d (is_kin c.supers) l on) i
-
-  told_line : (xs : List (List ℕ)) (k : Kin) → IsKin w xs k → IsTold (line_in w k)
-  told_line xs k ends = tt
-  told_line xs k (unknown_here e a) = tt
-  told_line (x ∷ xs) k (known_here {c = c} {supers = p} {interfaces = q} e s i a) = by c.is_imported refl (told_line c.supers p s)
-    where
-      by : (b : Bool) → c.is_imported ≡ b → IsTold (line_in w p) → IsTold (if b then Imported (c ∷ upwards p) else Declared c (added w c) (line_in w p))
-      by true f rest = subst (λ j. IsOneToOne (c.methods ++ all_methods (upwards j))) (one_kin c.supers (kin w c.supers) p (is_kin c.supers) s) (rules.told x c e f)
-      by false f rest = rest
 
   -- ---- where a public or protected one is
 
@@ -200,8 +192,8 @@ module _ (w : List Class) (is_kin : (xs : List (List ℕ)) → IsKin w xs (kin w
   pub hidden_found : KeepsKinds w → (x : List ℕ) (s : Signature) → HasHidden w x s → finds_hidden (line_of w x) s ≡ true
   hidden_found kinds x s h = finds_one kinds s x h.class h.method h.on h.own h.hidden_one h.is_first
 
-  -- a public or protected one has a token
-  pub shown_token : (x : List ℕ) (s : Signature) → HasShown w x s → (t : ℕ) × (token (slots (line_of w x)) s ≡ Some t)
-  shown_token x s h =
-      let told : IsTold (line_of w x) = told_line (x ∷ []) (kin w (x ∷ [])) (is_kin (x ∷ [])) in
+  -- a public or protected one has a token, where the class is no interface
+  pub shown_token : (x : List ℕ) (c : Class) → class_named w x ≡ Some c → is_interface c.flags ≡ false → (s : Signature) → HasShown w x s → (t : ℕ) × (token (slots (line_of w x)) s ≡ Some t)
+  shown_token x c known class_here s h =
+      let told : IsTold (line_of w x) = told-class w is_kin one_kin rules x c known (λ import. class_here) in
       token-some (slots (line_of w x)) s (shown-has_slot (line_of w x) s told (shown_selected x s h))

@@ -74,9 +74,9 @@ module _ (list : ListTree) (files : List (List ℕ)) (judged : Judged) (p : Pack
   pub own_kinds : KeepsKinds w
   own_kinds = keeps_kinds list.name p.files judged.codes (settings_of list) (let q = u in q.checks) (let o = ordered in o.acyclic)
 
-  -- what stands at or above a class is sought
-  pub sought_there : (m : MemberId) → HasShown w m.class (signature m) ⊎ HasHidden w m.class (signature m) → IsSought w m
-  sought_there m h = ⊎_elim (λ a. shown_sought w is_kin one_kin rules m a) (λ a. hidden_sought w is_kin one_kin rules own_kinds m a) h
+  -- what stands at or above a class that is no interface is sought
+  pub sought_there : (m : MemberId) (d : Class) → class_named w m.class ≡ Some d → is_interface d.flags ≡ false → HasShown w m.class (signature m) ⊎ HasHidden w m.class (signature m) → IsSought w m
+  sought_there m d named class_here h = ⊎_elim (λ a. shown_sought w is_kin one_kin rules m d named class_here a) (λ a. hidden_sought w is_kin one_kin rules own_kinds m a) h
 
   -- a class is of what stands above it
   pub of_above : (x : List ℕ) (c d : Class) → class_named w x ≡ Some c → class_named w d.name ≡ Some d → Below w x d.name → is_subtype w x d.name ≡ true
@@ -186,7 +186,7 @@ module _ (list : ListTree) (files : List (List ℕ)) (judged : Judged) (p : Pack
       where
         by : (b : Bool) → (let c = n in let d = c.owner in is_interface d.flags) ≡ b → IsSought w id
         by true e = interface_sought asked listed_methods class id n own e
-        by false e = sought_there id (there id.class (let c = n in on_line w ordered id.class (let d = c.owner in d.name) c.named_class c.owner c.below c.names_class (virtual_class list files judged p is class id n) c.named e))
+        by false e = let v = n in sought_there id v.named_class v.names_class (virtual_class list files judged p is class id n) (there id.class (let c = n in on_line w ordered id.class (let d = c.owner in d.name) c.named_class c.owner c.below c.names_class (virtual_class list files judged p is class id n) c.named e))
 
     pub virtual_named : IsNamed w (OnObject (virtual_by w id (class_named w id.class)))
     virtual_named = subst (λ o. IsNamed w (OnObject (virtual_by w id o))) (sym (let c = n in c.names_class)) (by (let c = n in let k = c.named_class in k.is_imported) refl)
@@ -196,7 +196,7 @@ module _ (list : ListTree) (files : List (List ℕ)) (judged : Judged) (p : Pack
             let c = n in
             let f = c.fits in
             let q = of_class (let d = c.owner in d.name) id in
-            subst (λ m. IsNamed w (OnObject m)) (sym c.resolved) (on_object c.owner c.named (virtual_owner list files judged p is class id n import) f.no_initialiser (sought_there q (there q.class (here c.named))))
+            subst (λ m. IsNamed w (OnObject m)) (sym c.resolved) (on_object c.owner c.named (virtual_owner list files judged p is class id n import) f.no_initialiser (sought_there q c.owner c.named (virtual_owner list files judged p is class id n import) (there q.class (here c.named))))
         by false own =
             let c = n in
             let f = c.fits in

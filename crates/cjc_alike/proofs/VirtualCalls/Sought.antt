@@ -1,17 +1,19 @@
 -- A public or protected method, or a package-visible one, that stands at or above a class is one that calls can seek from there.
-use Rattle.std.proofs.Common.{◌≡◌, ℕ, List}
+use Rattle.std.proofs.Common.{◌≡◌, ℕ, false, List}
+use Rattle.std.specs.Prelude.{Some}
+use Rattle.cjc_bytes.specs.AccessFlags.{is_interface}
 use Rattle.cjc_bytes.specs.declared.fault.MemberId.{MemberId}
 use Rattle.cjc_calls_by_token.specs.Selecting.{signature}
 use Rattle.cjc_vtable.specs.Laws.{KeepsRules}
-use Rattle.cjc_world.specs.Classes.{Class}
+use Rattle.cjc_world.specs.Classes.{Class, class_named}
 use Rattle.cjc_world.specs.Kin.{IsKin, Kin, kin}
 use Rattle.cjc_written_calls.specs.Calls.{IsSought, got, hidden}
 use Rattle.cjc_alike.proofs.VirtualCalls.Lines.{HasHidden, HasShown, KeepsKinds, hidden_found, shown_alone, shown_below, shown_selected, shown_token}
 
 module _ (w : List Class) (is_kin : (xs : List (List ℕ)) → IsKin w xs (kin w xs)) (one_kin : (xs : List (List ℕ)) (j k : Kin) → IsKin w xs j → IsKin w xs k → j ≡ k) (rules : KeepsRules w) where
-  pub shown_sought : (m : MemberId) → HasShown w m.class (signature m) → IsSought w m
-  shown_sought m h =
-      let t = shown_token w is_kin one_kin rules m.class (signature m) h in
+  pub shown_sought : (m : MemberId) (d : Class) → class_named w m.class ≡ Some d → is_interface d.flags ≡ false → HasShown w m.class (signature m) → IsSought w m
+  shown_sought m d named class_here h =
+      let t = shown_token w is_kin one_kin rules m.class d named class_here (signature m) h in
       got t.0 t.1 (shown_alone w is_kin one_kin rules m.class (signature m) h)
       (λ x c f known plain may under sel. shown_selected w is_kin one_kin rules x (signature m) (shown_below w x m.class (signature m) under h))
 

@@ -299,4 +299,4 @@ module _ (list : ListTree) (files : List (List ℕ)) (judged : Judged) (p : Pack
     super_named =
         let c = n in
         let f = c.fits in
-        on_super (declared number class) super_there.0 super holder refl class_here refl super_there.1 f.no_initialiser (sought_there list files judged p is is_kin one_kin keeps (of_class super id) there) (alike there)
+        on_super (declared number class) super_there.0 super holder refl class_here refl super_there.1 f.no_initialiser (sought_there list files judged p is is_kin one_kin keeps (of_class super id) super_there.0 super_there.1 super_class there) (alike there)
