@@ -4,4 +4,3 @@ pub mod Beside
 pub mod Once
 pub mod Entries
 pub mod Fields
-mod Test
