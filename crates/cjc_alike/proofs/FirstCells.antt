@@ -1,2 +1,2 @@
-mod Cells
-mod Converted
+pub mod Cells
+pub mod Converted

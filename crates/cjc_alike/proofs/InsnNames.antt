@@ -1,4 +1,4 @@
-mod Types
-mod Fields
-mod Sources
-mod Named
+pub mod Types
+pub mod Fields
+pub mod Sources
+pub mod Named

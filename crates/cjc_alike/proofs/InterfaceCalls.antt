@@ -1,3 +1,3 @@
 pub mod Words
-mod Interfaces
-mod Privates
+pub mod Interfaces
+pub mod Privates

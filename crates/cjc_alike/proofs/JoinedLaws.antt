@@ -1,1 +1,1 @@
-mod Faults
+pub mod Faults

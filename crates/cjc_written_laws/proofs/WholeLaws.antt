@@ -1,5 +1,5 @@
-mod ByToken
-mod Once
+pub mod ByToken
+pub mod Once
 pub mod Declared
 pub mod Emittable
-mod ClassOrder
+pub mod ClassOrder
