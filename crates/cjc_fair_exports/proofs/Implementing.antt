@@ -1,73 +1,85 @@
--- What fair export files say of the methods that implement interfaces, in the world of a package: whatever selection gives is
--- listed by a class, and so is public or protected.
-use Rattle.std.proofs.Common.{◌≡◌, ℕ, suc, refl, sym, ap, subst, ◌∙◌, Bool, true, false, List, [], ◌∷◌, ◌++◌, ⊎_elim}
-use Rattle.std.specs.Prelude.{Some, slice_get}
-use Rattle.cjc_bytes.specs.AccessFlags.{is_interface}
-use Rattle.cjc_call_laws.proofs.Own.{mapped_at}
-use Rattle.cjc_fair_exports.specs.Fair.{ExportsAreFair}
-use Rattle.cjc_fair_exports.proofs.Alone.{acyclic, filed}
-use Rattle.cjc_solid_laws.proofs.Rules.{listed_abroad, super_class}
+-- What fair export files say of the methods that implement interfaces, in the world of a package.
+use Rattle.std.proofs.Common.{◌≡◌, ℕ, refl, sym, ap, subst, ◌∙◌, Bool, true, false, List, [], ◌∷◌, ◌++◌, ⊎_elim}
+use Rattle.std.specs.Prelude.{not, ◌&&◌, Some, if◌then◌else◌}
+use Rattle.cjc_call_laws.proofs.Selects.{receiver_plain}
+use Rattle.cjc_call_laws.proofs.Types.{type_below}
+use Rattle.cjc_fair_exports.specs.Fair.{ExportsAreFair, world_of}
+use Rattle.cjc_fair_exports.proofs.Alone.{AreAbroad, back, filed, same_kin}
+use Rattle.cjc_solid_laws.proofs.Rules.{listed_abroad}
 use Rattle.cjc_tables_by_token.specs.Sound.{IsSound}
-use Rattle.cjc_tokens.proofs.Facts.{chosen-In}
-use Rattle.cjc_tokens.specs.Members.{In, all_methods, first_of, is_exposed, later, signature_of}
-use Rattle.cjc_upward_laws.specs.Upwards.{Has, OnLine, after, foremost, here, up}
-use Rattle.cjc_upward_laws.proofs.Lines.{line_begins, of_line}
-use Rattle.cjc_vtable.proofs.Given.{In-split}
+use Rattle.cjc_tokens.specs.Members.{all_methods, chosen, is_exposed, signature_of}
+use Rattle.cjc_upward_laws.specs.Upwards.{Below}
 use Rattle.cjc_vtable.specs.Calls.{selects}
-use Rattle.cjc_world.specs.Classes.{Class, Member, all_classes, class_named, method_of_export}
+use Rattle.cjc_world.specs.Classes.{Class, Member, all_classes, class_named}
 use Rattle.cjc_world.specs.Files.{Files}
-use Rattle.cjc_world.specs.Kin.{Lists, line}
+use Rattle.cjc_world.specs.Kin.{Above, Kin, Lists, after, directly, foremost, kin, line, onwards, stands, upwards}
+use Rattle.cjc_world.specs.Lookup.{receiver}
+use Rattle.cjc_world.specs.Subtype.{array_is, element, is_element, is_subclass, is_subtype, starts}
 use Rattle.cjc_world.proofs.Cycles.{class_named-name}
-use Rattle.cjc_world.proofs.Settled.{lists-front}
 use Rattle.cjc_written_sends.specs.Sends.{ExportsImplement}
 
--- ---- methods of classes
+-- ---- subtypes by what stands above
 
--- one of some classes' methods is one of a class among them
-of_one : (ds : List Class) (m : Member) → In m (all_methods ds) → (d : Class) × Has d ds × In m d.methods
-of_one [] m i = elim i [ ]
-of_one (d ∷ ds) m i = ⊎_elim (λ j. (d, foremost, j)) (λ j. let r = of_one ds m j in (r.0, after r.1, r.2)) (In-split m d.methods (all_methods ds) i)
+same_subtype : (w v : List Class) (x y : List ℕ) → starts 91 x ≡ false → kin w (x ∷ []) ≡ kin v (x ∷ []) → is_subtype w x y ≡ true → is_subtype v x y ≡ true
+unfolding is_subtype is_subclass
+same_subtype w v x y plain same e = by (starts 91 x) (starts 91 y) plain e
+  where
+    by : (a b : Bool) → a ≡ false → (if a then (if b then is_element w (element x) (element y) else array_is w y) else not b && stands y (kin w (x ∷ []))) ≡ true
+        → (if a then (if b then is_element v (element x) (element y) else array_is v y) else not b && stands y (kin v (x ∷ []))) ≡ true
+    by true b p e = absurd cc
+    by false b p e = subst (λ k. (not b && stands y k) ≡ true) same e
 
-in_at : (m : Member) (ms : List Member) → In m ms → (k : ℕ) × (slice_get ms k ≡ Some m)
-in_at m [] h = elim h [ ]
-in_at m (x ∷ ms) first_of = (0, refl)
-in_at m (x ∷ ms) (later h) = let r = in_at m ms h in (suc r.0, r.1)
-
-same_class : {c d : Class} → Some c ≡ Some d → c ≡ d
-same_class e = cc
-
--- a class of an export file that is no interface, found by its name
-record IsPlain (w : List Class) (d : Class) : Type 0 where
-  named : class_named w d.name ≡ Some d
-  is : d.is_imported ≡ true
-  plain : is_interface d.flags ≡ false
+-- above a class is no array
+no_array : (w : List Class) (x y : List ℕ) → starts 91 x ≡ false → is_subtype w x y ≡ true → starts 91 y ≡ false
+unfolding is_subtype
+no_array w x y plain e = by (starts 91 x) (starts 91 y) refl plain e
+  where
+    by : (a b : Bool) → starts 91 y ≡ b → a ≡ false → (if a then (if b then is_element w (element x) (element y) else array_is w y) else not b && is_subclass w x y) ≡ true → starts 91 y ≡ false
+    by true b f p e = absurd cc
+    by false true f p e = absurd cc
+    by false false f p e = f
 
 module _ (list : List ℕ) (files : Files) (sound : IsSound list files) where
   abbrev w : List Class
   w = all_classes files
 
-  -- what stands over superclasses above such a class is one
-  line_plain : (x : List ℕ) (c d : Class) → class_named w x ≡ Some c → c.is_imported ≡ true → is_interface c.flags ≡ false → OnLine w x d → IsPlain w d
-  line_plain x c d e is plain (here f) =
-      let same : c ≡ d = same_class (sym e ∙ f) in
-      record {
-        named = ap (class_named w) (class_named-name w x d f) ∙ f;
-        is = ap (λ (q : Class). q.is_imported) (sym same) ∙ is;
-        plain = ap (λ (q : Class). is_interface q.flags) (sym same) ∙ plain;
-      }
-  line_plain x c d e is plain (up {s = s} b f l rest) =
-      let next = line_begins w s d rest in
-      let here_too : Lists s c.supers = subst (λ (q : Class). Lists s q.supers) (same_class (sym f ∙ e)) l in
-      line_plain s next.0 d next.1
-      (listed_abroad list files sound.unbroken x s c next.0 e is (lists-front s c.supers c.interfaces here_too) next.1)
-      (super_class list files sound.unbroken x s c next.0 e here_too next.1)
-      rest
+  -- ---- what stands above a class of an export file is of one
+
+  class_at : (x y : List ℕ) → Above w x y → (c : Class) × (class_named w x ≡ Some c)
+  class_at x y (directly c e l) = (c, e)
+  class_at x y (onwards c e l up) = (c, e)
+
+  above_abroad : (x y : List ℕ) (c d : Class) → class_named w x ≡ Some c → c.is_imported ≡ true → Above w x y → class_named w y ≡ Some d → d.is_imported ≡ true
+  above_abroad x y c d e is (directly b f l) g =
+      let both : Some b ≡ Some c = sym f ∙ e in
+      let same : b ≡ c = cc in
+      listed_abroad list files sound.unbroken x y c d e is (subst (λ (q : Class). Lists y (q.supers ++ q.interfaces)) same l) g
+  above_abroad x y c d e is (onwards {y = z} b f l up) g =
+      let both : Some b ≡ Some c = sym f ∙ e in
+      let same : b ≡ c = cc in
+      let next = class_at z y up in
+      let abroad = listed_abroad list files sound.unbroken x z c next.0 e is (subst (λ (q : Class). Lists z (q.supers ++ q.interfaces)) same l) next.1 in
+      above_abroad z y next.0 d next.1 abroad up g
+
+  below_abroad : (x y : List ℕ) (c d : Class) → class_named w x ≡ Some c → c.is_imported ≡ true → Below w x y → class_named w y ≡ Some d → d.is_imported ≡ true
+  below_abroad x y c d e is way g = ⊎_elim
+      (λ same. let both : Some c ≡ Some d = sym e ∙ ap (class_named w) same ∙ g in let one : c ≡ d = cc in ap (λ (q : Class). q.is_imported) (sym one) ∙ is)
+      (λ far. above_abroad x y c d e is far g)
+      way
+
+  alone : (x : List ℕ) (c : Class) → class_named w x ≡ Some c → c.is_imported ≡ true → AreAbroad list files sound (x ∷ [])
+  alone x c e is y d foremost f = let both : Some c ≡ Some d = sym e ∙ f in let same : c ≡ d = cc in ap (λ (q : Class). q.is_imported) (sym same) ∙ is
+  alone x c e is y d (after l) f = elim l [ ]
 
   pub exports_implement : ExportsAreFair files.exports → ExportsImplement w
+  unfolding line
   exports_implement fair x c i asked given e is plain f interface sub among choice =
-      let o = of_one (line w x) given (chosen-In selects (signature_of asked) (all_methods (line w x)) given choice) in
-      let d = line_plain x c o.0 e is plain (of_line w (acyclic list files sound) x o.0 o.1) in
-      let r = filed list files sound (let q = o.0 in q.name) o.0 d.named d.is in
-      let at = in_at given (let q = o.0 in q.methods) o.2 in
-      let m = mapped_at method_of_export r.1.methods at.0 given (ap (λ (q : Class). slice_get q.methods at.0) (sym r.3) ∙ at.1) in
-      ap (λ (q : Member). is_exposed q.flags) m.2 ∙ fair.exposed r.0 r.1 r.2 (ap (λ (q : Class). is_interface q.flags) (sym r.3) ∙ d.plain) at.0 m.0 m.1
+      let v = world_of files.exports in
+      let r = filed list files sound x c e is in
+      let name : r.1.name ≡ x = ap (λ (q : Class). q.name) (sym r.3) ∙ class_named-name w x c e in
+      let no : starts 91 x ≡ false = ap (starts 91) (sym name) ∙ sound.names r.0 r.1 r.2 in
+      let same : kin w (x ∷ []) ≡ kin v (x ∷ []) = same_kin list files sound (x ∷ []) (alone x c e is) in
+      let way : Below w x i.name = subst (λ z. Below w z i.name) (receiver_plain x no) (type_below w x i.name (no_array w x i.name no sub) sub) in
+      let abroad = below_abroad x i.name c i e is way f in
+      fair.implements x c i asked given (back list files sound x c e is) is plain (back list files sound i.name i f abroad) interface (same_subtype w v x i.name no same sub) among
+      (subst (λ (k : Kin). chosen selects (signature_of asked) (all_methods (upwards k)) ≡ Some given) same choice)

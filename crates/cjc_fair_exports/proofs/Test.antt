@@ -1,6 +1,6 @@
 -- A test of export files by which they are fair.
 use Rattle.std.proofs.Common.{◌≡◌, ℕ, zero, suc, refl, sym, ap, subst, ◌∙◌, arith, Bool, true, false, List, [], ◌∷◌, ◌++◌, map}
-use Rattle.std.specs.Prelude.{◌==◌, ◌&&◌, ◌||◌, not, Some, slice_get, if◌then◌else◌}
+use Rattle.std.specs.Prelude.{◌==◌, ◌&&◌, ◌||◌, not, Option, Some, None, slice_get, if◌then◌else◌}
 use Rattle.std.specs.List.{list_all}
 use Rattle.std.specs.Str.{bytes_eq}
 use Rattle.std.proofs.lemmas.Bool.{eqb-true}
@@ -13,13 +13,16 @@ use Rattle.cjc_export.specs.declared.tree.ExportMethod.{ExportMethod}
 use Rattle.cjc_export.specs.declared.tree.ExportTree.{ExportTree}
 use Rattle.cjc_fair_exports.specs.Fair.{ExportsAreFair, world_of}
 use Rattle.cjc_subset.specs.Members.{imports}
-use Rattle.cjc_tokens.specs.Members.{In, all_methods, first_of, is_exposed, is_virtual, later, same, signature_of}
+use Rattle.cjc_tokens.specs.Members.{In, all_methods, chosen, first_of, is_exposed, is_virtual, later, same, signature_of}
 use Rattle.cjc_tokens.proofs.Facts.{same-refl, same-true}
-use Rattle.cjc_vtable.specs.Calls.{IsOneToOne}
-use Rattle.cjc_world.specs.Classes.{Class, Member, method_of_export}
-use Rattle.cjc_world.specs.Kin.{is_below, kin, upwards}
+use Rattle.cjc_vtable.specs.Calls.{IsOneToOne, selects}
+use Rattle.cjc_world.specs.Classes.{Class, Member, class_named, method_of_export}
+use Rattle.cjc_world.specs.Kin.{is_below, kin, line, upwards}
 use Rattle.cjc_world.specs.Lookup.{object}
+use Rattle.cjc_world.specs.Subtype.{is_subtype}
+use Rattle.cjc_world.proofs.Cycles.{class_named-name}
 use Rattle.cjc_world.proofs.Settled.{bytes-refl, bytes-true}
+use Rattle.cjc_written_sends.specs.Sends.{ExportsImplement}
 
 -- ---- names of classes
 
@@ -137,18 +140,21 @@ fair_class w c =
     && (is_interface c.flags || one_to_one (members_above w c))
     && list_all (fair_method (is_interface c.flags) (bytes_eq c.name object)) c.methods
 
--- no names
-abbrev is_none : List (List ℕ) → Bool
-is_none [] = true
-is_none (x ∷ xs) = false
+-- what is selected, if anything, is public or protected
+abbrev exposes : Option Member → Bool
+exposes None = true
+exposes (Some given) = is_exposed given.flags
 
--- the methods of a class are public or protected, and java/lang/Object lists no super
-unfoldable pub open_class : ExportClass → Bool
-open_class c = (is_interface c.flags || list_all (λ (m : ExportMethod). is_exposed m.flags) c.methods) && (not (bytes_eq c.name object) || is_none c.supers)
+-- for a method of the interface, selection on the class gives no package-visible one, where the class implements it
+unfoldable pub implements_one : List Class → (interface class : Class) → Bool
+implements_one w i c = is_interface c.flags || not (is_subtype w c.name i.name) || list_all (λ asked. exposes (chosen selects (signature_of asked) (all_methods (line w c.name)))) i.methods
+
+unfoldable pub all_implement : List Class → Bool
+all_implement w = list_all (λ i. not (is_interface i.flags) || list_all (implements_one w i) w) w
 
 -- each class is so
 unfoldable pub are_fair : List ExportTree → Bool
-are_fair exports = list_all (fair_class (world_of exports)) (imports exports) && list_all open_class (imports exports)
+are_fair exports = list_all (fair_class (world_of exports)) (imports exports) && all_implement (world_of exports)
 
 -- ---- what the test tells
 
@@ -213,51 +219,51 @@ told_method interface root m e =
       only = λ f g. both_told root (is_static m.flags) (is_initialiser m.name) f g (both_back (P && I && B) O e);
     }
 
--- what else is told of a class
-record IsOpenClass (c : ExportClass) : Type 0 where
-  exposed : is_interface c.flags ≡ false → (k : ℕ) (m : ExportMethod) → slice_get c.methods k ≡ Some m → is_exposed m.flags ≡ true
-  top : c.name ≡ object → c.supers ≡ []
+-- ---- methods of interfaces
 
-none_is : (xs : List (List ℕ)) → is_none xs ≡ true → xs ≡ []
-none_is [] e = refl
-none_is (x ∷ xs) e = absurd cc
+-- what is so of each class is so of one that a name finds
+named_told : (test : Class → Bool) (w : List Class) (x : List ℕ) (c : Class) → list_all test w ≡ true → class_named w x ≡ Some c → test c ≡ true
+unfolding class_named
+named_told test [] x c e f = absurd cc
+named_told test (d ∷ w) x c e f = by (bytes_eq d.name x) (λ g. named_told test w x c (both_back (test d) (list_all test w) e) g) f
+  where
+    by : (t : Bool) → (class_named w x ≡ Some c → test c ≡ true) → (if t then Some d else class_named w x) ≡ Some c → test c ≡ true
+    by true rest g = let same : d ≡ c = cc in ap test (sym same) ∙ both_front (test d) (list_all test w) e
+    by false rest g = rest g
 
-unless_told : (a b : Bool) → (a || b) ≡ true → a ≡ false → b ≡ true
-unless_told true b e f = absurd cc
-unless_told false b e f = e
+last_told : (a b t : Bool) → a ≡ false → b ≡ true → (a || not b || t) ≡ true → t ≡ true
+last_told true b t e f g = absurd cc
+last_told false true t e f g = g
+last_told false false t e f g = absurd cc
 
-told_open : (c : ExportClass) → open_class c ≡ true → IsOpenClass c
-unfolding open_class
-told_open c e =
-    let M = list_all (λ (m : ExportMethod). is_exposed m.flags) c.methods in
-    let N = not (bytes_eq c.name object) || is_none c.supers in
-    record {
-      exposed = λ plain. each_of (λ (m : ExportMethod). is_exposed m.flags) c.methods (unless_told (is_interface c.flags) M (both_front (is_interface c.flags || M) N e) plain);
-      top = λ is. none_is c.supers (either_told (bytes_eq c.name object) (is_none c.supers) (both_back (is_interface c.flags || M) N e) (ap (λ x. bytes_eq x object) is ∙ bytes-refl object));
-    }
+exports_implement : (w : List Class) → all_implement w ≡ true → ExportsImplement w
+unfolding all_implement implements_one
+exports_implement w e x c i asked given f is plain g interface sub among choice =
+    let of_interface = either_told (is_interface i.flags) (list_all (implements_one w i) w) (named_told (λ j. not (is_interface j.flags) || list_all (implements_one w j) w) w i.name i e g) interface in
+    let of_class = named_told (implements_one w i) w x c of_interface f in
+    let name : c.name ≡ x = class_named-name w x c f in
+    let test = λ (m : Member). exposes (chosen selects (signature_of m) (all_methods (line w c.name))) in
+    let each = last_told (is_interface c.flags) (is_subtype w c.name i.name) (list_all test i.methods) plain (ap (λ y. is_subtype w y i.name) name ∙ sub) of_class in
+    ap exposes (sym (ap (λ y. chosen selects (signature_of asked) (all_methods (line w y))) name ∙ choice)) ∙ all_in test i.methods asked each among
 
 module _ (exports : List ExportTree) (e : are_fair exports ≡ true) where
   one : (n : ℕ) (c : ExportClass) → slice_get (imports exports) n ≡ Some c → IsFairClass (world_of exports) c
   unfolding are_fair
-  one n c f = told_class (world_of exports) c (each_of (fair_class (world_of exports)) (imports exports) (both_front (list_all (fair_class (world_of exports)) (imports exports)) (list_all open_class (imports exports)) e) n c f)
-
-  other : (n : ℕ) (c : ExportClass) → slice_get (imports exports) n ≡ Some c → IsOpenClass c
-  unfolding are_fair
-  other n c f = told_open c (each_of open_class (imports exports) (both_back (list_all (fair_class (world_of exports)) (imports exports)) (list_all open_class (imports exports)) e) n c f)
+  one n c f = told_class (world_of exports) c (each_of (fair_class (world_of exports)) (imports exports) (both_front (list_all (fair_class (world_of exports)) (imports exports)) (all_implement (world_of exports)) e) n c f)
 
   method : (n : ℕ) (c : ExportClass) → slice_get (imports exports) n ≡ Some c → (k : ℕ) (m : ExportMethod) → slice_get c.methods k ≡ Some m → IsFairMethod (is_interface c.flags) (bytes_eq c.name object) m
   method n c f k m g = told_method (is_interface c.flags) (bytes_eq c.name object) m ((one n c f).methods k m g)
 
   pub tested_exports_are_fair : ExportsAreFair exports
+  unfolding are_fair
   tested_exports_are_fair = record {
     names = λ n c f. (one n c f).name;
     roots = λ n c f. (one n c f).root;
     supers = λ n c f. (one n c f).super;
     tokens = λ n c f. (one n c f).tokens;
-    exposed = λ n c f. (other n c f).exposed;
+    implements = exports_implement (world_of exports) (both_back (list_all (fair_class (world_of exports)) (imports exports)) (all_implement (world_of exports)) e);
     visible = λ n c f k m g. (method n c f k m g).visible;
     initialisers = λ n c f k m g. (method n c f k m g).initialiser;
     interfaces = λ n c f is k m g. (method n c f k m g).bound is;
     root = λ n c f is k m g. (method n c f k m g).only (ap (λ x. bytes_eq x object) is ∙ bytes-refl object);
-    top = λ n c f. (other n c f).top;
   }

@@ -8,11 +8,12 @@ use Rattle.cjc_export.specs.declared.tree.ExportClass.{ExportClass}
 use Rattle.cjc_export.specs.declared.tree.ExportMethod.{ExportMethod}
 use Rattle.cjc_export.specs.declared.tree.ExportTree.{ExportTree}
 use Rattle.cjc_subset.specs.Members.{imports}
-use Rattle.cjc_tokens.specs.Members.{all_methods, is_exposed}
+use Rattle.cjc_tokens.specs.Members.{all_methods}
 use Rattle.cjc_vtable.specs.Calls.{IsOneToOne}
 use Rattle.cjc_world.specs.Classes.{Class, method_of_export, numbered}
 use Rattle.cjc_world.specs.Kin.{is_below, kin, upwards}
 use Rattle.cjc_world.specs.Lookup.{object}
+use Rattle.cjc_written_sends.specs.Sends.{ExportsImplement}
 
 -- the classes of the export files, and of no other file
 abbrev pub world_of : List ExportTree → List Class
@@ -37,8 +38,8 @@ pub record ExportsAreFair (exports : List ExportTree) : Type 0 where
   -- Along a class that is no interface and its superclasses one name and descriptor has one virtual token, and one virtual token has one name and descriptor.
   -- The tokens of an interface's methods are counted apart from those of its superclass java/lang/Object.
   pub tokens : OfEach exports (λ c. is_interface c.flags ≡ false → IsOneToOne (map method_of_export c.methods ++ all_methods (upwards (kin (world_of exports) c.supers))))
-  -- each method that a class lists, no interface, is public or protected
-  pub exposed : OfEach exports (λ c. is_interface c.flags ≡ false → OfMethods c (λ m. is_exposed m.flags ≡ true))
+  -- for a method of one of its interfaces, selection on a class gives none that is package-visible
+  pub implements : ExportsImplement (world_of exports)
   -- no method is private
   pub visible : OfEach exports (λ c. OfMethods c (λ m. is_private m.flags ≡ false))
   -- an initialiser is static
@@ -47,5 +48,3 @@ pub record ExportsAreFair (exports : List ExportTree) : Type 0 where
   pub interfaces : OfEach exports (λ c. is_interface c.flags ≡ true → OfMethods c (λ m. is_static m.flags ≡ false))
   -- nor one of java/lang/Object but its initialiser
   pub root : OfEach exports (λ c. c.name ≡ object → OfMethods c (λ m. is_static m.flags ≡ true → is_initialiser m.name ≡ true))
-  -- which has no superclass
-  pub top : OfEach exports (λ c. c.name ≡ object → c.supers ≡ [])

@@ -26,25 +26,29 @@ use Rattle.cjc_supers.specs.Supers.{each_once, names_upwards, superclasses}
 use Rattle.cjc_tables_by_token.proofs.Clean.{has_named}
 use Rattle.cjc_tables_by_token.proofs.Filed.{import_filed}
 use Rattle.cjc_tables_by_token.specs.Sound.{IsSound}
+use Rattle.cjc_tokens.proofs.Facts.{chosen-In}
 use Rattle.cjc_tokens.specs.Lines.{line_of}
-use Rattle.cjc_tokens.specs.Members.{In, all_methods, first_of, is_exposed, is_virtual, later, signature_of}
+use Rattle.cjc_tokens.specs.Members.{In, Signature, all_methods, chosen, first_of, is_exposed, is_shown, is_virtual, later, signature_of}
 use Rattle.cjc_tokens.specs.Slots.{slots, token}
-use Rattle.cjc_upward_laws.proofs.Lines.{line_is_below}
+use Rattle.cjc_upward_laws.proofs.Lines.{line_is_below, of_line}
 use Rattle.cjc_upward_laws.specs.Upwards.{IsOrdered, OnLine, here, up}
 use Rattle.cjc_vtable.proofs.Calls.{In-front}
 use Rattle.cjc_vtable.proofs.Filed.{Has, get-has, has-get}
 use Rattle.cjc_vtable.proofs.Once.{one_method}
 use Rattle.cjc_vtable.proofs.Worlds.{tokens_are_once}
-use Rattle.cjc_vtable.specs.Calls.{IsOneToOne}
+use Rattle.cjc_vtable.specs.Calls.{IsOneToOne, selects}
 use Rattle.cjc_vtable.specs.Laws.{KeepsRules, Under, below, itself}
 use Rattle.cjc_world.specs.Classes.{Class, Member, all_classes, class_named, declared, imported, method_of_export}
-use Rattle.cjc_world.specs.Kin.{End, IsKin, Kin, Known, Lists, after, foremost, grown, is_below, kin, upwards}
+use Rattle.cjc_world.specs.Kin.{End, IsKin, Kin, Known, Lists, after, foremost, grown, is_below, kin, line, upwards}
 use Rattle.cjc_world.specs.Lookup.{object}
 use Rattle.cjc_world.proofs.Cycles.{class_named-name}
 use Rattle.cjc_world.proofs.Settled.{IsKin-one, kin-IsKin, kin-known, lists-front}
+use Rattle.cjc_written_sends.specs.Sends.{ExportsImplement}
+use Rattle.cjc_fair_writing.specs.Open.{ExportsAreOpen}
 use Rattle.cjc_fair_writing.proofs.Entries.{IsBound, IsEntry, class_entry, interface_entry}
-use Rattle.cjc_fair_writing.proofs.Beside.{IsFrom, IsImport, IsKnown, IsWritten, all_from, beside, cs, found_by_name, import_named, import_there, known, own_here, own_named, own_there, still_acyclic, v}
+use Rattle.cjc_fair_writing.proofs.Beside.{IsFrom, IsImport, IsKnown, IsOn, IsWritten, all_from, beside, cs, found_by_name, import_named, import_there, known, of_one, on_line, own_here, own_named, own_there, still_acyclic, v}
 use Rattle.cjc_fair_writing.proofs.Upwards.{line_under, under_super}
+use Rattle.cjc_fair_writing.proofs.Worlds.{found}
 
 -- ---- flags
 
@@ -93,7 +97,7 @@ both_true false b e f = cc
 
 module _ (list : List ℕ) (p : Package) (codes : List MethodCode) (settings : Settings) (sound : IsSound list p.files) (checks : check_breaks list p.files codes settings ≡ []) (spelt : AreSpelt p.files)
     (ordered : IsOrdered (world p)) (rules : KeepsRules (world p)) (root : IsImportedClass p.files object)
-    (fair : (let files = p.files in ExportsAreFair files.exports))
+    (fair : (let files = p.files in ExportsAreFair files.exports)) (open_ones : (let files = p.files in ExportsAreOpen files.exports))
     (before following : List ExportTree) (split : (let files = p.files in files.exports ≡ before ++ following)) where
   abbrev w : List Class
   w = world p
@@ -181,11 +185,11 @@ module _ (list : List ℕ) (p : Package) (codes : List MethodCode) (settings : S
       (λ k c at same. absurd (not_object k c at same))
 
   exposed : OfEach (beside list p sound before following split) (λ c. is_interface c.flags ≡ false → OfMethods c (λ m. is_exposed m.flags ≡ true))
-  exposed = each (λ c. is_interface c.flags ≡ false → OfMethods c (λ m. is_exposed m.flags ≡ true)) fair.exposed
+  exposed = each (λ c. is_interface c.flags ≡ false → OfMethods c (λ m. is_exposed m.flags ≡ true)) open_ones.exposed
       (λ k c at plain j m g. (let r = written_entry k c at plain m (get-has m (let x = export_class p c in x.methods) j g) in r.exposed))
 
   top : OfEach (beside list p sound before following split) (λ c. c.name ≡ object → c.supers ≡ [])
-  top = each (λ c. c.name ≡ object → c.supers ≡ []) fair.top (λ k c at same. absurd (not_object k c at same))
+  top = each (λ c. c.name ≡ object → c.supers ≡ []) open_ones.top (λ k c at same. absurd (not_object k c at same))
 
   -- ---- superclasses of interfaces
 
@@ -195,7 +199,7 @@ module _ (list : List ℕ) (p : Package) (codes : List MethodCode) (settings : S
   object_alone =
       let o = imported root.number root.class in
       let name : o.name ≡ object = class_named-name w object o root.found in
-      let bare : o.supers ≡ [] = fair.top root.number root.class root.listed name in
+      let bare : o.supers ≡ [] = open_ones.top root.number root.class root.listed name in
       ap names_upwards (kin-known w ordered.acyclic object o root.found)
       ∙ ap (λ xs. o.name ∷ names_upwards (kin w xs) ++ []) bare
       ∙ ap (λ x. x ∷ []) name
@@ -343,6 +347,18 @@ module _ (list : List ℕ) (p : Package) (codes : List MethodCode) (settings : S
       let b = token_below e h plain n (all_from list p sound before following split e h n j) other in
       (λ same. one_method S (signature_of m) (signature_of n) m.token a (b ∙ ap (λ (t : ℕ). Some t) (sym same)), λ same. some_number (sym a ∙ ap (token S) same ∙ b))
 
+  -- ---- methods for those of interfaces
+
+  implements : ExportsImplement u
+  implements x c i asked given e is plain f interface sub among choice =
+      let acyclic_here = still_acyclic list p sound before following split in
+      let o = of_one (line u x) given (chosen-In selects (signature_of asked) (all_methods (line u x)) given choice) in
+      let on = on_line list p sound before following split x o.0 (of_line u acyclic_here x o.0 o.1) in
+      let first = found all x c e in
+      let under : Under w (let q = first.class in q.name) (let q = on.class in q.name) = subst (λ y. Under w y (let q = on.class in q.name)) (sym first.name) on.under in
+      let plain_first : is_interface (let q = first.class in q.flags) ≡ false = ap (λ (d : Class). is_interface d.flags) (sym first.is) ∙ plain in
+      all_exposed on.class on.there (still_plain first.class first.there plain_first on.class on.there under) given (subst (λ (d : Class). In given d.methods) on.is o.2)
+
   -- ---- all
 
   pub still_fair : ExportsAreFair (beside list p sound before following split)
@@ -351,10 +367,12 @@ module _ (list : List ℕ) (p : Package) (codes : List MethodCode) (settings : S
     roots = roots;
     supers = supers;
     tokens = tokens;
-    exposed = exposed;
+    implements = implements;
     visible = visible;
     initialisers = initialisers;
     interfaces = interfaces;
     root = roots_static;
-    top = top;
   }
+
+  pub still_open : ExportsAreOpen (beside list p sound before following split)
+  still_open = record { exposed = exposed; top = top }

@@ -4,3 +4,4 @@ pub mod Beside
 pub mod Once
 pub mod Entries
 pub mod Fields
+mod Test
