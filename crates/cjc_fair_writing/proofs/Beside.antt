@@ -1,13 +1,13 @@
 -- The classes of the export file that a package writes and of those beside it: what each is in the world of the package, and
 -- that what stands above a class in their own world stands above it there.
-use Rattle.std.proofs.Common.{◌≡◌, ℕ, zero, suc, refl, sym, ap, subst, ◌∙◌, Bool, true, false, List, [], ◌∷◌, ◌++◌, map, inl, inr, ⊎_elim}
+use Rattle.std.proofs.Common.{◌≡◌, ℕ, zero, suc, refl, sym, ap, subst, ◌∙◌, true, false, List, [], ◌∷◌, ◌++◌, map, inl, inr, ⊎_elim}
 use Rattle.std.specs.Prelude.{◌⊎◌, Some, slice_get}
 use Rattle.cjc_components.specs.ExportFile.{export_class, export_of}
 use Rattle.cjc_components.specs.Exports.{exported_classes}
 use Rattle.cjc_components.specs.Package.{Package, world}
 use Rattle.cjc_export.specs.declared.tree.ExportClass.{ExportClass}
 use Rattle.cjc_export.specs.declared.tree.ExportTree.{ExportTree}
-use Rattle.cjc_export_laws.proofs.Own.{IsOwn, own_class}
+use Rattle.cjc_export_laws.proofs.Own.{own_class}
 use Rattle.cjc_subset.specs.Members.{imports}
 use Rattle.cjc_tables_by_token.proofs.Clean.{own_name}
 use Rattle.cjc_tables_by_token.proofs.Filed.{has-back, has-front, import_in, own_in}
@@ -20,13 +20,12 @@ use Rattle.cjc_vtable.proofs.Filed.{Has, at_front, behind, get-has, has-get}
 use Rattle.cjc_vtable.proofs.Given.{In-split}
 use Rattle.cjc_vtable.specs.Laws.{Under, below, itself}
 use Rattle.cjc_world.specs.Classes.{Class, Member, class_named, declared, imported, method_of_export, numbered}
-use Rattle.cjc_world.specs.Kin.{Above, IsAcyclic, Kin, Lists, directly, kin, onwards, upwards}
-use Rattle.cjc_world.proofs.Cycles.{class_named-name}
+use Rattle.cjc_world.specs.Kin.{Above, IsAcyclic, Lists, directly, kin, onwards, upwards}
 use Rattle.cjc_world.proofs.Settled.{kin-IsKin, lists-behind, lists-front}
 use Rattle.cjc_world.proofs.Trees.{lists-split}
 use Rattle.cjc_world.proofs.Unbroken.{unbroken_is_acyclic}
 use Rattle.cjc_fair_writing.proofs.Upwards.{interface_below, step_above, super_under, under_below, under_on}
-use Rattle.cjc_fair_writing.proofs.Worlds.{IsFound, finds, found}
+use Rattle.cjc_fair_writing.proofs.Worlds.{finds, found}
 
 -- ---- lists
 

@@ -1,11 +1,10 @@
 -- What holds of each method that the export file of a package lists of its classes.
-use Rattle.std.proofs.Common.{◌≡◌, ℕ, zero, suc, ◌+◌, ◌-◌, refl, sym, ap, subst, ◌∙◌, arith, Bool, true, false, List, [], ◌∷◌, ◌++◌, length, map, inl, inr, ⊎_elim, Option, Some, None}
-use Rattle.std.specs.Prelude.{not, ◌&&◌, ◌||◌, ◌⊎◌, option_and_then, option_map, position, slice_get, unwrap_or, if◌then◌else◌, is_some}
+use Rattle.std.proofs.Common.{◌≡◌, ℕ, zero, suc, ◌+◌, ◌-◌, refl, sym, ap, subst, ◌∙◌, arith, Bool, true, false, List, [], ◌∷◌, ◌++◌, length, map, ⊎_elim, Option, Some, None}
+use Rattle.std.specs.Prelude.{not, ◌&&◌, ◌||◌, option_map, position, slice_get, unwrap_or, if◌then◌else◌, is_some}
 use Rattle.std.proofs.lemmas.Option.{slice_get-map}
 use Rattle.cjc_bytes.specs.AccessFlags.{acc_native, acc_strict, acc_synchronized, has, is_abstract, is_interface, is_private, is_protected, is_public, is_static}
 use Rattle.cjc_bytes.specs.declared.settings.Settings.{Settings}
 use Rattle.cjc_classfile.specs.declared.tree.ClassTree.{ClassTree}
-use Rattle.cjc_classfile.specs.declared.tree.MethodTree.{MethodTree}
 use Rattle.cjc_code.specs.declared.method_code.MethodCode.{MethodCode}
 use Rattle.cjc_components.specs.Descriptor.{as_added, method_in, methods_with_added, no_member}
 use Rattle.cjc_components.specs.ExportFile.{added_from, export_class, inherited_from, is_listed, method_entry, method_meant, methods_from, supers_from}
@@ -29,8 +28,7 @@ use Rattle.cjc_tokens.proofs.Facts.{same-true}
 use Rattle.cjc_tokens.specs.Lines.{Declared, Imported, line_at, line_in, line_of}
 use Rattle.cjc_tokens.specs.Members.{Signature, is_constructor, is_exposed, is_initialiser, is_shown, is_virtual, signature_of}
 use Rattle.cjc_tokens.specs.Methods.{interface_methods, interface_row}
-use Rattle.cjc_tokens.specs.Slots.{Slots, got, implementing, meant_by, own, row, slots, token}
-use Rattle.cjc_tokens.specs.Tokens.{token_of_member}
+use Rattle.cjc_tokens.specs.Slots.{got, implementing, meant_by, own, row, slots, token}
 use Rattle.cjc_upward_laws.proofs.Lines.{first_has, gathered_above, has-cons, line_named, listed_line}
 use Rattle.cjc_upward_laws.specs.Upwards.{IsOrdered}
 use Rattle.cjc_vtable.proofs.Filed.{Has, IsFiled, at-number, at_front, behind, filed, get-has, has-get, in_class_file, in_export_file}
@@ -40,7 +38,7 @@ use Rattle.cjc_vtable.specs.Laws.{KeepsRules}
 use Rattle.cjc_world.proofs.Cycles.{class_named-name}
 use Rattle.cjc_world.proofs.Settled.{IsKin-one, kin-IsKin, kin-known}
 use Rattle.cjc_world.specs.Added.{added, asked_by, declares_open, has_open, is_one_of, lacking, own_methods, takes_added}
-use Rattle.cjc_world.specs.Classes.{Class, Member, class_at, class_named, declared, field_of_class, method_of_class, method_of_export}
+use Rattle.cjc_world.specs.Classes.{Class, Member, class_named, declared, field_of_class, method_of_class, method_of_export}
 use Rattle.cjc_world.specs.Interfaces.{gathered, known}
 use Rattle.cjc_world.specs.Kin.{End, IsKin, Kin, Known, Unknown, ends, kin, known_here, unknown_here, upwards}
 use Rattle.cjc_world.specs.Lookup.{first, is_called, is_wanted, member_at, method_of_interface, or_else, own_method, own_of}

@@ -1,6 +1,6 @@
 -- The export file that a package writes, with those beside it, is fair where these are: field by field.
-use Rattle.std.proofs.Common.{◌≡◌, ℕ, zero, suc, ◌+◌, ◌-◌, ◌*◌, ◌^◌, refl, sym, ap, subst, ◌∙◌, arith, Bool, true, false, List, [], ◌∷◌, ◌++◌, length, map, inl, inr, ⊎_elim, Option, Some, None}
-use Rattle.std.specs.Prelude.{not, ◌&&◌, ◌||◌, ◌⊎◌, ◌/◌, ◌%◌, nat_lt, slice_get, if◌then◌else◌}
+use Rattle.std.proofs.Common.{◌≡◌, ℕ, suc, ◌+◌, ◌-◌, ◌*◌, ◌^◌, refl, sym, ap, subst, ◌∙◌, arith, Bool, true, false, List, [], ◌∷◌, ◌++◌, map, ⊎_elim, Some}
+use Rattle.std.specs.Prelude.{◌&&◌, ◌/◌, ◌%◌, nat_lt, slice_get, if◌then◌else◌}
 use Rattle.std.proofs.lemmas.Nat.Bits.{and_pow}
 use Rattle.cjc_bytes.specs.AccessFlags.{acc_shareable, acc_super, is_interface, is_private, is_static}
 use Rattle.cjc_bytes.specs.Descriptor.{IsClassName}
@@ -8,14 +8,14 @@ use Rattle.cjc_bytes.specs.declared.settings.Settings.{Settings}
 use Rattle.cjc_by_name.specs.OnePackage.{is_initialiser}
 use Rattle.cjc_code.specs.declared.method_code.MethodCode.{MethodCode}
 use Rattle.cjc_components.specs.Class.{is_shareable}
-use Rattle.cjc_components.specs.ExportFile.{export_class, export_of, without}
+use Rattle.cjc_components.specs.ExportFile.{export_class, without}
 use Rattle.cjc_components.specs.Exports.{exported_classes}
 use Rattle.cjc_components.specs.Package.{Package, world}
 use Rattle.cjc_export.specs.declared.tree.ExportClass.{ExportClass}
 use Rattle.cjc_export.specs.declared.tree.ExportMethod.{ExportMethod}
 use Rattle.cjc_export.specs.declared.tree.ExportTree.{ExportTree}
 use Rattle.cjc_export_laws.proofs.Own.{IsOwn, own_class}
-use Rattle.cjc_fair_exports.specs.Fair.{ExportsAreFair, OfEach, OfMethods, world_of}
+use Rattle.cjc_fair_exports.specs.Fair.{ExportsAreFair, OfEach, OfMethods}
 use Rattle.cjc_written_laws.proofs.FittingLaws.Lists.{mapped_at}
 use Rattle.cjc_narrow_laws.proofs.ClassNames.{each_name}
 use Rattle.cjc_narrow_laws.specs.Unbroken.{AreSpelt}
@@ -28,7 +28,7 @@ use Rattle.cjc_tables_by_token.proofs.Filed.{import_filed}
 use Rattle.cjc_tables_by_token.specs.Sound.{IsSound}
 use Rattle.cjc_tokens.proofs.Facts.{chosen-In}
 use Rattle.cjc_tokens.specs.Lines.{line_of}
-use Rattle.cjc_tokens.specs.Members.{In, Signature, all_methods, chosen, first_of, is_exposed, is_shown, is_virtual, later, signature_of}
+use Rattle.cjc_tokens.specs.Members.{In, all_methods, first_of, is_exposed, is_virtual, later, signature_of}
 use Rattle.cjc_tokens.specs.Slots.{slots, token}
 use Rattle.cjc_upward_laws.proofs.Lines.{line_is_below, of_line}
 use Rattle.cjc_upward_laws.specs.Upwards.{IsOrdered, OnLine, here, up}
@@ -38,15 +38,15 @@ use Rattle.cjc_vtable.proofs.Once.{one_method}
 use Rattle.cjc_vtable.proofs.Worlds.{tokens_are_once}
 use Rattle.cjc_vtable.specs.Calls.{IsOneToOne, selects}
 use Rattle.cjc_vtable.specs.Laws.{KeepsRules, Under, below, itself}
-use Rattle.cjc_world.specs.Classes.{Class, Member, all_classes, class_named, declared, imported, method_of_export}
-use Rattle.cjc_world.specs.Kin.{End, IsKin, Kin, Known, Lists, after, foremost, grown, is_below, kin, line, upwards}
+use Rattle.cjc_world.specs.Classes.{Class, Member, class_named, imported, method_of_export}
+use Rattle.cjc_world.specs.Kin.{Lists, foremost, grown, is_below, kin, line, upwards}
 use Rattle.cjc_world.specs.Lookup.{object}
 use Rattle.cjc_world.proofs.Cycles.{class_named-name}
 use Rattle.cjc_world.proofs.Settled.{IsKin-one, kin-IsKin, kin-known, lists-front}
 use Rattle.cjc_written_sends.specs.Sends.{ExportsImplement}
 use Rattle.cjc_fair_writing.specs.Open.{ExportsAreOpen}
 use Rattle.cjc_fair_writing.proofs.Entries.{IsBound, IsEntry, class_entry, interface_entry}
-use Rattle.cjc_fair_writing.proofs.Beside.{IsFrom, IsImport, IsKnown, IsOn, IsWritten, all_from, beside, cs, found_by_name, import_named, import_there, known, of_one, on_line, own_here, own_named, own_there, still_acyclic, v}
+use Rattle.cjc_fair_writing.proofs.Beside.{IsFrom, IsImport, IsKnown, IsWritten, all_from, beside, cs, found_by_name, import_named, import_there, known, of_one, on_line, own_here, own_named, own_there, still_acyclic, v}
 use Rattle.cjc_fair_writing.proofs.Upwards.{line_under, under_super}
 use Rattle.cjc_fair_writing.proofs.Worlds.{found}
 

@@ -5,15 +5,15 @@ use Rattle.std.specs.Str.{bytes_eq}
 use Rattle.cjc_export.specs.Supers.{is_one_of}
 use Rattle.cjc_supers.specs.Supers.{each_once, interfaces, name_of, names_upwards, superclasses}
 use Rattle.cjc_upward_laws.specs.Upwards.{Below, OnLine, here, up}
-use Rattle.cjc_upward_laws.proofs.Lines.{below_on, listed_below}
+use Rattle.cjc_upward_laws.proofs.Lines.{listed_below}
 use Rattle.cjc_vtable.proofs.Filed.{Has, at_front, behind}
 use Rattle.cjc_vtable.specs.Laws.{Under, below, itself}
 use Rattle.cjc_world.specs.Classes.{Class, class_named}
 use Rattle.cjc_world.specs.Interfaces.{Interface, gathered, is_among, where_listed}
 use Rattle.cjc_world.specs.Interfaces
-use Rattle.cjc_world.specs.Kin.{Above, End, IsAcyclic, IsKin, Kin, Known, Lists, Unknown, after, directly, ends, foremost, kin, known_here, onwards, unknown_here}
+use Rattle.cjc_world.specs.Kin.{Above, IsAcyclic, IsKin, Kin, Lists, after, directly, ends, foremost, kin, known_here, onwards, unknown_here}
 use Rattle.cjc_world.proofs.Cycles.{class_named-name}
-use Rattle.cjc_world.proofs.Settled.{bytes-refl, bytes-true, kin-IsKin, lists-behind, lists-front}
+use Rattle.cjc_world.proofs.Settled.{bytes-true, kin-IsKin, lists-behind, lists-front}
 use Rattle.cjc_world.proofs.Trees.{lists-split}
 
 -- ---- lists
