@@ -1,5 +1,5 @@
-//! Limits of what is written: a package that keeps each exactly, and one past it. A case is the kind of its class file, a number,
-//! and ` = ` with the rule that it breaks, or `0` where it is converted.
+//! Limits of what is written: a package that keeps each exactly, and one past it. A case is the kind of its class
+//! file, a number, and ` = ` with the rule that it breaks, or `0` where it is converted.
 
 use crate::long_files::{
     Method, make_method, many_methods, with_calls, with_constants, with_methods,
@@ -24,9 +24,9 @@ method 16377 = 0 # bytes of a method's code, at the widest: 32,767
 method 16378 = 415 # 32,769
 component 16373 = 0 # bytes of Method, at the widest: 65,535
 component 16374 = 416 # 65,537
-constants 8186 = 0 # entries of the export file's pool: 16,383, ten beside the constants, two for each, and one for a second type
+constants 8186 = 0 # entries of the export file's pool: 16,383, ten and two for each, and one for a second type
 constants 8187 = 414 # 16,384, all of one type
-calls 16380 = 0 # entries of the constant pool, of which each has a place before the types: these end at 32,766
+calls 16380 = 0 # entries of the constant pool, each with a place before the types, which end at 32,766
 calls 16381 = 411 # at 32,768
 calls 16383 = 411
 calls 16384 = 414";
@@ -90,8 +90,8 @@ fn nibbles(alloc: Global, shorts: usize) -> Result<Bytes, NoMemory> {
     )
 }
 
-/// The method of a switch over so many keys from 0 on, all of which lead behind it: two loads and a pop take 5 bytes at the widest,
-/// the switch 7 and two for each key, and return one.
+/// The method of a switch over so many keys from 0 on, all of which lead behind it: two loads and a pop take 5 bytes
+/// at the widest, the switch 7 and two for each key, and return one.
 fn switch(alloc: Global, desc: &'static [u8], keys: u16) -> Result<Method, NoMemory> {
     let [a, b, c, d] = (13 + 4 * u32::from(keys)).to_be_bytes();
     let [e, f] = keys.wrapping_sub(1).to_be_bytes();

@@ -1,5 +1,5 @@
-//! Files that are long, made of few words: the class p/T with methods f, with constants or with calls, and the export file of what it
-//! calls. It knows no rule.
+//! Files that are long, made of few words: the class p/T with methods f, with constants or with calls, and the export
+//! file of what it calls. It knows no rule.
 
 use cjc_bytes::{Bytes, NoMemory, Out};
 use std::alloc::Global;
@@ -164,7 +164,8 @@ fn class_name(number: u8) -> [u8; 6] {
     [b'm', b'/', a, b, c, d]
 }
 
-/// The export file of the package m: 65 classes with 255 static methods each, all of them without parameters and result.
+/// The export file of the package m: 65 classes with 255 static methods each, all of them without parameters and
+/// result.
 pub(crate) fn many_methods(alloc: Global) -> Result<Bytes, NoMemory> {
     let mut out = Out::new(alloc);
     out.put_slice(b"\x00\xFA\xCA\xDE\x02\x02\x01\x86")?;
@@ -187,8 +188,8 @@ pub(crate) fn many_methods(alloc: Global) -> Result<Bytes, NoMemory> {
     Ok(out.finish())
 }
 
-/// Puts the entries of the pool for what m has, and those of its first methods, so many. Entry 7 is their descriptor; the first method is
-/// entry 649.
+/// Puts the entries of the pool for what m has, and those of its first methods, so many. Entry 7 is their descriptor;
+/// the first method is entry 649.
 fn put_many(out: &mut Out, number: u16) -> Result<(), NoMemory> {
     for method in 0..METHODS {
         put_text(out, &name(u16::from(method)))?;
