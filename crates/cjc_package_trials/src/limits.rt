@@ -13,21 +13,37 @@ use cjc_shelf::{MemShelf, MemSink};
 use std::alloc::Global;
 use std::test::*;
 
-const LIMITS: &str = "\
-words 254 = 0 # words of a method's parameters, the receiver's with them: 255
-words 255 = 417
-nibbles 4 = 0 # nibbles of a type: 255
+/// Words of a method's parameters, the receiver's with them: 255.
+const WORDS: &str = "\
+words 254 = 0
+words 255 = 417";
+
+/// Nibbles of a type: 255. Bytes of the types of a package, with the two of their count: 32,767.
+const TYPES: &str = "\
+nibbles 4 = 0
 nibbles 5 = 411
-types 253 = 0 # bytes of the types of a package, with the two of their count: 32,767
-types 254 = 411
-method 16377 = 0 # bytes of a method's code, at the widest: 32,767
-method 16378 = 415 # 32,769
-component 16373 = 0 # bytes of Method, at the widest: 65,535
-component 16374 = 416 # 65,537
-constants 8186 = 0 # entries of the export file's pool: 16,383, ten and two for each, and one for a second type
-constants 8187 = 414 # 16,384, all of one type
-calls 16380 = 0 # entries of the constant pool, each with a place before the types, which end at 32,766
-calls 16381 = 411 # at 32,768
+types 253 = 0
+types 254 = 411";
+
+/// Bytes of a method's code, at the widest: 32,767, and 32,769.
+const METHODS: &str = "\
+method 16377 = 0
+method 16378 = 415";
+
+/// Bytes of Method, at the widest: 65,535, and 65,537.
+const COMPONENTS: &str = "\
+component 16373 = 0
+component 16374 = 416";
+
+/// Entries of the export file's pool, ten and two for each constant, and one for a second type: 16,383.
+const CONSTANTS: &str = "\
+constants 8186 = 0
+constants 8187 = 414";
+
+/// Entries of the constant pool: 16,383. Each has a place before the types, which end at 32,766 and at 32,768.
+const CALLS: &str = "\
+calls 16380 = 0
+calls 16381 = 411
 calls 16383 = 411
 calls 16384 = 414";
 
@@ -168,8 +184,8 @@ fn is_so(alloc: Global, case: &str) -> Result<bool, NoMemory> {
 }
 
 /// The first case that goes otherwise; nothing where there is none.
-fn first_wrong(alloc: Global) -> &'static str {
-    for case in LIMITS.lines() {
+fn first_wrong(alloc: Global, cases: &'static str) -> &'static str {
+    for case in cases.lines() {
         match is_so(alloc, case) {
             Ok(true) => {}
             _ => return case,
@@ -179,6 +195,31 @@ fn first_wrong(alloc: Global) -> &'static str {
 }
 
 #[test]
-fn keeps_limits(rt: HostRuntime) {
-    assert_eq!(rt; first_wrong(rt.alloc()), "");
+fn words_of_a_method(rt: HostRuntime) {
+    assert_eq!(rt; first_wrong(rt.alloc(), WORDS), "");
+}
+
+#[test]
+fn types_of_a_package(rt: HostRuntime) {
+    assert_eq!(rt; first_wrong(rt.alloc(), TYPES), "");
+}
+
+#[test]
+fn bytes_of_a_method(rt: HostRuntime) {
+    assert_eq!(rt; first_wrong(rt.alloc(), METHODS), "");
+}
+
+#[test]
+fn bytes_of_a_component(rt: HostRuntime) {
+    assert_eq!(rt; first_wrong(rt.alloc(), COMPONENTS), "");
+}
+
+#[test]
+fn entries_of_an_export_file(rt: HostRuntime) {
+    assert_eq!(rt; first_wrong(rt.alloc(), CONSTANTS), "");
+}
+
+#[test]
+fn entries_of_a_constant_pool(rt: HostRuntime) {
+    assert_eq!(rt; first_wrong(rt.alloc(), CALLS), "");
 }
