@@ -138,9 +138,9 @@ pub(crate) fn with_constants(alloc: Global, number: u16, byte: bool) -> Result<B
 }
 
 /// How many classes the export file of m has, and how many static methods each of them.
-const CLASSES: u8 = 65;
+const CLASSES: u8 = 255;
 
-const METHODS: u8 = 255;
+const METHODS: u8 = 65;
 
 /// Puts a class of that export file, whose name has a reference at this entry of the pool.
 fn put_class(out: &mut Out, token: u8, entry: u16) -> Result<(), NoMemory> {
@@ -164,11 +164,11 @@ fn class_name(number: u8) -> [u8; 6] {
     [b'm', b'/', a, b, c, d]
 }
 
-/// The export file of the package m: 65 classes with 255 static methods each, all of them without parameters and
+/// The export file of the package m: 255 classes with 65 static methods each, all of them without parameters and
 /// result.
 pub(crate) fn many_methods(alloc: Global) -> Result<Bytes, NoMemory> {
     let mut out = Out::new(alloc);
-    out.put_slice(b"\x00\xFA\xCA\xDE\x02\x02\x01\x86")?;
+    out.put_slice(b"\x00\xFA\xCA\xDE\x02\x02\x02\x44")?;
     out.put_slice(b"\x01\x00\x01m\x0D\x01\x00\x00\x00\x01\x05\xA0\x00\x00\x00\x04")?;
     out.put_slice(b"\x01\x00\x10java/lang/Object\x07\x00\x02\x01\x00\x03()V")?;
     for method in 0..METHODS {
@@ -177,12 +177,12 @@ pub(crate) fn many_methods(alloc: Global) -> Result<Bytes, NoMemory> {
     for class in 0..CLASSES {
         put_text(&mut out, &class_name(class))?;
         out.put1(7)?;
-        out.put2(u16::from(class).wrapping_mul(2).wrapping_add(260))?;
+        out.put2(u16::from(class).wrapping_mul(2).wrapping_add(70))?;
     }
     out.put2(1)?;
     out.put1(CLASSES)?;
     for class in 0..CLASSES {
-        let entry = u16::from(class).wrapping_mul(2).wrapping_add(261);
+        let entry = u16::from(class).wrapping_mul(2).wrapping_add(71);
         put_class(&mut out, class, entry)?;
     }
     Ok(out.finish())
@@ -200,12 +200,12 @@ fn put_many(out: &mut Out, number: u16) -> Result<(), NoMemory> {
     for class in 0..CLASSES {
         put_text(out, &class_name(class))?;
         out.put1(7)?;
-        out.put2(u16::from(class).wrapping_mul(2).wrapping_add(519))?;
+        out.put2(u16::from(class).wrapping_mul(2).wrapping_add(139))?;
     }
     for call in 0..number {
         out.put1(10)?;
-        out.put2((call / 255).wrapping_mul(2).wrapping_add(520))?;
-        out.put2((call % 255).wrapping_mul(2).wrapping_add(10))?;
+        out.put2((call / 65).wrapping_mul(2).wrapping_add(140))?;
+        out.put2((call % 65).wrapping_mul(2).wrapping_add(10))?;
     }
     Ok(())
 }
