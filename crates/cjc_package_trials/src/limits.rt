@@ -1,9 +1,7 @@
 //! Limits of what is written: a package that keeps each exactly, and one past it. A case is the kind of its class
 //! file, a number, and ` = ` with the rule that it breaks, or `0` where it is converted.
 
-use crate::long_files::{
-    Method, make_method, many_methods, with_calls, with_constants, with_methods,
-};
+use crate::long_files::{Method, make_method, with_constants, with_methods};
 use cjc_bytes::{Bytes, NoMemory, Row};
 use cjc_case_files::LANG;
 use cjc_cases::{cut, is_number, question_and_answer, small_number};
@@ -12,6 +10,8 @@ use cjc_run::run;
 use cjc_shelf::{MemShelf, MemSink};
 use std::alloc::Global;
 use std::test::*;
+
+const LIST: &[u8] = b"package p A000000001 1.0\nexport lang\nclass T\n";
 
 /// Words of a method's parameters, the receiver's with them: 255.
 const WORDS: &str = "\
@@ -40,28 +40,12 @@ const CONSTANTS: &str = "\
 constants 8186 = 0
 constants 8187 = 414";
 
-/// Entries of the constant pool: 16,383. Each has a place before the types, which end at 32,766 and at 32,768.
-const CALLS: &str = "\
-calls 16380 = 0
-calls 16381 = 411
-calls 16383 = 411
-calls 16384 = 414";
-
-/// A folder with this class file; what it calls is there where it calls something.
-fn folder(alloc: Global, kind: &str, class: &Bytes) -> Result<MemShelf, NoMemory> {
+/// A folder with this class file.
+fn folder(alloc: Global, class: &Bytes) -> Result<MemShelf, NoMemory> {
     let mut shelf = MemShelf::new(alloc, Row::new(alloc));
+    shelf.add(b"list", LIST)?;
     shelf.add(b"lang", LANG)?;
     shelf.add(b"T", class.items())?;
-    if kind == "calls" {
-        let many = many_methods(alloc)?;
-        shelf.add(b"m", many.items())?;
-        shelf.add(
-            b"list",
-            b"package p A000000001 1.0\nexport lang\nexport m\nclass T\n",
-        )?;
-    } else {
-        shelf.add(b"list", b"package p A000000001 1.0\nexport lang\nclass T\n")?;
-    }
     Ok(shelf)
 }
 
@@ -169,7 +153,6 @@ fn class_file(alloc: Global, kind: &str, number: u16) -> Result<Bytes, NoMemory>
         "types" => types(alloc, usize::from(number)),
         "method" => long_method(alloc, number),
         "component" => long_component(alloc, number),
-        "calls" => with_calls(alloc, number),
         "constants" => with_constants(alloc, number, number == 8186),
         _ => Err(NoMemory),
     }
@@ -179,7 +162,7 @@ fn is_so(alloc: Global, case: &str) -> Result<bool, NoMemory> {
     let (question, wanted) = question_and_answer(case);
     let (kind, number) = cut(question, " ");
     let class = class_file(alloc, kind, small_number(number)?)?;
-    let mut shelf = folder(alloc, kind, &class)?;
+    let mut shelf = folder(alloc, &class)?;
     Ok(is_number(wanted, u32::from(rule(alloc, &mut shelf)?)))
 }
 
@@ -217,9 +200,4 @@ fn bytes_of_a_component(rt: HostRuntime) {
 #[test]
 fn entries_of_an_export_file(rt: HostRuntime) {
     assert_eq!(rt; first_wrong(rt.alloc(), CONSTANTS), "");
-}
-
-#[test]
-fn entries_of_a_constant_pool(rt: HostRuntime) {
-    assert_eq!(rt; first_wrong(rt.alloc(), CALLS), "");
 }
