@@ -1,5 +1,5 @@
 mod Aids
 mod Sizes
-mod Signatures
-mod Entries
+pub mod Signatures
+pub mod Entries
 mod Interfaces
