@@ -1,5 +1,5 @@
-//! Class files of cases as javac writes them (`--release 8 -g:none`), each with its source. Crates of tests name them; it knows no
-//! test.
+//! Class files of cases as javac writes them (`--release 8 -g:none`), each with its source. Crates of tests name
+//! them; it knows no test.
 
 /// An interface p/K below the imported s/V.
 ///

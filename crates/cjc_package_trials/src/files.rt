@@ -1,5 +1,6 @@
-//! The folder of a case, by its words: the name of an export file, the name of a class file, or `+CLASS` for an applet line. Files
-//! stand under their name with `.exp` or `.class`, and the lines of the list in the order of the words.
+//! The folder of a case, by its words: the name of an export file, the name of a class file, or `+CLASS` for an
+//! applet line. Files stand under their name with `.exp` or `.class`, and the lines of the list in the order of the
+//! words.
 
 use cjc_bytes::{Bytes, NoMemory, Out, Row};
 use cjc_case_files::{

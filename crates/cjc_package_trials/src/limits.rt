@@ -1,9 +1,7 @@
-//! Limits of what is written: a package that keeps each exactly, and one past it. A case is the kind of its class file, a number,
-//! and ` = ` with the rule that it breaks, or `0` where it is converted.
+//! Limits of what is written: a package that keeps each exactly, and one past it. A case is the kind of its class
+//! file, a number, and ` = ` with the rule that it breaks, or `0` where it is converted.
 
-use crate::long_files::{
-    Method, make_method, many_methods, with_calls, with_constants, with_methods,
-};
+use crate::long_files::{Method, make_method, with_constants, with_methods};
 use cjc_bytes::{Bytes, NoMemory, Row};
 use cjc_case_files::LANG;
 use cjc_cases::{cut, is_number, question_and_answer, small_number};
@@ -13,39 +11,41 @@ use cjc_shelf::{MemShelf, MemSink};
 use std::alloc::Global;
 use std::test::*;
 
-const LIMITS: &str = "\
-words 254 = 0 # words of a method's parameters, the receiver's with them: 255
-words 255 = 417
-nibbles 4 = 0 # nibbles of a type: 255
-nibbles 5 = 411
-types 253 = 0 # bytes of the types of a package, with the two of their count: 32,767
-types 254 = 411
-method 16377 = 0 # bytes of a method's code, at the widest: 32,767
-method 16378 = 415 # 32,769
-component 16373 = 0 # bytes of Method, at the widest: 65,535
-component 16374 = 416 # 65,537
-constants 8186 = 0 # entries of the export file's pool: 16,383, ten beside the constants, two for each, and one for a second type
-constants 8187 = 414 # 16,384, all of one type
-calls 16380 = 0 # entries of the constant pool, of which each has a place before the types: these end at 32,766
-calls 16381 = 411 # at 32,768
-calls 16383 = 411
-calls 16384 = 414";
+const LIST: &[u8] = b"package p A000000001 1.0\nexport lang\nclass T\n";
 
-/// A folder with this class file; what it calls is there where it calls something.
-fn folder(alloc: Global, kind: &str, class: &Bytes) -> Result<MemShelf, NoMemory> {
+/// Words of a method's parameters, the receiver's with them: 255.
+const WORDS: &str = "\
+words 254 = 0
+words 255 = 417";
+
+/// Nibbles of a type: 255. Bytes of the types of a package, with the two of their count: 32,767.
+const TYPES: &str = "\
+nibbles 4 = 0
+nibbles 5 = 411
+types 253 = 0
+types 254 = 411";
+
+/// Bytes of a method's code, at the widest: 32,767, and 32,769.
+const METHODS: &str = "\
+method 16377 = 0
+method 16378 = 415";
+
+/// Bytes of Method, at the widest: 65,535, and 65,537.
+const COMPONENTS: &str = "\
+component 16373 = 0
+component 16374 = 416";
+
+/// Entries of the export file's pool, ten and two for each constant, and one for a second type: 16,383.
+const CONSTANTS: &str = "\
+constants 8186 = 0
+constants 8187 = 414";
+
+/// A folder with this class file.
+fn folder(alloc: Global, class: &Bytes) -> Result<MemShelf, NoMemory> {
     let mut shelf = MemShelf::new(alloc, Row::new(alloc));
+    shelf.add(b"list", LIST)?;
     shelf.add(b"lang", LANG)?;
     shelf.add(b"T", class.items())?;
-    if kind == "calls" {
-        let many = many_methods(alloc)?;
-        shelf.add(b"m", many.items())?;
-        shelf.add(
-            b"list",
-            b"package p A000000001 1.0\nexport lang\nexport m\nclass T\n",
-        )?;
-    } else {
-        shelf.add(b"list", b"package p A000000001 1.0\nexport lang\nclass T\n")?;
-    }
     Ok(shelf)
 }
 
@@ -90,8 +90,8 @@ fn nibbles(alloc: Global, shorts: usize) -> Result<Bytes, NoMemory> {
     )
 }
 
-/// The method of a switch over so many keys from 0 on, all of which lead behind it: two loads and a pop take 5 bytes at the widest,
-/// the switch 7 and two for each key, and return one.
+/// The method of a switch over so many keys from 0 on, all of which lead behind it: two loads and a pop take 5 bytes
+/// at the widest, the switch 7 and two for each key, and return one.
 fn switch(alloc: Global, desc: &'static [u8], keys: u16) -> Result<Method, NoMemory> {
     let [a, b, c, d] = (13 + 4 * u32::from(keys)).to_be_bytes();
     let [e, f] = keys.wrapping_sub(1).to_be_bytes();
@@ -153,7 +153,6 @@ fn class_file(alloc: Global, kind: &str, number: u16) -> Result<Bytes, NoMemory>
         "types" => types(alloc, usize::from(number)),
         "method" => long_method(alloc, number),
         "component" => long_component(alloc, number),
-        "calls" => with_calls(alloc, number),
         "constants" => with_constants(alloc, number, number == 8186),
         _ => Err(NoMemory),
     }
@@ -163,13 +162,13 @@ fn is_so(alloc: Global, case: &str) -> Result<bool, NoMemory> {
     let (question, wanted) = question_and_answer(case);
     let (kind, number) = cut(question, " ");
     let class = class_file(alloc, kind, small_number(number)?)?;
-    let mut shelf = folder(alloc, kind, &class)?;
+    let mut shelf = folder(alloc, &class)?;
     Ok(is_number(wanted, u32::from(rule(alloc, &mut shelf)?)))
 }
 
 /// The first case that goes otherwise; nothing where there is none.
-fn first_wrong(alloc: Global) -> &'static str {
-    for case in LIMITS.lines() {
+fn first_wrong(alloc: Global, cases: &'static str) -> &'static str {
+    for case in cases.lines() {
         match is_so(alloc, case) {
             Ok(true) => {}
             _ => return case,
@@ -179,6 +178,26 @@ fn first_wrong(alloc: Global) -> &'static str {
 }
 
 #[test]
-fn keeps_limits(rt: HostRuntime) {
-    assert_eq!(rt; first_wrong(rt.alloc()), "");
+fn words_of_a_method(rt: HostRuntime) {
+    assert_eq!(rt; first_wrong(rt.alloc(), WORDS), "");
+}
+
+#[test]
+fn types_of_a_package(rt: HostRuntime) {
+    assert_eq!(rt; first_wrong(rt.alloc(), TYPES), "");
+}
+
+#[test]
+fn bytes_of_a_method(rt: HostRuntime) {
+    assert_eq!(rt; first_wrong(rt.alloc(), METHODS), "");
+}
+
+#[test]
+fn bytes_of_a_component(rt: HostRuntime) {
+    assert_eq!(rt; first_wrong(rt.alloc(), COMPONENTS), "");
+}
+
+#[test]
+fn entries_of_an_export_file(rt: HostRuntime) {
+    assert_eq!(rt; first_wrong(rt.alloc(), CONSTANTS), "");
 }

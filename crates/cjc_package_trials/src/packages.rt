@@ -1,5 +1,5 @@
-//! Packages, a paragraph each. Its first line is `package`, the words of its folder as files.rt says, and ` = ` with the lines that
-//! `convert` prints, or the refusal. The lines behind it say of what was written:
+//! Packages, a paragraph each. Its first line is `package`, the words of its folder as files.rt says, and ` = ` with
+//! the lines that `convert` prints, or the refusal. The lines behind it say of what was written:
 //!
 //! - a name and bytes, those of a file in hexadecimal digits, or `absent`;
 //! - `check = ` and what `check` of the folder says;

@@ -79,7 +79,8 @@ pub(crate) fn is_written(
     Ok(bytes == Some(wanted.as_slice()))
 }
 
-/// Whether each printed line names a file that stands with so many bytes; where there is a refusal, whether no file stands.
+/// Whether each printed line names a file that stands with so many bytes; where there is a refusal, whether no file
+/// stands.
 pub(crate) fn stand(alloc: Global, shelf: &MemShelf, printed: &str) -> Result<bool, NoMemory> {
     if printed.starts_with("refused") {
         return Ok(written(alloc, shelf, "Header.cap")?.is_none());

@@ -4,3 +4,4 @@ pub mod Promising
 pub mod OneStatus
 pub mod Tested
 pub mod Ran
+pub mod Publishing

@@ -80,6 +80,10 @@ file_line file = file.name ++ codes " " ++ decimal (length file.bytes) ++ 10 ∷
 abbrev pub publication : List ℕ → List File → Todo
 publication dir files = record { files = map (below dir) files; lines = map file_line files }
 
+-- these files and their lines behind what is to be done already
+abbrev pub with_files : List ℕ → Todo → List File → Todo
+with_files dir todo files = record { files = todo.files ++ map (below dir) files; lines = todo.lines ++ map file_line files }
+
 -- What is made of the list and its files, or which rule they break first.
 abbrev pub Makes : List ℕ → ListTree × List (List ℕ) → Result Todo Refusal → Type 0
 Makes dir input (Ok todo) = (made : Converted) × IsConverted input.0 input.1 made × (todo ≡ publication dir (files_made input.0.package made))

@@ -5,7 +5,7 @@ ghost use Rattle.std.specs.Prelude.{◌≡◌, ◌<◌, ◌++◌, ◌∷◌, [],
 ghost use Rattle.cjc_command.specs.Gather.{AreShort};
 ghost use Rattle.cjc_judge.specs.Spelt.{IsRead};
 ghost use Rattle.cjc_command.specs.Gather.{Gathers, Judged};
-ghost use Rattle.cjc_run.specs.Convert.{plan_of_convert, plan_of_list, plan_of_files, names_of as names_lem, last_part as last_part_lem, files_made as files_lem, named, where_there, below, file_line, publication, Makes};
+ghost use Rattle.cjc_run.specs.Convert.{plan_of_convert, plan_of_list, plan_of_files, names_of as names_lem, last_part as last_part_lem, files_made as files_lem, named, where_there, file_line, publication, with_files, Makes};
 
 use cjc_bytes::{Bytes, Fault, NoMemory, Out, Row};
 use cjc_command::{File, Status, Todo, fetch, fetch_each};
@@ -90,16 +90,46 @@ fn judge(alloc: Global, dir: &[u8], list: &List, files: &Row<Bytes>) -> Result<T
     }
 }
 
+// The files of a package below the folder, and a line for each. The bytes are taken out of their place.
 fn todo_of(
     alloc: Global,
     dir: &[u8],
     package_name: &[u8],
-    made: Converted,
+    mut made: Converted,
 ) -> Result<Todo, NoMemory>
     ensures { IfOk result (λ todo. todo ≡ publication dir.now (files_lem package_name.now made)) }
 {
-    let files = files_made(alloc, package_name, made)?;
-    publication_of(alloc, dir, files.items())
+    let export = export_name(alloc, package_name)?;
+    let caps = &mut made.caps;
+    let mut todo = Todo {
+        files: Row::new(alloc),
+        lines: Row::new(alloc),
+    };
+    put_file(alloc, dir, &mut todo, b"Header.cap", &mut caps.header)?;
+    put_file(alloc, dir, &mut todo, b"Directory.cap", &mut caps.directory)?;
+    put_where_there(alloc, dir, &mut todo, b"Applet.cap", &mut caps.applet)?;
+    put_file(alloc, dir, &mut todo, b"Import.cap", &mut caps.import)?;
+    put_file(alloc, dir, &mut todo, b"ConstantPool.cap", &mut caps.pool)?;
+    put_file(alloc, dir, &mut todo, b"Class.cap", &mut caps.class)?;
+    put_file(alloc, dir, &mut todo, b"Method.cap", &mut caps.method)?;
+    put_file(alloc, dir, &mut todo, b"StaticField.cap", &mut caps.statics)?;
+    put_file(
+        alloc,
+        dir,
+        &mut todo,
+        b"RefLocation.cap",
+        &mut caps.locations,
+    )?;
+    put_where_there(alloc, dir, &mut todo, b"Export.cap", &mut caps.export)?;
+    put_file(
+        alloc,
+        dir,
+        &mut todo,
+        b"Descriptor.cap",
+        &mut caps.descriptor,
+    )?;
+    put_file(alloc, dir, &mut todo, export.items(), &mut made.export)?;
+    Ok(todo)
 }
 
 fn last_part(name: &[u8]) -> &[u8]
@@ -119,28 +149,32 @@ fn last_part(name: &[u8]) -> &[u8]
 // Takes the bytes out of their place.
 fn put_file(
     alloc: Global,
-    files: &mut Row<File>,
+    dir: &[u8],
+    todo: &mut Todo,
     name: &[u8],
     bytes: &mut Bytes,
 ) -> Result<(), NoMemory>
-    ensures { IfOk result (λ _. files.new ≡ files.old ++ named name.now bytes.old ∷ []) }
+    ensures { IfOk result (λ _. todo.new ≡ with_files dir.now todo.old (named name.now bytes.old ∷ [])) }
 {
-    let name = Bytes::copy_of(alloc, name)?;
+    let line = line_of(alloc, name, bytes)?;
+    let name = name_below(alloc, dir, name)?;
     let bytes = mem::replace(bytes, Row::new(alloc));
-    files.push(File { name, bytes })?;
+    todo.files.push(File { name, bytes })?;
+    todo.lines.push(line)?;
     Ok(())
 }
 
 fn put_where_there(
     alloc: Global,
-    files: &mut Row<File>,
+    dir: &[u8],
+    todo: &mut Todo,
     name: &[u8],
     bytes: &mut Option<Bytes>,
 ) -> Result<(), NoMemory>
-    ensures { IfOk result (λ _. files.new ≡ files.old ++ where_there name.now bytes.old) }
+    ensures { IfOk result (λ _. todo.new ≡ with_files dir.now todo.old (where_there name.now bytes.old)) }
 {
     match bytes {
-        Some(bytes) => put_file(alloc, files, name, bytes),
+        Some(bytes) => put_file(alloc, dir, todo, name, bytes),
         None => Ok(()),
     }
 }
@@ -154,65 +188,24 @@ fn export_name(alloc: Global, package_name: &[u8]) -> Result<Bytes, NoMemory>
     Ok(name.finish())
 }
 
-fn files_made(
-    alloc: Global,
-    package_name: &[u8],
-    mut made: Converted,
-) -> Result<Row<File>, NoMemory>
-    ensures { IfOk result (λ files. files ≡ files_lem package_name.now made) }
+fn name_below(alloc: Global, dir: &[u8], name: &[u8]) -> Result<Bytes, NoMemory>
+    ensures { IfOk result (λ below. below ≡ dir.now ++ codes "/" ++ name.now) }
 {
-    let export = export_name(alloc, package_name)?;
-    let caps = &mut made.caps;
-    let mut files = Row::new(alloc);
-    put_file(alloc, &mut files, b"Header.cap", &mut caps.header)?;
-    put_file(alloc, &mut files, b"Directory.cap", &mut caps.directory)?;
-    put_where_there(alloc, &mut files, b"Applet.cap", &mut caps.applet)?;
-    put_file(alloc, &mut files, b"Import.cap", &mut caps.import)?;
-    put_file(alloc, &mut files, b"ConstantPool.cap", &mut caps.pool)?;
-    put_file(alloc, &mut files, b"Class.cap", &mut caps.class)?;
-    put_file(alloc, &mut files, b"Method.cap", &mut caps.method)?;
-    put_file(alloc, &mut files, b"StaticField.cap", &mut caps.statics)?;
-    put_file(alloc, &mut files, b"RefLocation.cap", &mut caps.locations)?;
-    put_where_there(alloc, &mut files, b"Export.cap", &mut caps.export)?;
-    put_file(alloc, &mut files, b"Descriptor.cap", &mut caps.descriptor)?;
-    put_file(alloc, &mut files, export.items(), &mut made.export)?;
-    Ok(files)
+    let mut below = Out::new(alloc);
+    below.put_slice(dir)?;
+    below.put_slice(b"/")?;
+    below.put_slice(name)?;
+    Ok(below.finish())
 }
 
-fn publication_of(alloc: Global, dir: &[u8], made: &[File]) -> Result<Todo, NoMemory>
-    ensures { IfOk result (λ todo. todo ≡ publication dir.now made.now) }
-{
-    let mut files = Row::new(alloc);
-    let mut lines = Row::new(alloc);
-    for file in made {
-        files.push(file_below(alloc, dir, file)?)?;
-        lines.push(line_of(alloc, file)?)?;
-    }
-    Ok(Todo { files, lines })
-}
-
-fn file_below(alloc: Global, dir: &[u8], file: &File) -> Result<File, NoMemory>
-    ensures { IfOk result (λ named. named ≡ below dir.now file.now) }
-{
-    let mut name = Out::new(alloc);
-    name.put_slice(dir)?;
-    name.put_slice(b"/")?;
-    name.put_slice(file.name.items())?;
-    let bytes = Bytes::copy_of(alloc, file.bytes.items())?;
-    Ok(File {
-        name: name.finish(),
-        bytes,
-    })
-}
-
-fn line_of(alloc: Global, file: &File) -> Result<Bytes, NoMemory>
-    ensures { IfOk result (λ line. line ≡ file_line file.now) }
+fn line_of(alloc: Global, name: &[u8], bytes: &Bytes) -> Result<Bytes, NoMemory>
+    ensures { IfOk result (λ line. line ≡ file_line (named name.now bytes.now)) }
 {
     let mut line = Out::new(alloc);
     let mut count = Buffer::new();
-    line.put_slice(file.name.items())?;
+    line.put_slice(name)?;
     line.put_slice(b" ")?;
-    line.put_slice(count.format(file.bytes.items().len()).as_bytes())?;
+    line.put_slice(count.format(bytes.items().len()).as_bytes())?;
     line.put_slice(b"\n")?;
     Ok(line.finish())
 }

@@ -1,0 +1,15 @@
+-- The package that is made.
+use Rattle.std.specs.Prelude.{ℕ, ◌∷◌, map}
+use Rattle.cjc_make.specs.declared.made.Made.{Made}
+use Rattle.cjc_make.specs.Classes.{class_file}
+use Rattle.cjc_make.specs.Lang.{lang_file}
+use Rattle.cjc_make.specs.Numbers.{below}
+use Rattle.cjc_make.specs.Texts.{list_text, script_text}
+
+-- so many classes made from a number: the list, its files in the order of its lines, and the script
+abbrev pub package_of : (number size : ℕ) → Made
+package_of number size = record {
+  list = list_text size;
+  files = lang_file ∷ map (class_file number) (below size);
+  script = script_text size;
+}
