@@ -1,5 +1,5 @@
-//! The bytes of a class file (Java Virtual Machine Specification, chapter 4) without interfaces, fields and attributes of
-//! its own. Called by `classes`. It knows no class that is made.
+//! The bytes of a class file (Java Virtual Machine Specification, chapter 4) without interfaces, fields and attributes
+//! of its own. Called by `classes`. It knows no class that is made.
 
 ghost use Rattle.std.specs.Prelude.{◌≡◌, ◌+◌, ◌<◌, ◌^◌, ◌++◌, length, OnOk, IfOk};
 ghost use Rattle.std.specs.List.{flat_map};

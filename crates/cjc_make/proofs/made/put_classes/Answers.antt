@@ -1,5 +1,4 @@
-use Rattle.cjc_make.specs.Classes.{class_file}
-use Rattle.cjc_make.proofs.Loops.{map_none, next_number, next_files}
+use Rattle.cjc_make.proofs.Loops.{next_number, next_files}
 use Rattle.cjc_make.proofs.made.put_classes.Goals as goal
 
 pub loop-i-preserved : goal.loop-i-preserved

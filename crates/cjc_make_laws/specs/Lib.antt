@@ -1,0 +1,2 @@
+pub mod ClassTrees
+pub mod LangTree
