@@ -1,4 +1,0 @@
-pub mod Led
-pub mod Literals
-pub mod Tables
-pub mod Used
