@@ -12,10 +12,10 @@ use Rattle.cjc_card_parts.specs.Kinds.{callee_of}
 use Rattle.cjc_card_deeds.specs.declared.deed.Deed.{Deed}
 use Rattle.cjc_card_deeds.specs.declared.deed.Deed.TheVariants.{Go, Raise, Toss, Invoke, Leave, Stick}
 use Rattle.cjc_card_deeds.specs.declared.deed.Returned.{Returned}
-use Rattle.cjc_card_deeds.specs.declared.deed.Returned.TheVariants.{Nothing, Word, Int}
+use Rattle.cjc_card_deeds.specs.declared.deed.Returned.TheVariants as results
 use Rattle.cjc_card_deeds.specs.declared.deed.Halt.{Halt}
 use Rattle.cjc_card_deeds.specs.declared.deed.Halt.TheVariants as halts
-use Rattle.cjc_script.specs.declared.value.Value.TheVariants.{Num}
+use Rattle.cjc_script.specs.declared.value.Value.TheVariants.{Num, Null, Obj}
 
 -- an effect, the heap and the memory of the machine by token
 abbrev pub EffectByToken : Type 0
@@ -35,9 +35,11 @@ memory heap statics = record { heap = heap; statics = statics }
 
 -- the words of a result, the deepest first
 abbrev pub words_in : Returned → List Value
-words_in Nothing = []
-words_in (Word v) = v ∷ []
-words_in (Int high low) = Num high ∷ Num low ∷ []
+words_in results.Nothing = []
+words_in (results.Number z) = Num z ∷ []
+words_in results.Null = Null ∷ []
+words_in (results.Object k) = Obj k ∷ []
+words_in (results.Int high low) = Num high ∷ Num low ∷ []
 
 -- an exception of the machine's own, or nothing that applies
 abbrev pub halted : Halt → EffectByToken

@@ -6,14 +6,15 @@ ghost use Rattle.cjc_card_deeds.specs.Deeds.{Keeps, MemoryByToken, effect_of, ha
 
 use cjc_card_parts::Callee;
 use cjc_frame::Exception;
-use cjc_script::Value;
 
 /// The words of a result; of an int the high one first.
 #[derive(Clone, Copy)]
 pub enum Returned {
     Nothing,
-    Word(Value),
-    Int(i32, i32),
+    Number(i16),
+    Null,
+    Object(u32),
+    Int(i16, i16),
 }
 
 /// What an instruction asks of the machine, beside what it has changed itself.

@@ -92,21 +92,21 @@ fn leave_with<'a>(cells: &Cells, letter: Letter) -> Deed<'a>
 {
     match letter {
         Letter::Reference => match cells.word(0) {
-            Some(Value::Null) => Deed::Leave(Returned::Word(Value::Null)),
-            Some(Value::Obj(number)) => Deed::Leave(Returned::Word(Value::Obj(number))),
+            Some(Value::Null) => Deed::Leave(Returned::Null),
+            Some(Value::Obj(number)) => Deed::Leave(Returned::Object(number)),
             Some(Value::Num(_)) => Deed::Stick,
             None => Deed::Stick,
         },
         Letter::Byte => match cells.number(0) {
-            Some(number) => Deed::Leave(Returned::Word(Value::Num(number))),
+            Some(number) => Deed::Leave(Returned::Number(number as i16)),
             None => Deed::Stick,
         },
         Letter::Short => match cells.number(0) {
-            Some(number) => Deed::Leave(Returned::Word(Value::Num(number))),
+            Some(number) => Deed::Leave(Returned::Number(number as i16)),
             None => Deed::Stick,
         },
         Letter::Int => match cells.numbers(0) {
-            Some((high, low)) => Deed::Leave(Returned::Int(high, low)),
+            Some((high, low)) => Deed::Leave(Returned::Int(high as i16, low as i16)),
             None => Deed::Stick,
         },
     }

@@ -1,8 +1,8 @@
 //! Methods by the offsets of their headers: where they begin, and their instructions (Java Card Virtual Machine
 //! Specification 2.2.2, section 6.9).
 
-ghost use Rattle.std.specs.Prelude.{◌≡◌, ◌≤◌, ◌<◌, ◌+◌, ◌^◌, option_map, IfSome};
-ghost use Rattle.cjc_decode.specs.Decoded.{header_of, instruction_of};
+ghost use Rattle.std.specs.Prelude.{◌≡◌, ◌≤◌, ◌<◌, ◌+◌, ◌^◌, ℕ, List, option_map, IfSome};
+ghost use Rattle.cjc_decode.specs.Decoded.{IsAtFront, header_of, instruction_of};
 ghost use Rattle.cjc_fetch.specs.Codes.{bytes_at};
 ghost use Rattle.cjc_card.specs.Methods.{fetch, fetched_as, start_of as start_by_offset};
 ghost use Rattle.cjc_card_parts.specs.Kinds.{code_of, pool_of, start_of, IsDecoded};
@@ -74,6 +74,7 @@ impl<'a> Tables<'a> {
         ensures is { option_map (fetched_as (loaded_of self.now) code.part (pool_of (loaded_of self.now) code.part) at) (option_map instruction_of result) ≡ fetch (loaded_of self.now) (code_of code) at }
         ensures within { IfSome result (λ i. at + i.size ≤ code.end) }
         ensures decoded { IfSome result (λ i. IsDecoded (instruction_of i)) }
+        ensures front { IfSome result (λ i. (bytes : List ℕ) × IsAtFront i bytes) }
     {
         if code.part != 0 {
             return None;

@@ -1,8 +1,8 @@
 //! What instructions, scripts and reports ask of a group, whatever keeps its components.
 
-ghost use Rattle.std.specs.Prelude.{◌≡◌, ◌≤◌, ◌+◌, map, option_map, option_and_then, slice_get, IfOk, IfSome};
+ghost use Rattle.std.specs.Prelude.{◌≡◌, ◌≤◌, ◌+◌, ℕ, List, map, option_map, option_and_then, slice_get, IfOk, IfSome};
 ghost use Rattle.std.specs.Option.{option_copied};
-ghost use Rattle.cjc_decode.specs.Decoded.{instruction_of};
+ghost use Rattle.cjc_decode.specs.Decoded.{IsAtFront, instruction_of};
 ghost use Rattle.cjc_opcodes.specs.Meanings.{mode_of};
 ghost use Rattle.cjc_card.specs.Loaded.{Loaded};
 ghost use Rattle.cjc_card.specs.Classes.{is_of, fresh, name_of, class_named, fault_class};
@@ -41,7 +41,8 @@ pub trait LookUps {
     fn insn_at(&self, code: Code, at: u32) -> Option<Insn<'_>>
         ensures is { option_map (fetched_as (loaded self.now) code.part (pool_of (loaded self.now) code.part) at) (option_map instruction_of result) ≡ fetch (loaded self.now) (code_of code) at }
         ensures within { IfSome result (λ i. at + i.size ≤ code.end) }
-        ensures decoded { IfSome result (λ i. IsDecoded (instruction_of i)) };
+        ensures decoded { IfSome result (λ i. IsDecoded (instruction_of i)) }
+        ensures front { IfSome result (λ i. (bytes : List ℕ) × IsAtFront i bytes) };
 
     /// The class that an entry of the pool names.
     fn class_entry(&self, part: u32, index: i32) -> Option<Class>
@@ -63,9 +64,9 @@ pub trait LookUps {
     fn handler(&self, code: Code, at: u32, kind: Shape) -> Option<u32>
         ensures { result ≡ handler (loaded self.now) (code_of code) at (shape_of kind) };
 
-    /// How many words a call takes, the receiver counted.
-    fn words(&self, callee: Callee<'_>) -> Option<u64>
-        ensures { result ≡ words (loaded self.now) (callee_of callee.entry) };
+    /// How many words a call takes, the receiver counted. No memory is there for a descriptor of 2^32 bytes or more.
+    fn words(&self, callee: Callee<'_>) -> Result<Option<u64>, NoMemory>
+        ensures { IfOk result (λ count. count ≡ words (loaded self.now) (callee_of callee.entry)) };
 
     /// What a call reaches on a receiver of a type.
     fn reached<'g>(&'g self, callee: Callee<'g>, receiver: Option<Shape>) -> Reached<'g>

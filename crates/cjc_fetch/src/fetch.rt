@@ -1,10 +1,10 @@
 //! The instruction at an offset (Java Card Virtual Machine Specification 2.2.2, section 6.9).
 
-ghost use Rattle.std.specs.Prelude.{◌≡◌, ◌≤◌, ◌+◌, ◌<◌, ◌^◌, ℕ, option_map, slice_get, IfSome, Some};
+ghost use Rattle.std.specs.Prelude.{◌≡◌, ◌≤◌, ◌+◌, ◌<◌, ◌^◌, ℕ, List, option_map, slice_get, IfSome, Some};
 ghost use Rattle.cjc_bytecode.specs.Machine.{Fetched};
 ghost use Rattle.cjc_card.specs.Loaded.{Loaded, Part};
 ghost use Rattle.cjc_card.specs.Methods.{Code as CodeByToken, fetch, fetched_as, methods_begin};
-ghost use Rattle.cjc_decode.specs.Decoded.{instruction_of};
+ghost use Rattle.cjc_decode.specs.Decoded.{IsAtFront, instruction_of};
 ghost use Rattle.cjc_fetch.specs.Codes.{bytes_at, insn_at};
 
 use cjc_decode::{Insn, decode};
@@ -37,6 +37,7 @@ pub fn insn_at<'a>(code: Code<'a>, at: usize) -> Option<Insn<'a>>
     requires { at < 2 ^ 32 }
     ensures is { option_map instruction_of result ≡ insn_at code.entry.methods.now code.entry.begin code.entry.first code.entry.end at }
     ensures within { IfSome result (λ i. at + i.size ≤ code.entry.end) }
+    ensures front { IfSome result (λ i. (bytes : List ℕ) × IsAtFront i bytes) }
 {
     if at < code.first as usize {
         return None;

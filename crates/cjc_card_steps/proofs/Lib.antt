@@ -1,0 +1,4 @@
+pub mod Led
+pub mod Literals
+pub mod Tables
+pub mod Used

@@ -1,0 +1,33 @@
+//! Instructions that see a frame's words alone.
+
+ghost use Rattle.std.specs.Prelude.{IfOk};
+ghost use Rattle.cjc_bytecode.specs.Effects.{Do};
+ghost use Rattle.cjc_opcodes.specs.Meanings.{calculation_of};
+ghost use Rattle.cjc_decode.specs.Decoded.{values};
+ghost use Rattle.cjc_card.specs.Loaded.{Loaded};
+ghost use Rattle.cjc_card_frame.specs.Frames.{AreOperands};
+ghost use Rattle.cjc_card_deeds.specs.Deeds.{FollowsAlone};
+ghost use Rattle.cjc_card_steps.specs.Rows.{row_of};
+
+use cjc_bytes::NoMemory;
+use cjc_card_deeds::Deed;
+use cjc_card_frame::{Cells, Ending};
+use cjc_decode::Operands;
+use cjc_opcodes::Calculation;
+
+/// A calculation with its operands.
+pub(crate) fn calculate<'a>(
+    cells: &mut Cells,
+    room: usize,
+    calculation: Calculation,
+    operands: Operands,
+) -> Result<Deed<'a>, NoMemory>
+    requires { AreOperands calculation (values operands) }
+    ensures { IfOk result (λ deed. (l : Loaded) → FollowsAlone (row_of l (Do (calculation_of calculation (values operands))) room) deed cells.old cells.new) }
+{
+    match cells.calculate(room, calculation, operands)? {
+        Ending::Fine => Ok(Deed::Go),
+        Ending::Fails(exception) => Ok(Deed::Raise(exception)),
+        Ending::Wrong => Ok(Deed::Stick),
+    }
+}

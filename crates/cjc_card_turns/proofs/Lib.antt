@@ -1,0 +1,3 @@
+pub mod Abroad
+pub mod Leading
+pub mod Tosses
