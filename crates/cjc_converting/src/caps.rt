@@ -25,8 +25,8 @@ use cjc_ncode::NMethod;
 use cjc_pool::{Pool, build};
 use cjc_tokens::Tokens;
 use cjc_whole::{Shaped, one_draft};
-use cjc_written_laws::{converted_classes_are_ordered, converted_methods_are_emittable};
 use cjc_world::World;
+use cjc_written_laws::{converted_classes_are_ordered, converted_methods_are_emittable};
 use std::alloc::Global;
 
 /// The constant pool of methods that are few enough for one.

@@ -15,11 +15,11 @@ use crate::files::are_bytes;
 use crate::sizes::test_sizes;
 use cjc_bytes::{Bytes, Fault, Row};
 use cjc_capread::CapTree;
-use cjc_written_laws::static_images_fit;
 use cjc_judge::{Group, Judged, judge};
 use cjc_list::List;
 use cjc_whole::{Shaped, shape};
 use cjc_writing_laws::aids_are_short;
+use cjc_written_laws::static_images_fit;
 use std::alloc::Global;
 
 /// What the files of a list say, which these are in list order and of 512 MiB at most, where they break no rule of files.
