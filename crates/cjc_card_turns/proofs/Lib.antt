@@ -1,3 +1,0 @@
-pub mod Abroad
-pub mod Leading
-pub mod Tosses
