@@ -9,7 +9,8 @@ ghost use Rattle.cjc_run.specs.Convert.{plan_of_convert, plan_of_list, plan_of_f
 
 use cjc_bytes::{Bytes, Fault, NoMemory, Out, Row};
 use cjc_command::{File, Status, Todo, fetch, fetch_each};
-use cjc_convert::{Converted, convert};
+use cjc_conversion::convert;
+use cjc_convert::Converted;
 use cjc_list::{List, read_list};
 use cjc_shelf::Shelf;
 use itoa::Buffer;

@@ -1,6 +1,6 @@
 use Rattle.std.proofs.Common.{◌∙◌}
 use Rattle.std.proofs.lemmas.Result.{err_from_is_err_and}
-use Rattle.cjc_convert.proofs.conversion.convert.Goals as goal
+use Rattle.cjc_convert.proofs.conversion.assemble.Goals as goal
 
 pub judged_files-requires-clause-sound : goal.judged_files-requires-clause-sound
 judged_files-requires-clause-sound c = (c.args.files.now, c.in_ok-judged.ensures.sound)
