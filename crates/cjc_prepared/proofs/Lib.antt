@@ -1,4 +1,5 @@
 pub mod Few
+pub mod Limited
 pub mod Decoded
 pub mod Sound
 pub mod Rows

@@ -1,10 +1,7 @@
 -- What a package has that breaks no rule of its files.
-use Rattle.std.proofs.Common.{◌≡◌, ℕ, suc, ◌≤◌, refl, sym, ap, subst, ◌∙◌, arith, Bool, true, false, ◌&&◌, List, [], ◌∷◌, ◌++◌, length, get_or}
-use Rattle.std.specs.Prelude.{Some, Err, cond, nat_le, slice_get, if◌then◌else◌}
-use Rattle.std.specs.List.{list_all}
-use Rattle.std.proofs.lemmas.Bool.Decides.{nat_tests}
-use Rattle.std.proofs.lemmas.Option.{slice_get-get_or}
-use Rattle.cjc_bytes.specs.Breaks.{Break, broken_at, each_from}
+use Rattle.std.proofs.Common.{◌≡◌, ℕ, suc, ◌≤◌, refl, sym, ap, subst, ◌∙◌, arith, Bool, true, false, List, [], ◌∷◌, length}
+use Rattle.std.specs.Prelude.{Some, Err, cond, slice_get}
+use Rattle.cjc_bytes.specs.Breaks.{Break, broken_at}
 use Rattle.cjc_bytes.specs.Order.{FilePlace, file_of}
 use Rattle.cjc_bytes.specs.declared.settings.FileLine.{FileLine}
 use Rattle.cjc_classfile.specs.Code.{CodeTree}
@@ -29,17 +26,15 @@ use Rattle.cjc_list.specs.Listed.{ListTree}
 use Rattle.cjc_methods.specs.Ready.{AreReady, IsDecoded}
 use Rattle.cjc_narrow_laws.specs.Unbroken.{IsUnbroken}
 use Rattle.cjc_narrow_laws.proofs.Own.{flags_by_name}
-use Rattle.cjc_select_laws.proofs.Limits.{each_at, none_left, none_right, not_broken}
-use Rattle.cjc_subset.specs.Checks.{check_breaks, class_breaks, code_breaks, list_breaks, own_breaks}
-use Rattle.cjc_subset.specs.Limits.{has_many_exported}
+use Rattle.cjc_select_laws.proofs.Limits.{each_at}
 use Rattle.cjc_subset.specs.Places.{at_method, of_class, of_method}
-use Rattle.cjc_tokens.specs.Rules.{FewCells, FewExported, HasFewCells, has_few_cells, has_few_exported, is_few, tested_breaks, token_breaks}
+use Rattle.cjc_tokens.specs.Rules.{FewCells, FewExported, tested_breaks, token_breaks}
 use Rattle.cjc_types.specs.declared.table.TypeTable.{TypeTable}
 use Rattle.cjc_vtable.proofs.Numbers.{class_count-cons}
 use Rattle.cjc_world.specs.Files.{Files}
 use Rattle.cjc_world.specs.Rules.{breaks}
 use Rattle.cjc_prepared.specs.Prepared.{IsSound, tested}
-use Rattle.cjc_prepared.proofs.Few.{few-cells, few-exported}
+use Rattle.cjc_prepared.proofs.Limited as limited
 use Rattle.cjc_prepared.proofs.Decoded.{class_read, code_bytes, decoded_unless, foreign_listed}
 
 -- ---- the lines
@@ -71,28 +66,6 @@ tables_count world (c ∷ codes) (t ∷ tables) h = ap suc (tables_count world c
 
 no_break : (b : Break) → (b ∷ []) ≡ [] → ⊥
 no_break b e = cc
-
--- ---- 413
-
-tokens_where : (b : Bool) (bs : List Break) → (if b then bs else []) ≡ [] → b ≡ true → bs ≡ []
-tokens_where true bs e f = e
-tokens_where false bs e f = cc
-
-le-true : (m n : ℕ) → m ≤ n → nat_le m n ≡ true
-le-true m n l = grind (arith, nat_tests)
-
-cells_all : (cs : List ClassTree) → ((k : ℕ) (c : ClassTree) → slice_get cs k ≡ Some c → HasFewCells c) → list_all has_few_cells cs ≡ true
-cells_all [] f = refl
-cells_all (c ∷ cs) f = by (has_few_cells c) (le-true _ 255 (f 0 c refl)) (cells_all cs (λ k d e. f (suc k) d e))
-  where
-    by : (b : Bool) → b ≡ true → list_all has_few_cells cs ≡ true → (b && list_all has_few_cells cs) ≡ true
-    by true e rest = rest
-    by false e rest = cc
-
-both : (a b : Bool) → a ≡ true → b ≡ true → (a && b) ≡ true
-both true true e f = refl
-both true false e f = f
-both false b e f = e
 
 -- ---- a package
 
@@ -132,50 +105,24 @@ module _ (list : ListTree) (files : List (List ℕ)) (judged : Judged) (is : IsS
     no_int = is.no_int;
   }
 
-  -- ---- 401 and 406
+  -- ---- 401, 406 and 413
 
   abbrev w : Files
   w = judged.world
 
-  abbrev by_classes : List Break
-  by_classes = each_from (λ n c. class_breaks w (settings_of list) (file_of w.lines n) n c) 0 w.classes
-
-  abbrev by_codes : List Break
-  by_codes = each_from (λ _ c. code_breaks w (settings_of list) c) 0 judged.codes
-
-  front : list_breaks list.name w (settings_of list) ++ by_classes ≡ []
-  unfolding check_breaks
-  front = none_left (list_breaks list.name w (settings_of list) ++ by_classes) by_codes (judged_checks list files judged is_tested)
-
   pub few_exported : FewExported (has_applets list) judged.world
-  unfolding list_breaks
-  few_exported =
-      let own : list_breaks list.name w (settings_of list) ≡ [] = none_left (list_breaks list.name w (settings_of list)) by_classes front in
-      let e : has_many_exported w (settings_of list) ≡ false = not_broken _ _ 401 (none_right _ _ (none_left _ _ (none_left _ _ (none_left _ _ (none_left _ _ own))))) in
-      few-exported w (settings_of list) e
-
-  few_cells_at : (k : ℕ) (c : ClassTree) → slice_get w.classes k ≡ Some c → HasFewCells c
-  unfolding class_breaks own_breaks
-  few_cells_at k c e =
-      let all : by_classes ≡ [] = none_right (list_breaks list.name w (settings_of list)) by_classes front in
-      let here : class_breaks w (settings_of list) (file_of w.lines k) k c ≡ [] = each_at (λ n d. class_breaks w (settings_of list) (file_of w.lines n) n d) k w.classes c all e in
-      let own : own_breaks w (settings_of list) (file_of w.lines k) k c ≡ [] = none_left _ _ (none_left _ _ (none_left _ _ here)) in
-      few-cells c (not_broken _ _ 406 (none_right _ _ own))
+  few_exported = limited.few_exported list.name w judged.codes (settings_of list) (judged_checks list files judged is_tested)
 
   pub few_cells : FewCells judged.world
-  few_cells k d l = few_cells_at k (get_or w.classes k d) (slice_get-get_or w.classes k d l)
-
-  -- ---- 413
+  few_cells = limited.few_cells list.name w judged.codes (settings_of list) (judged_checks list files judged is_tested)
 
   pub has_tokens : token_breaks (has_applets list) judged.world ≡ []
-  unfolding tested_breaks is_tested
+  unfolding is_tested
   has_tokens =
       let world = is_world list files judged is_tested in
       let none : tested_breaks (has_applets list) (files_spelt list trees) ≡ [] = none_among (tested_breaks (has_applets list) (files_spelt list trees))
       (λ b among. is.judged_by.unbroken b (of_group (3, groups.Tokens, refl, (trees, world, among)))) in
-      let mine : tested_breaks (has_applets list) w ≡ [] = ap (tested_breaks (has_applets list)) same ∙ none in
-      let few : is_few (has_applets list) w ≡ true = both (has_few_exported (has_applets list) w) (list_all has_few_cells w.classes) (le-true _ 255 few_exported) (cells_all w.classes few_cells_at) in
-      tokens_where (is_few (has_applets list) w) (token_breaks (has_applets list) w) mine few
+      limited.has_tokens list.name w judged.codes (settings_of list) (judged_checks list files judged is_tested) (ap (tested_breaks (has_applets list)) same ∙ none)
 
   -- ---- the methods
 
