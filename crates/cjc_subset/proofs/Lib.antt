@@ -3,3 +3,4 @@ pub mod Codes
 pub mod Any
 pub mod Kin
 pub mod Noted
+pub mod Unmet

@@ -43,6 +43,16 @@ module _ (w : List Class) (c : ClassTree) (d : Class) where
   pub listed_of_above : is_above w c d ≡ true → d.interfaces ≡ listed_above w c d
   listed_of_above e = sym (ap (λ (b : Bool). if b then d.interfaces else []) e)
 
+  -- one that lists none adds none
+  pub listed_of_none : length d.interfaces ≡ 0 → (known : List (List ℕ)) → known ≡ noted known (listed_above w c d)
+  unfolding noted
+  listed_of_none e known = by (is_above w c d) d.interfaces e
+    where
+      by : (b : Bool) (xs : List (List ℕ)) → length xs ≡ 0 → known ≡ noted known (if b then xs else [])
+      by true [] e = refl
+      by true (x ∷ xs) e = absurd (omega (arith, e))
+      by false xs e = refl
+
   pub listed_of_other : is_above w c d ≡ false → (known : List (List ℕ)) → known ≡ noted known (listed_above w c d)
   unfolding noted
   listed_of_other e known = sym (ap (λ (b : Bool). noted known (if b then d.interfaces else [])) e)

@@ -1,3 +1,4 @@
 -- What the code and its proofs keep for themselves; a reader of the contracts may pass over it.
 pub mod Sums
 pub mod Hits
+pub mod Kinds

@@ -1,12 +1,13 @@
 //! Rules 301, 302, 304 to 307, 309, 310 and 401 to 409 over a package, in the order of refusals.
 
-ghost use Rattle.std.specs.Prelude.{◌≡◌, ◌&&◌, ◌<◌, ℕ, [], length, not, option_map, is_some, nat_lt, IfErr, IfOk, OnOk};
+ghost use Rattle.std.specs.Prelude.{◌≡◌, ◌&&◌, ◌<◌, ℕ, [], length, map, not, option_map, is_some, nat_lt, IfErr, IfOk, OnOk};
 ghost use Rattle.cjc_classfile.specs.declared.tree.MethodTree.{MethodTree as Method};
 ghost use Rattle.cjc_classfile.specs.declared.tree.ClassTree.{ClassTree as Tree};
 ghost use Rattle.cjc_bytes.specs.AccessFlags.{is_interface};
 ghost use Rattle.cjc_bytes.specs.Breaks.{IsFirstRefusal, IsFirstOf, each};
 ghost use Rattle.cjc_bytes.specs.Told.{break_of, spot_of};
 ghost use Rattle.cjc_subset.specs.Checks.{check_breaks, class_breaks, code_breaks, field_breaks, has_foreign, has_int, insn_breaks, is_imported_variable, list_breaks, method_breaks, names_variable, own_breaks};
+ghost use Rattle.cjc_subset.specs.Working.Kinds.{kinds_of};
 ghost use Rattle.cjc_subset.specs.Places.{at_class, at_method};
 ghost use Rattle.cjc_bytes.specs.Order.{FilePlace, file_of};
 ghost use Rattle.cjc_subset.specs.Flags.{is_unfit_method};
@@ -15,6 +16,7 @@ ghost use Rattle.cjc_subset.specs.Types.{is_int_desc, names_int};
 use crate::applets::has_unfit_applets;
 use crate::flags::{is_unfit_class, is_unfit_field, is_unfit_method};
 use crate::interfaces::has_many_interfaces;
+use crate::kinds::{Kinds, all_kinds};
 use crate::limits::{
     has_deep_stack, has_many_cells, has_many_exported, has_many_handlers, has_many_locals,
 };
@@ -267,22 +269,24 @@ fn own_break<'w>(
     Ok(first(first(first(types, unfit), interfaces), cells))
 }
 
-/// The first rule that the class of this number or its members break, whose place this is.
+/// The first rule that the class of this number or its members break, whose place this is. The kinds are those of all classes.
 fn class_break<'w>(
     alloc: Global,
     world: &World<'_>,
     settings: &Settings,
+    kinds: &[Kinds],
     number: u32,
     class: &'w ClassTree<'_>,
     spot: Spot<'w>,
 ) -> Result<Option<Break<'w>>, NoMemory>
-    requires { number < length world.now.classes }
+    requires number { number < length world.now.classes }
+    requires kinds { kinds.now ≡ map kinds_of world.now.classes }
     ensures { (f : FilePlace) → spot_of spot.entry ≡ at_class f class.now → IfOk result (λ b. IsFirstOf (class_breaks world.now settings.now f number class.now) (option_map break_of b)) }
 {
     let own = own_break(alloc, world, settings, number, class, spot)?;
     let fields = fields_break(settings, class, spot);
     let methods = methods_break(settings, class, spot);
-    let overriding = overriding_break(alloc, world, class, spot)?;
+    let overriding = overriding_break(alloc, world, kinds, class, spot)?;
     Ok(first(first(first(own, fields), methods), overriding))
 }
 
@@ -299,10 +303,12 @@ fn classes_break<'w>(
     if classes.len() >= 0x1_0000_0000 {
         return Err(NoMemory);
     }
+    let all = all_kinds(alloc, classes)?;
+    let kinds = all.items();
     for (number, class) in classes.iter().enumerate() {
         let file = file_of(world.lines().items(), number);
         let spot = class_spot(file, class);
-        let broken = class_break(alloc, world, settings, number as u32, class, spot)?;
+        let broken = class_break(alloc, world, settings, kinds, number as u32, class, spot)?;
         least = first(least, broken);
     }
     Ok(least)

@@ -57,6 +57,10 @@ fn note_above(
 ) -> Result<(), NoMemory>
     ensures { OnOk result (known.new ≡ noted known.old (listed_above (all_classes world.now) class.now (class_of other.entry))) }
 {
+    // Most classes list none: no way up is walked for them.
+    if other.interfaces().is_empty() {
+        return Ok(());
+    }
     if is_above(world, class, other) {
         note(alloc, known, other.interfaces())
     } else {

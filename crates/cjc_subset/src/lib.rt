@@ -6,6 +6,7 @@ mod applets;
 mod checking;
 mod flags;
 mod interfaces;
+mod kinds;
 mod limits;
 mod members;
 mod naming;

@@ -1,18 +1,20 @@
 //! Rules 305, 306 and 307: methods and the methods that they inherit.
 
-ghost use Rattle.std.specs.Prelude.{◌≡◌, ◌&&◌, ◌<◌, false, length, get_or, not, option_map, IfOk};
+ghost use Rattle.std.specs.Prelude.{◌≡◌, ◌&&◌, ◌<◌, false, length, get_or, map, not, option_map, IfOk};
 ghost use Rattle.cjc_world.specs.Classes.{Member, all_classes, declared, imported};
 ghost use Rattle.cjc_bytes.specs.AccessFlags.{is_interface};
 ghost use Rattle.cjc_world.specs.Working.Known.{class_of};
 ghost use Rattle.cjc_world.specs.Lookup.{is_called, selected};
 ghost use Rattle.cjc_bytes.specs.Told.{break_of, spot_of};
 ghost use Rattle.cjc_subset.specs.Working.Hits.{hit_of};
+ghost use Rattle.cjc_subset.specs.Working.Kinds.{kinds_of};
 ghost use Rattle.cjc_subset.specs.Members.{hit};
 ghost use Rattle.cjc_subset.specs.Overriding.{asks_for_code, changes_kind, class_against, has_no_code, hides_one, is_inherited, is_of_other_kind, is_open, is_out_of_sight, is_package_visible, is_special, is_unfit_selection, kin_breaks, lacks_code, method_against, overriding_breaks};
 ghost use Rattle.cjc_subset.specs.Places.{at_class};
 ghost use Rattle.cjc_bytes.specs.Order.{FilePlace};
 ghost use Rattle.cjc_bytes.specs.Breaks.{IsFirstOf, each};
 
+use crate::kinds::{Kinds, kinds_of, may_break};
 use crate::members::{Hit, is_constructor, is_initialiser, member_found};
 use crate::places::method_spot;
 use cjc_bytes::{
@@ -24,19 +26,19 @@ use cjc_export::{ExportClass, ExportTree};
 use cjc_world::{Known, World};
 use std::alloc::Global;
 
-fn is_special(name: &[u8]) -> bool
+pub(crate) fn is_special(name: &[u8]) -> bool
     ensures { result ≡ is_special name.now }
 {
     is_constructor(name) || is_initialiser(name)
 }
 
-fn is_open(flags: u16) -> bool
+pub(crate) fn is_open(flags: u16) -> bool
     ensures { result ≡ is_open flags }
 {
     is_public(flags) || is_protected(flags)
 }
 
-fn is_package_visible(flags: u16) -> bool
+pub(crate) fn is_package_visible(flags: u16) -> bool
     ensures { result ≡ is_package_visible flags }
 {
     !is_public(flags) && !is_protected(flags) && !is_private(flags)
@@ -280,19 +282,43 @@ fn kin_break<'w>(
     }
 }
 
-/// The first rule that a class breaks against these classes of the package.
+/// The same of another class of the package. Nothing is looked up where the kinds of methods of both say that there is none.
+fn package_break<'w>(
+    alloc: Global,
+    world: &World<'_>,
+    class: &'w ClassTree<'_>,
+    own: Kinds,
+    other: &ClassTree<'_>,
+    kinds: Kinds,
+    spot: Spot<'w>,
+) -> Result<Option<Break<'w>>, NoMemory>
+    requires own { own ≡ kinds_of class.now }
+    requires kinds { kinds ≡ kinds_of other.now }
+    ensures { (f : FilePlace) → spot_of spot.entry ≡ at_class f class.now → IfOk result (λ b. IsFirstOf (kin_breaks (all_classes world.now) f class.now (declared 0 other.now)) (option_map break_of b)) }
+{
+    if may_break(own, kinds) {
+        kin_break(alloc, world, class, Known::Declared(0, other), spot)
+    } else {
+        Ok(None)
+    }
+}
+
+/// The first rule that a class breaks against these classes of the package, of which these are the kinds of methods.
 fn declared_break<'w>(
     alloc: Global,
     world: &World<'_>,
     class: &'w ClassTree<'_>,
     others: &[ClassTree<'_>],
+    kinds: &[Kinds],
     spot: Spot<'w>,
 ) -> Result<Option<Break<'w>>, NoMemory>
+    requires { kinds.now ≡ map kinds_of others.now }
     ensures { (f : FilePlace) → spot_of spot.entry ≡ at_class f class.now → IfOk result (λ b. IsFirstOf (each (λ _ d. kin_breaks (all_classes world.now) f class.now (declared 0 d)) others.now) (option_map break_of b)) }
 {
+    let own = kinds_of(class);
     let mut least = None;
-    for other in others {
-        let broken = kin_break(alloc, world, class, Known::Declared(0, other), spot)?;
+    for (place, other) in others.iter().enumerate() {
+        let broken = package_break(alloc, world, class, own, other, kinds[place], spot)?;
         least = first(least, broken);
     }
     Ok(least)
@@ -334,17 +360,20 @@ fn imports_break<'w>(
     Ok(least)
 }
 
-/// The first of rules 305, 306 and 307 that a class of the package breaks, whose place this is.
+/// The first of rules 305, 306 and 307 that a class of the package breaks, whose place this is. The kinds are those of each
+/// class of the package.
 pub(crate) fn overriding_break<'w>(
     alloc: Global,
     world: &World<'_>,
+    kinds: &[Kinds],
     class: &'w ClassTree<'_>,
     spot: Spot<'w>,
 ) -> Result<Option<Break<'w>>, NoMemory>
+    requires { kinds.now ≡ map kinds_of world.now.classes }
     ensures { (f : FilePlace) → spot_of spot.entry ≡ at_class f class.now → IfOk result (λ b. IsFirstOf (overriding_breaks world.now f class.now) (option_map break_of b)) }
 {
     let lacking = lacks_code(alloc, world, class, Known::Declared(0, class))?;
-    let declared = declared_break(alloc, world, class, world.classes().items(), spot)?;
+    let declared = declared_break(alloc, world, class, world.classes().items(), kinds, spot)?;
     let imported = imports_break(alloc, world, class, world.exports().items(), spot)?;
     Ok(first(first(broken(lacking, spot, 307), declared), imported))
 }

@@ -8,5 +8,5 @@ use Rattle.cjc_bytes.specs.Order.{FilePlace}
 use Rattle.cjc_bytes.specs.Breaks.{IsFirstOf, each}
 use Rattle.cjc_subset.proofs.overriding.declared_break.Given as goal
 
-abbrev pub invariant-loop-other : goal.invariant-loop-other
-invariant-loop-other l = (f : FilePlace) → spot_of l.spot ≡ at_class f l.class → IsFirstOf (each (λ _ d. kin_breaks (all_classes l.world) f l.class (declared 0 d)) (take l.other-index l.others)) (option_map break_of l.least)
+abbrev pub invariant-loop-place : goal.invariant-loop-place
+invariant-loop-place l = (f : FilePlace) → spot_of l.spot ≡ at_class f l.class → IsFirstOf (each (λ _ d. kin_breaks (all_classes l.world) f l.class (declared 0 d)) (take l.place l.others)) (option_map break_of l.least)
