@@ -59,13 +59,14 @@ exports_one f a b h g e = ap (λ (x : Break). x.refusal) (same_break _ (exports_
 
 -- ---- components
 
-record OfComponent (b : Break) : Type 0 where
-  tag : ℕ
-  place : ℕ
-  rule : ℕ
-  is : b ≡ broken_at (file_spot (component_place tag) place) rule
+-- It is of a rule at a place of a component.
+pub record OfComponent (b : Break) : Type 0 where
+  pub tag : ℕ
+  pub place : ℕ
+  pub rule : ℕ
+  pub is : b ≡ broken_at (file_spot (component_place tag) place) rule
 
-of_components : (b c : Break) → OfComponent b → OfComponent c → b.rank ≡ c.rank → b.refusal ≡ c.refusal
+pub of_components : (b c : Break) → OfComponent b → OfComponent c → b.rank ≡ c.rank → b.refusal ≡ c.refusal
 of_components b c h g e =
     let ranks = sym (ap (λ (x : Break). x.rank) h.is) ∙ e ∙ ap (λ (x : Break). x.rank) g.is in
     let file = ap (λ (r : Rank). r.file) ranks in
@@ -79,7 +80,7 @@ in_file tag (Ok tree) b among = none b among
 in_file tag (Err k) b foremost = record { tag = tag; place = k; rule = 106; is = refl }
 in_file tag (Err k) b (after more) = none b more
 
-in_components : (tags : List ℕ) (files : List (List ℕ)) (b : Break) → Among b (component_breaks tags files) → OfComponent b
+pub in_components : (tags : List ℕ) (files : List (List ℕ)) (b : Break) → Among b (component_breaks tags files) → OfComponent b
 unfolding component_breaks
 in_components [] [] b among = none b among
 in_components [] (x ∷ files) b among = none b among
@@ -107,7 +108,7 @@ in_sentences (s ∷ ss) b among = elim (among_either b (breaks_of s) (flat_map b
   | inr later ↦ in_sentences ss b later
 ]
 
-in_cap : (cap : Option CapTree) (exports : List ExportTree) (b : Break) → Among b (sentence_breaks cap exports) → OfComponent b
+pub in_cap : (cap : Option CapTree) (exports : List ExportTree) (b : Break) → Among b (sentence_breaks cap exports) → OfComponent b
 in_cap None exports b among = none b among
 in_cap (Some cap) exports b among = in_sentences (sentences cap exports) b among
 

@@ -405,3 +405,19 @@ file_low lines files b (i, at, breach, is) =
     by line bytes (no_class_file p c h) = refl
     by line bytes (no_instructions t m o c s h) = refl
     by line bytes (no_export_file p c h) = refl
+
+-- and its rule is one of 101 to 104
+pub file_rule : (lines : List FileLine) (files : List (List ℕ)) (b : Break) → BreaksFile lines files b → b.rank.rule ≤ 104
+file_rule lines files b (i, at, breach, is) = by (ap (λ (x : Break). x.rank.rule) is) (low at.line at.bytes breach)
+  where
+    either : (t : Bool) → (if t then 102 else 101) ≤ 104
+    either true = omega arith
+    either false = omega arith
+
+    low : (line : FileLine) (bytes : List ℕ) (x : FileBreach line bytes) → (file_rank i line bytes x).rule ≤ 104
+    low line bytes (no_class_file p c h) = either _
+    low line bytes (no_instructions t m o c s h) = omega arith
+    low line bytes (no_export_file p c h) = omega arith
+
+    by : {r : ℕ} → b.rank.rule ≡ r → r ≤ 104 → b.rank.rule ≤ 104
+    by e le = omega (arith, e, le)

@@ -1,35 +1,17 @@
 -- What was read decides one answer.
-use Rattle.std.proofs.Common.{◌≡◌, ◌⊎◌, inl, inr, ℕ, ◌≤◌, List, sym, ap, ◌∙◌, arith, Bool, true, false, Ok, Err}
-use Rattle.std.specs.Prelude.{if◌then◌else◌}
+use Rattle.std.proofs.Common.{◌≡◌, ◌⊎◌, inl, inr, ℕ, List, sym, ap, ◌∙◌, arith, Ok, Err}
 use Rattle.cjc_bytes.specs.Breaks.{Break}
 use Rattle.cjc_bytes.specs.Order.{Rank}
 use Rattle.cjc_bytes.specs.declared.fault.Refusal.{Refusal}
-use Rattle.cjc_bytes.specs.declared.settings.FileLine.{FileLine}
 use Rattle.cjc_command.specs.declared.status.Todo.{Todo}
-use Rattle.cjc_judge.specs.Rules.{Breach, BreaksFile, FileBreach, no_class_file, no_instructions, no_export_file, file_rank}
-use Rattle.cjc_judge.proofs.Firsts.{file_or_later}
+use Rattle.cjc_judge.specs.Rules.{Breach}
+use Rattle.cjc_judge.proofs.Firsts.{file_or_later, file_rule}
 use Rattle.cjc_judge.proofs.OneRefusal.{one_refusal, one_first_of}
 use Rattle.cjc_list.specs.Listed.{ListTree}
 use Rattle.cjc_running.specs.Ready.{tested, script_break, BreaksScript, Breaks, of_package, of_script}
 use Rattle.cjc_running.specs.declared.input.Input.{Input}
 use Rattle.cjc_script_text.specs.Scripted.{scripted}
 use Rattle.cjc_jvm_report.specs.Runs.{Runs}
-
--- no rule of a single file is that of a script
-file_rule : (lines : List FileLine) (files : List (List ℕ)) (b : Break) → BreaksFile lines files b → b.rank.rule ≤ 104
-file_rule lines files b (i, at, breach, is) = by (ap (λ (x : Break). x.rank.rule) is) (low at.line at.bytes breach)
-  where
-    either : (t : Bool) → (if t then 102 else 101) ≤ 104
-    either true = omega arith
-    either false = omega arith
-
-    low : (line : FileLine) (bytes : List ℕ) (x : FileBreach line bytes) → (file_rank i line bytes x).rule ≤ 104
-    low line bytes (no_class_file p c h) = either _
-    low line bytes (no_instructions t m o c s h) = omega arith
-    low line bytes (no_export_file p c h) = omega arith
-
-    by : {r : ℕ} → b.rank.rule ≡ r → r ≤ 104 → b.rank.rule ≤ 104
-    by e le = omega (arith, e, le)
 
 module _ (list : ListTree) (files : List (List ℕ)) (name text : List ℕ) where
   apart : {P : Type 0} (a b : Break) → Breach list files tested a → BreaksScript name text b → a.rank ≡ b.rank → P
