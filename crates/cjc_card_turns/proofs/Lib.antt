@@ -1,0 +1,5 @@
+pub mod Abroad
+pub mod Leading
+pub mod Receivers
+pub mod Resumed
+pub mod Tosses

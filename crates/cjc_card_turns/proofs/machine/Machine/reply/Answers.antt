@@ -1,0 +1,41 @@
+use Rattle.std.proofs.Common.{sym, ap, ◌∙◌, List, ℕ}
+use Rattle.std.specs.Prelude.{Option, option_map}
+use Rattle.std.proofs.lemmas.Result.{IfOk-weaker}
+use Rattle.cjc_script.specs.declared.script.Reply.{Reply}
+use Rattle.cjc_script.specs.declared.report.Outcome.TheVariants.{Unfit}
+use Rattle.cjc_acts.specs.Meant.{sort_meant}
+use Rattle.cjc_bytecode.specs.Machine.{Ended, raised, replied}
+use Rattle.cjc_card.specs.Classes.{Class}
+use Rattle.cjc_card.specs.Calls.{throwable}
+use Rattle.cjc_card.specs.ByToken.{by_token}
+use Rattle.cjc_card_turns.specs.States.{with_frames}
+use Rattle.cjc_card_turns.proofs.Leading.{leads_as}
+use Rattle.cjc_card_turns.proofs.machine.Machine.reply.Goals as goal
+
+pub returns-in-Some-clause-next : goal.returns-in-Some-clause-next
+unfolding by_token
+returns-in-Some-clause-next g c =
+    let l = g.L.LookUps.loaded c.args.links.now in
+    let s = c.args.self.now in
+    let f = c.args.frame in
+    let a = c.args.answer.now in
+    let result = option_map sort_meant c.args.sort in
+    let class = c.in-Some.ensures ∙ ap (λ (name : List ℕ). throwable l name) c.items.ensures in
+    IfOk-weaker c.raise.result _ _ (λ after h. λ had.
+    leads_as had _ _ after c.raise.new.self
+    (ap (λ (r : Reply). replied (by_token l) r a.number result f s.frames (with_frames had s)) c.in-Throw.is
+    ∙ ap (λ (o : Option Class). raised (by_token l) o f s.frames (with_frames had s) (Ended (Unfit a.number) (with_frames had s))) (sym class))
+    (h had (Ended (Unfit a.number) (with_frames had s)))) c.raise.ensures.next
+
+pub returns-in-None-clause-next : goal.returns-in-None-clause-next
+unfolding by_token
+returns-in-None-clause-next g c =
+    let l = g.L.LookUps.loaded c.args.links.now in
+    let s = c.args.self.now in
+    let f = c.args.frame in
+    let a = c.args.answer.now in
+    let result = option_map sort_meant c.args.sort in
+    let none = c.in-None.ensures ∙ ap (λ (name : List ℕ). throwable l name) c.items.ensures in
+    λ had.
+    ap (λ (r : Reply). replied (by_token l) r a.number result f s.frames (with_frames had s)) c.in-Throw.is
+    ∙ ap (λ (o : Option Class). raised (by_token l) o f s.frames (with_frames had s) (Ended (Unfit a.number) (with_frames had s))) (sym none)
