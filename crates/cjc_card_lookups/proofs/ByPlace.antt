@@ -1,9 +1,9 @@
 -- Classes of the package by their names.
 use Rattle.std.proofs.Common.{◌≡◌, ℕ, suc, List, [], ◌∷◌, refl, sym, ap, ◌∙◌, map, Option, Some, None}
-use Rattle.std.specs.Prelude.{option_map, option_and_then, if◌then◌else◌}
+use Rattle.std.specs.Prelude.{option_map, option_and_then, slice_get, if◌then◌else◌}
 use Rattle.std.specs.Str.{bytes_eq}
 use Rattle.cjc_capread.specs.declared.tree.ClassInfo.{ClassInfo}
-use Rattle.cjc_card.specs.Classes.{Own, number_named, offset_from, own_from}
+use Rattle.cjc_card.specs.Classes.{Own, number_named, offset_from, offset_of, own_from}
 use Rattle.cjc_card_lookups.specs.declared.names.ClassNames.{ClassNames}
 use Rattle.cjc_card_lookups.specs.declared.tables.Tables.{Tables}
 use Rattle.cjc_card_lookups.specs.Indices.{first_place, place_under}
@@ -32,3 +32,8 @@ own_found t name kept n o is at =
 
 pub own_missing : (t : Tables) (name : List ℕ) → AreKept t → None ≡ place_under t.own name → None ≡ own_from 0 (loaded_of t).parts name
 own_missing t name kept is = ap (option_and_then (λ k. option_map (Own 0) (offset_from 2 (infos_in t.infos) k))) is ∙ own_by_place t name kept
+
+-- a class of the package by its number
+pub own_numbered : (t : Tables) (n : ℕ) → AreKept t → (o : Option ℕ) → o ≡ offset_from 2 (infos_in t.infos) n
+    → option_map (Own 0) o ≡ option_map (Own 0) (option_and_then (λ p. offset_of p n) (slice_get (loaded_of t).parts 0))
+own_numbered t n kept o is = ap (option_map (Own 0)) (is ∙ ap (λ (k : ClassInfo). offset_from 2 (infos_in k) n) kept.are_infos)

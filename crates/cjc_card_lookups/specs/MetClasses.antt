@@ -21,7 +21,8 @@ both b c hb hc = ap (λ x. x && c) hb ∙ hc
 differ : (a b : Class) → (a ≡ b → ⊥) → Decides false (a ≡ b)
 differ a b h = (λ e. absurd (true≢false (sym e)), λ e. absurd (h e))
 
-same_class-Decides : (a b : Class) → Decides (same_class a b) (a ≡ b)
+-- the test tells which are the same
+pub same_class-Decides : (a b : Class) → Decides (same_class a b) (a ≡ b)
 same_class-Decides (Own p x) (Own q y) = (
   λ e. ap (λ n. Own n x) ((Decides-eqb p q).0 (two (p == q) (x == y) e).0) ∙ ap (Own q) ((Decides-eqb x y).0 (two (p == q) (x == y) e).1),
   λ e. both (p == q) (x == y) ((Decides-eqb p q).1 cc) ((Decides-eqb x y).1 cc),

@@ -179,7 +179,7 @@ impl<'a> Tables<'a> {
     }
 
     /// The method that the entry of an index names, by how it is called.
-    pub(crate) fn callee_entry(&self, part: u32, mode: Mode, index: i32) -> Option<Callee<'a>>
+    pub fn callee_entry(&self, part: u32, mode: Mode, index: i32) -> Option<Callee<'a>>
         requires { AreKept self.now }
         ensures { option_map callee_of result ≡ option_and_then (calling (loaded_of self.now) part (mode_of mode)) (entry (pool_of (loaded_of self.now) part) index) }
     {

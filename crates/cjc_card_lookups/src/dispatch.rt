@@ -29,7 +29,7 @@ enum TableEntry {
 
 /// What is found upwards: none, a method of a package by its offset, or an imported class, which is asked.
 #[derive(Clone, Copy)]
-pub(crate) enum Walk {
+pub enum Walk {
     Nothing,
     At(u32, u64),
     Abroad(u32, u8),
@@ -89,7 +89,7 @@ impl<'a> Tables<'a> {
     }
 
     /// A public or protected method by its token, so many classes upwards at most.
-    pub(crate) fn walk_open(&self, class: Option<Class>, depth: u32, token: u8) -> Walk
+    pub fn walk_open(&self, class: Option<Class>, depth: u32, token: u8) -> Walk
         requires { AreKept self.now }
         ensures { walk_gives (loaded_of self.now) token result ≡ dispatched_open (tower_from (loaded_of self.now) depth (option_map class_of class)) token }
     {
@@ -116,7 +116,7 @@ impl<'a> Tables<'a> {
     }
 
     /// A package-visible method by its package and its token, so many classes upwards at most.
-    pub(crate) fn walk_hidden(&self, class: Option<Class>, depth: u32, home: u32, token: u8) -> Walk
+    pub fn walk_hidden(&self, class: Option<Class>, depth: u32, home: u32, token: u8) -> Walk
         requires { AreKept self.now }
         ensures { walk_hides result ≡ dispatched_hidden (tower_from (loaded_of self.now) depth (option_map class_of class)) home token }
     {
@@ -159,12 +159,7 @@ impl<'a> Tables<'a> {
     }
 
     /// The map of an interface, in a class or the nearest above that lists it, so many classes upwards at most.
-    pub(crate) fn map_of(
-        &self,
-        class: Option<Class>,
-        depth: u32,
-        interface: Class,
-    ) -> Option<&'a Bytes>
+    pub fn map_of(&self, class: Option<Class>, depth: u32, interface: Class) -> Option<&'a Bytes>
         requires { AreKept self.now }
         ensures { option_copied result ≡ map_of (loaded_of self.now) (tower_from (loaded_of self.now) depth (option_map class_of class)) (class_of interface) }
     {

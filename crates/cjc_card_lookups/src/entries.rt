@@ -36,7 +36,7 @@ impl<'a> Tables<'a> {
     }
 
     /// The class of a class_ref of a package, where there is one.
-    pub(crate) fn class_in(&self, part: u32, class: ClassRef) -> Option<Class>
+    pub fn class_in(&self, part: u32, class: ClassRef) -> Option<Class>
         requires { AreKept self.now }
         ensures { option_map class_of result ≡ class_by_ref (loaded_of self.now) part class }
     {
@@ -44,7 +44,7 @@ impl<'a> Tables<'a> {
     }
 
     /// The class that an entry names.
-    pub(crate) fn class_entry(&self, part: u32, index: i32) -> Option<Class>
+    pub fn class_entry(&self, part: u32, index: i32) -> Option<Class>
         requires { AreKept self.now }
         ensures { option_map class_of result ≡ class_at (loaded_of self.now) part (entry (pool_of (loaded_of self.now) part) index) }
     {
@@ -71,7 +71,7 @@ impl<'a> Tables<'a> {
     }
 
     /// The instance field that an entry names.
-    pub(crate) fn field_entry(&self, part: u32, index: i32) -> Option<Field>
+    pub fn field_entry(&self, part: u32, index: i32) -> Option<Field>
         requires { AreKept self.now }
         ensures { option_map field_of result ≡ option_and_then (field_by (loaded_of self.now) part) (entry (pool_of (loaded_of self.now) part) index) }
     {
@@ -97,7 +97,7 @@ impl<'a> Tables<'a> {
     }
 
     /// The static cell that an entry names.
-    pub(crate) fn cell_entry(&self, part: u32, index: i32) -> Option<StaticCell>
+    pub fn cell_entry(&self, part: u32, index: i32) -> Option<StaticCell>
         ensures { option_map cell_of result ≡ option_and_then (cell_by (loaded_of self.now) part) (entry (pool_of (loaded_of self.now) part) index) }
     {
         match self.pool_entry(part, index) {

@@ -51,7 +51,7 @@ fn put_slots(slots: &mut Vec<Slot>, class: Class, entry: &ClassEntry) -> Result<
 
 impl<'a> Tables<'a> {
     /// So many superclasses are looked at, at most.
-    pub(crate) fn depth(&self) -> u32
+    pub fn depth(&self) -> u32
         requires { AreKept self.now }
         ensures depth { result ≡ depth (loaded_of self.now) }
         ensures small { result + 1 < 2 ^ 32 }
@@ -100,7 +100,7 @@ impl<'a> Tables<'a> {
     }
 
     /// What a new object of a class holds; `None` where it is none that objects are made of.
-    pub(crate) fn fresh(&self, alloc: Global, class: Class) -> Result<Option<Vec<Slot>>, NoMemory>
+    pub fn fresh(&self, alloc: Global, class: Class) -> Result<Option<Vec<Slot>>, NoMemory>
         requires { AreKept self.now }
         ensures { IfOk result (λ slots. option_map (λ s. map slot_by s.items) slots ≡ fresh (loaded_of self.now) (class_of class)) }
     {

@@ -53,8 +53,8 @@ impl Numbers {
 
 /// A name as the key of a map.
 #[derive(Drop)]
-struct Name<'a> {
-    bytes: &'a [u8],
+pub struct Name<'a> {
+    pub bytes: &'a [u8],
 }
 
 impl<'a> Model for Name<'a> {

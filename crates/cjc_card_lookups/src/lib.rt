@@ -11,6 +11,7 @@ mod exported;
 mod fresh;
 mod indices;
 mod infos;
+mod listed;
 mod met;
 mod named;
 mod names;
@@ -20,5 +21,9 @@ mod steps;
 mod supers;
 mod tables;
 
+pub use dispatch::Walk;
+pub use indices::Name;
+pub use met::Key;
 pub use names::{ClassNames, FieldName, MethodName};
 pub use part::Part;
+pub use tables::Tables;

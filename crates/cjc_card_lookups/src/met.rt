@@ -15,8 +15,8 @@ use std::marker::Model;
 
 /// A class as the key of a map.
 #[derive(Drop)]
-struct Key {
-    class: Class,
+pub struct Key {
+    pub class: Class,
 }
 
 impl Model for Key {

@@ -16,7 +16,7 @@ use cjc_card_heap::Class;
 
 impl<'a> Tables<'a> {
     /// The names of a class of a package.
-    pub(crate) fn class_names(&self, part: u32, offset: u32) -> Option<&'a ClassNames>
+    pub fn class_names(&self, part: u32, offset: u32) -> Option<&'a ClassNames>
         requires { AreKept self.now }
         ensures { option_map class_names_of (option_copied result) ≡ names_of (loaded_of self.now) part offset }
     {
@@ -30,7 +30,7 @@ impl<'a> Tables<'a> {
     }
 
     /// The name of a class.
-    pub(crate) fn name(&self, class: Class) -> &'a [u8]
+    pub fn name(&self, class: Class) -> &'a [u8]
         requires { AreKept self.now }
         ensures { result.now ≡ name_of (loaded_of self.now) (class_of class) }
     {
@@ -61,7 +61,7 @@ impl<'a> Tables<'a> {
     }
 
     /// A class of the package by its name, else of the export files.
-    pub(crate) fn class_named(&self, name: &[u8]) -> Option<Class>
+    pub fn class_named(&self, name: &[u8]) -> Option<Class>
         requires { AreKept self.now }
         ensures { option_map class_of result ≡ class_named (loaded_of self.now) name.now }
     {
@@ -72,7 +72,7 @@ impl<'a> Tables<'a> {
     }
 
     /// Whether no object is made of a class.
-    pub(crate) fn is_interface(&self, class: Class) -> bool
+    pub fn is_interface(&self, class: Class) -> bool
         requires { AreKept self.now }
         ensures { result ≡ is_interface (loaded_of self.now) (class_of class) }
     {

@@ -51,7 +51,7 @@ fn start_at(offset: u64, header: Header, length: u64) -> Start
 
 impl<'a> Tables<'a> {
     /// The method of a package whose header stands at an offset.
-    pub(crate) fn start(&self, part: u32, offset: u64) -> Option<Start>
+    pub fn start(&self, part: u32, offset: u64) -> Option<Start>
         requires { AreKept self.now }
         ensures { option_map start_of result ≡ start_by_offset (loaded_of self.now) part offset }
     {
@@ -69,7 +69,7 @@ impl<'a> Tables<'a> {
     }
 
     /// The instruction at an offset, where all of it lies in its method's code.
-    pub(crate) fn insn_at(&self, code: Code, at: u32) -> Option<Insn<'a>>
+    pub fn insn_at(&self, code: Code, at: u32) -> Option<Insn<'a>>
         requires { AreKept self.now }
         ensures is { option_map (fetched_as (loaded_of self.now) code.part (pool_of (loaded_of self.now) code.part) at) (option_map instruction_of result) ≡ fetch (loaded_of self.now) (code_of code) at }
         ensures within { IfSome result (λ i. at + i.size ≤ code.end) }

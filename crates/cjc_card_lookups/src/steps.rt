@@ -76,7 +76,7 @@ fn tree_steps(trees: &[ExportTree]) -> Result<u64, NoMemory>
 
 impl<'a> Tables<'a> {
     /// The steps that reach all that stands above any class.
-    pub(crate) fn steps(&self) -> Result<u64, NoMemory>
+    pub fn steps(&self) -> Result<u64, NoMemory>
         requires { AreKept self.now }
         ensures { IfOk result (λ n. n ≡ steps (loaded_of self.now)) }
     {

@@ -79,7 +79,7 @@ fn meet(climb: &mut Climb, class: Class) -> Result<(), NoMemory>
 
 impl<'a> Tables<'a> {
     /// java/lang/Object.
-    pub(crate) fn object_class(&self) -> Option<Class>
+    pub fn object_class(&self) -> Option<Class>
         requires { AreKept self.now }
         ensures { option_map class_of result ≡ object_class (loaded_of self.now) }
     {
@@ -199,12 +199,7 @@ impl<'a> Tables<'a> {
     }
 
     /// A class, and what stands above it, in so many steps as reach all.
-    pub(crate) fn upwards(
-        &self,
-        alloc: Global,
-        count: u64,
-        class: Class,
-    ) -> Result<Row<Class>, NoMemory>
+    pub fn upwards(&self, alloc: Global, count: u64, class: Class) -> Result<Row<Class>, NoMemory>
         requires tables { AreKept self.now }
         requires count { count ≡ steps (loaded_of self.now) }
         ensures { IfOk result (λ line. map class_of line ≡ upwards (loaded_of self.now) (class_of class)) }

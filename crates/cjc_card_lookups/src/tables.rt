@@ -29,7 +29,7 @@ const TOO_MANY_HANDLERS: usize = 1 << 28;
 const TOO_MANY_FILES: usize = 1 << 32;
 
 /// A package, the export files that it imports, and tables made once.
-pub(crate) struct Tables<'a> {
+pub struct Tables<'a> {
     pub(crate) part: Part<'a>,
     /// Where its methods begin, behind the handlers.
     pub(crate) begin: u32,
@@ -90,7 +90,7 @@ fn exported_of<'a>(alloc: Global, trees: &'a [ExportTree]) -> Result<Exported<'a
 
 impl<'a> Tables<'a> {
     /// The tables of a package and of the export files that it imports, in the order of Import.
-    pub(crate) fn new(
+    pub fn new(
         alloc: Global,
         part: Part<'a>,
         trees: &'a [ExportTree],
@@ -127,14 +127,14 @@ impl<'a> Tables<'a> {
     }
 
     /// The class of an export file by its token.
-    pub(crate) fn foreign(&self, tree: u32, token: u8) -> Option<&'a ExportClass>
+    pub fn foreign(&self, tree: u32, token: u8) -> Option<&'a ExportClass>
         ensures { option_copied result ≡ foreign (loaded_of self.now) tree token }
     {
         self.exported.class(tree, token)
     }
 
     /// The first class of a name in the export files.
-    pub(crate) fn foreign_named(&self, name: &[u8]) -> Option<Class>
+    pub fn foreign_named(&self, name: &[u8]) -> Option<Class>
         ensures { option_map class_of result ≡ foreign_named (loaded_of self.now) name.now }
     {
         self.exported.named(name)
@@ -174,7 +174,7 @@ impl<'a> Tables<'a> {
     }
 
     /// The superclass of a class of a package.
-    pub(crate) fn superclass(&self, part: u32, offset: u32) -> Option<Class>
+    pub fn superclass(&self, part: u32, offset: u32) -> Option<Class>
         requires { AreKept self.now }
         ensures { option_map class_of result ≡ superclass (loaded_of self.now) part offset }
     {

@@ -1,0 +1,5 @@
+mod Putting
+mod Everywhere
+mod Kept
+mod Upward
+mod Near
