@@ -1,0 +1,3 @@
+mod Widths
+mod Finding
+mod Towers

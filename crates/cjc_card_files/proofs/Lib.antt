@@ -1,0 +1,4 @@
+mod Counting
+mod ByName
+mod Climbing
+mod Lines
