@@ -1,0 +1,16 @@
+-- What is kept of a package when it is ready to be run.
+use Rattle.std.specs.Prelude.{◌≡◌, true}
+use Rattle.cjc_card_files.specs.declared.files.Files.{Files}
+use Rattle.cjc_card_files.specs.Files.{AreFiles}
+use Rattle.cjc_card_lines.specs.declared.lines.Lines.{Lines}
+use Rattle.cjc_card_lines.specs.Handlers.{are_all_near}
+use Rattle.cjc_card_lines.specs.Lines.{AreLines}
+use Rattle.cjc_card_lookups.specs.declared.tables.Tables.{Tables}
+use Rattle.cjc_card_lookups.specs.Tables.{AreKept, loaded_of}
+
+-- The tables are those of the package, and the lines and the files those of the group; 32 bits count the offsets of handlers.
+pub record AreReady (t : Tables) (lines : Lines) (files : Files) : Type 0 where
+  pub are_kept : AreKept t
+  pub are_lines : AreLines (loaded_of t) lines
+  pub are_files : AreFiles (loaded_of t) files
+  pub are_near : are_all_near (loaded_of t) ≡ true
