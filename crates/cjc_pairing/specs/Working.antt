@@ -1,0 +1,3 @@
+-- What the code and its proofs keep for themselves; a reader of the contracts may pass over it.
+pub mod Counts
+pub mod Heads

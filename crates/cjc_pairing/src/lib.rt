@@ -1,0 +1,10 @@
+//! The test whether components are of a package: as many classes, methods and static cells as its class files say. Whoever
+//! runs components beside class files calls it, after the components were found consistent. It knows no name of a member.
+#![tactic(auto)]
+
+mod breaks;
+mod cells;
+mod counts;
+mod pair;
+
+pub use pair::test_pair;
