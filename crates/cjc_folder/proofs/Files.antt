@@ -5,7 +5,7 @@ use Rattle.std.proofs.lemmas.List.Elements.{All-filter}
 use Rattle.std.proofs.lemmas.List.FromFn.{get_or-range_with_len, length-range_with_len}
 use Rattle.std.specs.Prelude.{All}
 use Rattle.std.specs.List.{range_with_len}
-use Rattle.cjc_bytes.specs.Breaks.{Break}
+use Rattle.cjc_bytes.specs.Breaks.{Break, IsFirstRefusal}
 use Rattle.cjc_bytes.specs.Format.{Format, FileBreaks, FileSpells, Spells}
 use Rattle.cjc_bytes.specs.Order.{FilePlace}
 use Rattle.cjc_bytes.specs.Reading.{read_file}
@@ -48,9 +48,9 @@ pub foremost_left : (xs ys : List Break) (e : Fault) → IsForemost xs e → IsF
 foremost_left xs ys e (inl none) = inl none
 foremost_left xs ys e (inr (b, rest, parts, told)) = inr (b, rest, ap (λ (bs : List Break). unless_broken bs ys) parts, told)
 
--- where the first has none, it is that of the second
-pub foremost_right : (xs ys : List Break) (e : Fault) → xs ≡ [] → IsForemost ys e → IsForemost (unless_broken xs ys) e
-foremost_right xs ys e none h = subst (λ (bs : List Break). IsForemost (unless_broken bs ys) e) (sym none) h
+-- where the first has none, the first break is that of the second
+pub first_right : (xs ys : List Break) (e : Fault) → xs ≡ [] → IsFirstRefusal ys e → IsFirstRefusal (unless_broken xs ys) e
+first_right xs ys e none h = subst (λ (bs : List Break). IsFirstRefusal (unless_broken bs ys) e) (sym none) h
 
 pub none_broken : (xs ys : List Break) → xs ≡ [] → ys ≡ [] → unless_broken xs ys ≡ []
 none_broken xs ys e f = ap (λ (bs : List Break). unless_broken bs ys) e ∙ f

@@ -1,6 +1,6 @@
 -- The breaks of files stand in the order of refusals, so that the foremost is the first.
 use Rattle.std.proofs.Common.{◌≡◌, inl, inr, ℕ, ◌+◌, ◌<◌, ◌≤◌, ◌^◌, ◌/◌, List, [], ◌∷◌, ◌++◌, Bool, true, false, length, filter, refl, sym, ap, subst, ◌∙◌, arith, Result, Ok, Err}
-use Rattle.std.specs.Prelude.{zero, suc}
+use Rattle.std.specs.Prelude.{All, zero, suc}
 use Rattle.std.specs.List.{range_with_len}
 use Rattle.cjc_bytes.specs.Breaks.{Break, Among, foremost, after, IsFirst, IsFirstRefusal, broken_at}
 use Rattle.cjc_bytes.specs.Order.{FilePlace, NotAfter, AreUpTo, file_number, numbers}
@@ -15,9 +15,11 @@ use Rattle.cjc_export.specs.ExportFile.{export_file}
 use Rattle.cjc_export.specs.declared.tree.ExportTree.{ExportTree}
 use Rattle.cjc_folder.specs.Breaks.{break_in, component_breaks, component_place, export_breaks, file_breaks, file_spot, part_breaks, unless_broken}
 use Rattle.cjc_folder.specs.declared.folder.Folder.{Folder}
+use Rattle.cjc_folder.specs.declared.folder.Parts.{Parts}
 use Rattle.cjc_folder.specs.Reads.{export_places, has_size, read_component, tags_in, tags_of, tags_with_size}
 use Rattle.cjc_folder.specs.Working.Heads.{IsForemost}
 use Rattle.cjc_folder.proofs.Along.{passed, kept_place}
+use Rattle.cjc_folder.proofs.Files.{IsOther, tags_within}
 
 -- ---- lists in the order of refusals
 
@@ -212,8 +214,52 @@ unless_ordered : (xs ys : List Break) → AreOrdered xs → AreOrdered ys → Ar
 unless_ordered [] ys o p = p
 unless_ordered (x ∷ xs) ys o p = o
 
+-- the tags of components that were read ascend from Header on
+parts_in_tags : (p : Parts) → p.tags ≡ tags_of p.directory → AreInTags 0 (part_breaks p)
+parts_in_tags p tags = in_tags 0 (1 ∷ 2 ∷ p.tags) (p.header ∷ p.directory ∷ p.others) (omega arith, (omega arith, subst (IsAscending 2) (sym tags) (tags_ascend p.directory)))
+
+-- The breaks of components stand in the order of refusals.
+pub parts_ordered : (p : Parts) → p.tags ≡ tags_of p.directory → AreOrdered (part_breaks p)
+parts_ordered p tags = (parts_in_tags p tags).ordered
+
+-- they stand behind all files of a list
+pub parts_behind : (p : Parts) → p.tags ≡ tags_of p.directory → AreBehind (2 ^ 64) (part_breaks p)
+parts_behind p tags = behind_more (2 ^ 64) (2 ^ 64 + 0) (part_breaks p) (omega arith) (parts_in_tags p tags).behind
+
 -- The breaks of the files of a folder stand in the order of refusals.
 pub files_ordered : (f : Folder) → f.parts.tags ≡ tags_of f.parts.directory → AreOrdered (file_breaks f)
-files_ordered f tags =
-    let parts = in_tags 0 (1 ∷ 2 ∷ f.parts.tags) (f.parts.header ∷ f.parts.directory ∷ f.parts.others) (omega arith, (omega arith, subst (IsAscending 2) (sym tags) (tags_ascend f.parts.directory))) in
-    unless_ordered (export_breaks (export_places 0 f.list.lines) f.exports) (part_breaks f.parts) (exports_ordered f.list.lines f.exports) parts.ordered
+files_ordered f tags = unless_ordered (export_breaks (export_places 0 f.list.lines) f.exports) (part_breaks f.parts) (exports_ordered f.list.lines f.exports) (parts_ordered f.parts tags)
+
+-- ---- components stand before a script
+
+-- each break is of a file before that of a script
+abbrev pub AreBelow : List Break → Type 0
+AreBelow bs = (a : Break) → Among a bs → a.rank.file < 2 ^ 64 + 256
+
+none_below : AreBelow []
+none_below a among = elim among [ ]
+
+one_below : {A : Type 0} (tag : ℕ) (r : Result A ℕ) (rest : List Break) → tag < 256 → AreBelow rest → AreBelow (break_in 106 (component_place tag) r ++ rest)
+one_below tag r rest lt below a among = elim (among_either a (break_in 106 (component_place tag) r) rest among) [
+  | inl here ↦ let x = in_one 106 (component_place tag) r a here in let file = x.1 in omega (arith, lt, file)
+  | inr later ↦ below a later
+]
+
+-- each tag is one of a byte
+abbrev AreTags : List ℕ → Type 0
+AreTags [] = Unit {0}
+AreTags (tag ∷ tags) = (tag < 256) × AreTags tags
+
+tags_below : (tags : List ℕ) (files : List (List ℕ)) → AreTags tags → AreBelow (component_breaks tags files)
+tags_below [] files h = subst AreBelow (sym (no_tags files)) none_below
+tags_below (tag ∷ tags) [] h = subst AreBelow (sym (no_files (tag ∷ tags))) none_below
+tags_below (tag ∷ tags) (bytes ∷ files) h =
+    subst AreBelow (sym (component_step tag tags bytes files)) (one_below tag (read_component tag bytes) (component_breaks tags files) h.0 (tags_below tags files h.1))
+
+are_tags : (tags : List ℕ) → All IsOther tags → AreTags tags
+are_tags [] h = tt
+are_tags (tag ∷ tags) h = let first = h 0 tag (omega arith) in let high = first.1 in (omega (arith, high), are_tags tags (λ k d lt. h (suc k) d (omega (arith, lt))))
+
+pub parts_below : (p : Parts) → p.tags ≡ tags_of p.directory → AreBelow (part_breaks p)
+parts_below p tags =
+    tags_below (1 ∷ 2 ∷ p.tags) (p.header ∷ p.directory ∷ p.others) (omega arith, (omega arith, are_tags p.tags (subst (All IsOther) (sym tags) (tags_within p.directory))))

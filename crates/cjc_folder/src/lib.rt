@@ -3,11 +3,13 @@
 #![tactic(auto)]
 
 mod folder;
+mod laws;
 mod names;
 mod reads;
 mod trees;
 
 pub use folder::{Folder, Parts};
+pub use laws::parts_between;
 pub use names::{component_name, export_names, file_name};
-pub use reads::gather_folder;
-pub use trees::{FolderTrees, folder_trees};
+pub use reads::{gather_folder, gather_parts};
+pub use trees::{FolderTrees, cap_of, folder_trees};

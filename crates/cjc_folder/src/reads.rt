@@ -62,8 +62,13 @@ fn fetch_component<S: Shelf>(
     }
 }
 
-/// Reads the components of a folder.
-fn gather_parts<S: Shelf>(alloc: Global, dir: &[u8], shelf: &mut S) -> Result<Parts, Status>
+/// Reads the components of a folder: Header, Directory, and those whose size in Directory is not 0, by their tags. Where the bytes
+/// of Directory spell none the reads end there.
+///
+/// # Errors
+///
+/// The first file that is absent, too long or can't be read; want of memory.
+pub fn gather_parts<S: Shelf>(alloc: Global, dir: &[u8], shelf: &mut S) -> Result<Parts, Status>
     ensures gathers { Gathers (plan_of_parts dir.now) IsSame (S.shelved shelf.old) (S.shelved shelf.new) result }
     ensures short { IfOk result ArePartsShort }
     ensures read { IfOk result ArePartsRead }

@@ -122,13 +122,17 @@ fn put_others(alloc: Global, cap: &mut CapTree, tags: &[u8], files: &[Bytes]) ->
     Ok(())
 }
 
-/// What the components of a folder say.
-fn cap_of(alloc: Global, parts: &Parts) -> Result<CapTree, Fault>
+/// What the components of a folder say, where each keeps its format.
+///
+/// # Errors
+///
+/// The first of them that breaks its format, by their tags: rule 106.
+pub fn cap_of(alloc: Global, parts: &Parts) -> Result<CapTree, Fault>
     requires short { ArePartsShort parts.now }
     requires read { ArePartsRead parts.now }
     ensures found { IfOk result (λ cap. cap_in parts.now ≡ Some cap) }
     ensures unbroken { OnOk result (part_breaks parts.now ≡ []) }
-    ensures refused { IfErr result (IsForemost (part_breaks parts.now)) }
+    ensures refused { IfErr result (IsFirstRefusal (part_breaks parts.now)) }
 {
     let header = header_in(alloc, parts.header.items())?;
     let directory = directory_in(alloc, parts.directory.items())?;

@@ -2,7 +2,7 @@ use Rattle.std.proofs.Common.{◌≡◌, sym, ap, ◌∙◌}
 use Rattle.std.proofs.lemmas.Result.{err_from_is_err_and}
 use Rattle.cjc_folder.specs.Breaks.{export_trees, part_breaks}
 use Rattle.cjc_folder.specs.Reads.{export_names, export_places}
-use Rattle.cjc_folder.proofs.Files.{foremost_left, foremost_right, none_broken}
+use Rattle.cjc_folder.proofs.Files.{first_right, foremost_left, none_broken}
 use Rattle.cjc_folder.proofs.Ordered.{files_ordered, foremost_first}
 use Rattle.cjc_folder.proofs.trees.folder_trees.Goals as goal
 
@@ -20,7 +20,7 @@ returns-in_err-cap-clause-refused c =
     let f = c.args.folder.now in
     let names : export_names f.list.lines ≡ c.items-2.result.now = sym (c.items-2.ensures ∙ c.in_ok-names.ensures ∙ ap export_names c.items.ensures) in
     let none = rw c.items-3.ensures at c.in_ok-exports.ensures.unbroken in
-    rw (p.1, p.2) (foremost_first _ _ (files_ordered f c.requires.read.parts.tags) (foremost_right _ (part_breaks f.parts) _ (none (export_places 0 f.list.lines) names) c.in_err-cap.ensures.refused))
+    rw (p.1, p.2) (first_right _ (part_breaks f.parts) _ (none (export_places 0 f.list.lines) names) c.in_err-cap.ensures.refused)
 
 pub returns-clause-read : goal.returns-clause-read
 returns-clause-read c =

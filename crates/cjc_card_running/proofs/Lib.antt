@@ -1,0 +1,5 @@
+pub mod Gathers
+pub mod Order
+pub mod Ranks
+pub mod Made
+pub mod Whole
