@@ -1,0 +1,4 @@
+pub mod Once
+pub mod Free
+pub mod Whole
+pub mod OneAnswer
