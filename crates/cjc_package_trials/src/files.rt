@@ -24,7 +24,7 @@ fn export_file(name: &str) -> &'static [u8] {
     }
 }
 
-fn class_file(name: &str) -> &'static [u8] {
+pub(crate) fn class_file(name: &str) -> &'static [u8] {
     match name {
         "sum" => SUM,
         "rows" => ROWS,

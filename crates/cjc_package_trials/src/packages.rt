@@ -3,12 +3,15 @@
 //!
 //! - a name and bytes, those of a file in hexadecimal digits, or `absent`;
 //! - `check = ` and what `check` of the folder says;
-//! - `jvm SCRIPT = REPORT`, both lines with `, ` between: what runs by name.
+//! - `jvm SCRIPT = REPORT`, both lines with `, ` between: what runs by name, and so what was written by token;
+//! - `card SCRIPT = REPORT`: what runs by token, or how that is refused.
+//!
+//! And some change what is there: `change NAME PLACE BYTE` a byte of a written file, `class NAME CLASS` a class file.
 
-use crate::files::folder;
+use crate::files::{class_file, folder, joined};
 use crate::runs::{is_written, lines_of, says, stand};
-use cjc_bytes::{NoMemory, Row};
-use cjc_cases::{cut, question_and_answer};
+use cjc_bytes::{NoMemory, Out, Row};
+use cjc_cases::{cut, number, octets, question_and_answer};
 use cjc_shelf::MemShelf;
 use std::alloc::Global;
 use std::test::*;
@@ -27,6 +30,12 @@ Export.cap 0A,00,07,01,00,02,00,01,00,01
 Descriptor.cap 0B,00,1A,01,00,01,00,02,00,00,00,00,01,00,09,00,01,00,02,00,04,00,00,00,00,00,00,02,44
 check = ok
 jvm call p/T f(S)S 32767 = result -32768, done
+change Method.cap 7 05
+card call p/T f(S)S 32767 = result -32767, done
+change Method.cap 7 04
+card call p/T f(S)S 32767 = result -32768, done
+class sum.class rows
+card call p/T f(S)S 32767 = refused 719 Descriptor.cap - - 11
 package lang rows = Header.cap 20, Directory.cap 36, Import.cap 14, ConstantPool.cap 5, Class.cap 15, Method.cap 83, StaticField.cap 13, RefLocation.cap 7, Export.cap 26, Descriptor.cap 133, p.exp 276 # elements at sums, quotients, shifts, masks, and switches with keys outside of 16 bits
 Method.cap 07,00,50,00,03,20,18,1D,04,41,25,78,03,20,18,1D,04,43,25,78,03,10,18,18,92,04,43,25,78,02,20,1C,1D,47,78,02,10,1C,10,14,51,78,02,10,1C,10,10,4D,78,02,10,1C,02,53,78,01,10,1C,75,00,0D,00,01,00,05,00,09,04,78,05,78,03,78,01,10,1C,3B,70,04,04,78,03,78
 check = ok
@@ -160,8 +169,8 @@ fn convert(
     Ok(says(alloc, shelf, "convert list out", wanted)? && stand(alloc, shelf, wanted)?)
 }
 
-/// Whether a script gives a report.
-fn runs_so(
+/// Whether a script gives a report of the components.
+fn card_runs_so(
     alloc: Global,
     shelf: &mut MemShelf,
     script: &str,
@@ -169,7 +178,42 @@ fn runs_so(
 ) -> Result<bool, NoMemory> {
     let script = lines_of(alloc, script)?;
     shelf.add(b"script", script.items())?;
-    says(alloc, shelf, "jvm list script 10000", report)
+    says(alloc, shelf, "card list out script 30000", report)
+}
+
+/// Whether a script gives a report, of the class files and of the components.
+fn runs_so(
+    alloc: Global,
+    shelf: &mut MemShelf,
+    script: &str,
+    report: &str,
+) -> Result<bool, NoMemory> {
+    let by_token = card_runs_so(alloc, shelf, script, report)?;
+    Ok(by_token && says(alloc, shelf, "jvm list script 10000", report)?)
+}
+
+/// Another byte at a place of a written file.
+fn change(alloc: Global, shelf: &mut MemShelf, words: &str) -> Result<bool, NoMemory> {
+    let (name, words) = cut(words, " ");
+    let (place, byte) = cut(words, " ");
+    let name = joined(alloc, "out/", name)?;
+    let mut bytes = Out::new(alloc);
+    bytes.put_slice(shelf.get(name.items()).unwrap_or(b""))?;
+    let mut bytes = bytes.finish().into_vec();
+    let byte = octets(alloc, byte)?;
+    match (bytes.get_mut(number(place)? as usize), byte.first()) {
+        (Some(at), Some(byte)) => *at = *byte,
+        _ => return Ok(false),
+    }
+    shelf.add(name.items(), &bytes)?;
+    Ok(true)
+}
+
+/// Another class file under a name.
+fn replace(shelf: &mut MemShelf, words: &str) -> Result<bool, NoMemory> {
+    let (name, class) = cut(words, " ");
+    shelf.add(name.as_bytes(), class_file(class))?;
+    Ok(true)
 }
 
 /// Whether what a line says is so.
@@ -180,6 +224,9 @@ fn is_so(alloc: Global, shelf: &mut MemShelf, line: &str) -> Result<bool, NoMemo
         "package" => convert(alloc, shelf, words, wanted),
         "check" => says(alloc, shelf, "check list out", wanted),
         "jvm" => runs_so(alloc, shelf, words, wanted),
+        "card" => card_runs_so(alloc, shelf, words, wanted),
+        "change" => change(alloc, shelf, words),
+        "class" => replace(shelf, words),
         _ => is_written(alloc, shelf, word, words),
     }
 }

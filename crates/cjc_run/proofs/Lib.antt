@@ -4,4 +4,5 @@ pub mod Promising
 pub mod OneStatus
 pub mod Tested
 pub mod Ran
+pub mod CardRan
 pub mod Publishing

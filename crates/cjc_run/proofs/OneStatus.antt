@@ -1,8 +1,11 @@
 -- What a command makes of its inputs is one answer.
-use Rattle.std.proofs.Common.{◌≡◌, ℕ, List}
+use Rattle.std.proofs.Common.{◌≡◌, ℕ, List, Ok, Err}
+use Rattle.cjc_command.specs.declared.status.Todo.{Todo}
 use Rattle.cjc_list.specs.Listed.{ListTree}
 use Rattle.cjc_command.proofs.OneAnswer.{IsOneAnswer}
 use Rattle.cjc_bytes.specs.declared.fault.Refusal.{Refusal}
+use Rattle.cjc_card_report.specs.Runs as card_runs
+use Rattle.cjc_card_running.specs.declared.input.Input.{Input as ComponentsInput}
 use Rattle.cjc_convert.specs.Conversion.{IsConverted}
 use Rattle.cjc_convert.specs.declared.conversion.Converted.{Converted}
 use Rattle.cjc_checking.proofs.OneAnswer.{one_refusal as one_broken, never_both}
@@ -12,7 +15,7 @@ use Rattle.cjc_folder.specs.declared.folder.Folder.{Folder}
 use Rattle.cjc_jvm_report.proofs.OneAnswer.{one_refusal_of_runs, never_both as never_run_and_refused}
 use Rattle.cjc_jvm_report.specs.Runs.{Runs}
 use Rattle.cjc_running.specs.declared.input.Input.{Input}
-use Rattle.cjc_run.specs.Request.{Request, check, convert, jvm}
+use Rattle.cjc_run.specs.Request.{Request, card, check, convert, jvm}
 use Rattle.cjc_run.specs.Command.{command_of}
 use Rattle.cjc_run.specs.Convert.{Makes}
 
@@ -41,8 +44,22 @@ run_once n script input = record {
   not_both = λ todo r made f. never_run_and_refused n script input todo r made f;
 }
 
+-- a run of components gives one refusal, or a report, and not both
+abbrev pub RunsOnce : Type 0
+RunsOnce = (n : ℕ) (script : List ℕ) (input : ComponentsInput) (r s : Refusal) → card_runs.Runs n script input (Err r) → card_runs.Runs n script input (Err s) → r ≡ s
+
+abbrev pub RunsOrRefuses : Type 0
+RunsOrRefuses = (n : ℕ) (script : List ℕ) (input : ComponentsInput) (todo : Todo) (r : Refusal) → card_runs.Runs n script input (Ok todo) → card_runs.Runs n script input (Err r) → ⊥
+
+card_once : RunsOnce → RunsOrRefuses → (n : ℕ) (script : List ℕ) (input : ComponentsInput) → IsOneAnswer (card_runs.Runs n script input)
+card_once one never n script input = record {
+  one = λ r s f g. one n script input r s f g;
+  not_both = λ todo r made f. never n script input todo r made f;
+}
+
 -- one line a command
-pub makes_once : IsRefusedOnce → IsNeverBoth → (asked : Request) (inputs : (command_of asked).Inputs) → IsOneAnswer ((command_of asked).Makes inputs)
-makes_once one never (convert list dir) inputs = convert_once one never dir inputs
-makes_once one never (check list dir) inputs = check_once inputs
-makes_once one never (jvm list script n) inputs = run_once n script inputs
+pub makes_once : IsRefusedOnce → IsNeverBoth → RunsOnce → RunsOrRefuses → (asked : Request) (inputs : (command_of asked).Inputs) → IsOneAnswer ((command_of asked).Makes inputs)
+makes_once one never runs either (convert list dir) inputs = convert_once one never dir inputs
+makes_once one never runs either (check list dir) inputs = check_once inputs
+makes_once one never runs either (jvm list script n) inputs = run_once n script inputs
+makes_once one never runs either (card list dir script n) inputs = card_once runs either n script inputs

@@ -17,14 +17,14 @@ use Rattle.cjc_run.specs.Promise.{IsReported, Reported}
 use Rattle.cjc_run.specs.Request.{jvm}
 
 -- what is written and printed
-abbrev report_todo : Report → Todo
+abbrev pub report_todo : Report → Todo
 report_todo report = record { files = []; lines = report_text report ∷ [] }
 
-kept_by : (told : Option Files) (new : Shelved) (todo : Todo) (report : Report) → todo ≡ report_todo report → IsWritten told todo new → IfSome told (λ files. new.files ≡ Some files)
+pub kept_by : (told : Option Files) (new : Shelved) (todo : Todo) (report : Report) → todo ≡ report_todo report → IsWritten told todo new → IfSome told (λ files. new.files ≡ Some files)
 kept_by None new todo report is written = tt
 kept_by (Some files) new todo report is written = written ∙ ap (λ (t : Todo). Some (written_files t.files files)) is
 
-printed_by : (before : Option (List ℕ)) (to : Sunk) (todo : Todo) (report : Report) → todo ≡ report_todo report → IfSome before (λ text. to.written ≡ Some (text ++ text_of todo)) → IfSome before (λ text. to.written ≡ Some (text ++ report_text report))
+pub printed_by : (before : Option (List ℕ)) (to : Sunk) (todo : Todo) (report : Report) → todo ≡ report_todo report → IfSome before (λ text. to.written ≡ Some (text ++ text_of todo)) → IfSome before (λ text. to.written ≡ Some (text ++ report_text report))
 printed_by None to todo report is printed = tt
 printed_by (Some text) to todo report is printed = printed ∙ ap (λ (t : Todo). Some (text ++ text_of t)) is ∙ ap (λ (line : List ℕ). Some (text ++ line)) (append-nil (report_text report))
 

@@ -23,13 +23,17 @@ use Rattle.cjc_run.specs.Convert.{files_made, below}
 use Rattle.cjc_checking.specs.Check.{AreConsistent, check_breaks, ok_line, plan_of_check}
 use Rattle.cjc_command.specs.Plan.{complete, verdict}
 use Rattle.cjc_folder.specs.declared.folder.Folder.{Folder}
+use Rattle.cjc_card_report.specs.Runs as by_token
+use Rattle.cjc_card_running.specs.Ready as components
+use Rattle.cjc_card_running.specs.declared.input.Input.{Input as ComponentsInput}
+use Rattle.cjc_card_running.specs.declared.ready.Ready.{Ready as ComponentsReady}
 use Rattle.cjc_running.specs.Ready.{IsReady}
 use Rattle.cjc_running.specs.declared.input.Input.{Input}
 use Rattle.cjc_running.specs.declared.ready.Ready.{Ready}
 use Rattle.cjc_script.specs.declared.report.Report.{Report}
 use Rattle.cjc_script_text.specs.Printed.{report_text}
 use Rattle.cjc_jvm_report.specs.Runs.{IsReport, plan_of_jvm}
-use Rattle.cjc_run.specs.Request.{Request, check, convert, jvm}
+use Rattle.cjc_run.specs.Request.{Request, card, check, convert, jvm}
 
 -- by one line: a class file is there and spells the first of these classes, and the other lines the rest; an export
 -- file spells none of them
@@ -104,8 +108,25 @@ pub record Reported (name script : List ℕ) (n : ℕ) (old new : Shelved) (from
   pub kept : IfSome old.files (λ files. new.files ≡ Some files)
   pub reported : IfSome old.files (λ files. IsReported name script n files from to)
 
+-- The list of this name, its files, the components in the folder and the script were read, and break no rule of the first three hundreds,
+-- none of 401 to 409 and 413, and no sentence on components. The report of the run of n instructions of the components by token is printed.
+pub record IsCardReported (name dir script : List ℕ) (n : ℕ) (files : Files) (from to : Sunk) : Type 0 where
+  pub input : ComponentsInput
+  pub read : verdict files (by_token.plan_of_report name dir script) ≡ complete input
+  pub ready : ComponentsReady
+  pub is_ready : components.IsReady input script ready
+  pub report : Report
+  pub is_report : by_token.IsReport input ready n report
+  pub printed : IfSome from.written (λ before. to.written ≡ Some (before ++ report_text report))
+
+-- Nothing is written, and that report is printed.
+pub record CardReported (name dir script : List ℕ) (n : ℕ) (old new : Shelved) (from to : Sunk) : Type 0 where
+  pub kept : IfSome old.files (λ files. new.files ≡ Some files)
+  pub reported : IfSome old.files (λ files. IsCardReported name dir script n files from to)
+
 -- what the request that is done promises of the shelf and the sink before and after
 abbrev pub Promised : Request → Shelved → Shelved → Sunk → Sunk → Type 0
 Promised (convert name dir) old new from to = IfSome old.files (λ before. IsSomeAnd new.files (Converts name dir before))
 Promised (check name dir) old new from to = Checked name dir old new from to
 Promised (jvm name script n) old new from to = Reported name script n old new from to
+Promised (card name dir script n) old new from to = CardReported name dir script n old new from to

@@ -10,6 +10,8 @@ pub data Request : Type 0 where
   check : List ℕ → List ℕ → Request
   -- jvm LIST SCRIPT N
   jvm : List ℕ → List ℕ → ℕ → Request
+  -- card LIST DIR SCRIPT N
+  card : List ℕ → List ℕ → List ℕ → ℕ → Request
 
 -- how many instructions: one to ten decimal digits, with a value up to 3,000,000,000
 abbrev pub count : List ℕ → Option ℕ
@@ -22,4 +24,5 @@ request (verb ∷ list ∷ dir ∷ []) =
     else if bytes_eq verb (codes "check") then Some (check list dir)
     else None
 request (verb ∷ list ∷ script ∷ n ∷ []) = if bytes_eq verb (codes "jvm") then option_map (jvm list script) (count n) else None
+request (verb ∷ list ∷ dir ∷ script ∷ n ∷ []) = if bytes_eq verb (codes "card") then option_map (card list dir script) (count n) else None
 request words = None

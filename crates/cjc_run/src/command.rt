@@ -1,7 +1,7 @@
 //! The forms of the words, and the command that each asks for. `run` calls it. It knows no file.
 
 ghost use Rattle.std.specs.Prelude.{◌≡◌, option_map};
-ghost use Rattle.cjc_run.specs.Request.{request};
+ghost use Rattle.cjc_run.specs.Request.{count, request};
 ghost use Rattle.cjc_run.specs.Asked.{asked};
 
 use cjc_bytes::{Bytes, short_decimal};
@@ -25,6 +25,20 @@ pub(crate) enum Asked<'a> {
         script: &'a [u8],
         n: u32,
     },
+    /// `card LIST DIR SCRIPT N`
+    Card {
+        list: &'a [u8],
+        dir: &'a [u8],
+        script: &'a [u8],
+        n: u32,
+    },
+}
+
+/// How many instructions a word asks for.
+fn count(word: &Bytes) -> Option<u32>
+    ensures { result ≡ count word.now }
+{
+    short_decimal(word.items(), 10, 3_000_000_000)
 }
 
 /// What the words ask for, where they are of a form.
@@ -41,7 +55,7 @@ pub(crate) fn asked_by(words: &[Bytes]) -> Option<Asked<'_>>
             dir: dir.items(),
         }),
         [verb, list, script, n] if verb.items() == b"jvm".as_slice() => {
-            match short_decimal(n.items(), 10, 3_000_000_000) {
+            match count(n) {
                 Some(n) => Some(Asked::Jvm {
                     list: list.items(),
                     script: script.items(),
@@ -50,6 +64,15 @@ pub(crate) fn asked_by(words: &[Bytes]) -> Option<Asked<'_>>
                 None => None,
             }
         }
+        [verb, list, dir, script, n] if verb.items() == b"card".as_slice() => match count(n) {
+            Some(n) => Some(Asked::Card {
+                list: list.items(),
+                dir: dir.items(),
+                script: script.items(),
+                n,
+            }),
+            None => None,
+        },
         _ => None,
     }
 }

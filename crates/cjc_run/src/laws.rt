@@ -8,6 +8,7 @@ ghost use Rattle.cjc_command.specs.declared.status.Status.{Status as Answer};
 ghost use Rattle.cjc_run.specs.Request.{Request};
 ghost use Rattle.cjc_run.specs.Command.{command_of};
 
+use cjc_card_report::one_answer as one_report;
 use cjc_convert::one_answer;
 
 /// The words and the told files decide one answer: two runs in which no fault count rises and memory is there end the same
@@ -17,4 +18,5 @@ pub fn one_status()
     ensures refused { (asked : Request) (files : Files) (r s : Refusal) → IsRefused (command_of asked) (Some files) r → IsRefused (command_of asked) (Some files) s → r ≡ s }
 {
     one_answer();
+    one_report();
 }

@@ -14,6 +14,7 @@ use crate::command::{Asked, asked_by};
 use crate::converting::gather_convert;
 use cjc_alike::converted_packages_behave_alike;
 use cjc_bytes::Bytes;
+use cjc_card_report::gather_card;
 use cjc_checking::gather_check;
 use cjc_command::{Status, Todo, publish};
 use cjc_jvm_report::gather_run;
@@ -28,6 +29,12 @@ fn gather<S: Shelf>(alloc: Global, command: Asked<'_>, shelf: &mut S) -> Result<
         Asked::Convert { list, dir } => gather_convert(alloc, list, dir, shelf),
         Asked::Check { list, dir } => gather_check(alloc, list, dir, shelf),
         Asked::Jvm { list, script, n } => gather_run(alloc, list, script, n, shelf),
+        Asked::Card {
+            list,
+            dir,
+            script,
+            n,
+        } => gather_card(alloc, list, dir, script, n, shelf),
     }
 }
 

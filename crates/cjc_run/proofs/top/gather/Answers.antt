@@ -6,5 +6,8 @@ returns-in-Convert g c = rw c.in-Convert.is c.gather_convert.ensures
 pub returns-in-Jvm : goal.returns-in-Jvm
 returns-in-Jvm g c = rw c.in-Jvm.is c.gather_run.ensures
 
+pub returns-in-Card : goal.returns-in-Card
+returns-in-Card g c = rw c.in-Card.is c.gather_card.ensures
+
 pub returns-in-Check : goal.returns-in-Check
 returns-in-Check g c = rw c.in-Check.is c.gather_check.ensures
