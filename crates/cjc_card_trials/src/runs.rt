@@ -189,25 +189,39 @@ fn is_as_first(line: &[u8]) -> bool {
     FIRST.iter().any(|known| known.as_bytes() == line)
 }
 
-/// Whether these lines are left of a report.
-pub(crate) fn are_left(text: &[u8], wanted: &str) -> bool {
-    let mut left = wanted;
+/// The lines of a report that are not as at first.
+fn changed_lines(alloc: Global, text: &[u8]) -> Result<Bytes, NoMemory> {
+    let mut left = Out::new(alloc);
     for line in text.split(|byte| *byte == b'\n') {
         if !is_as_first(line) {
-            let (want, rest) = cut(left, ", ");
-            if line != want.as_bytes() {
-                return false;
-            }
-            left = rest;
+            left.put_slice(line)?;
+            left.put_slice(b"\n")?;
         }
     }
-    left.is_empty()
+    Ok(left.finish())
+}
+
+/// The lines that a row wants.
+fn wanted_lines(alloc: Global, wanted: &str) -> Result<Bytes, NoMemory> {
+    let mut text = Out::new(alloc);
+    for line in wanted.split(", ") {
+        text.put_slice(line.as_bytes())?;
+        text.put_slice(b"\n")?;
+    }
+    Ok(text.finish())
+}
+
+/// Whether these lines are left of a report where those are left out that are as at first.
+pub(crate) fn are_left(alloc: Global, text: &[u8], wanted: &str) -> Result<bool, NoMemory> {
+    let left = changed_lines(alloc, text)?;
+    let wanted = wanted_lines(alloc, wanted)?;
+    Ok(left.items() == wanted.items())
 }
 
 fn is_so(alloc: Global, fixed: &Fixed, row: &str) -> Result<bool, NoMemory> {
     let (question, wanted) = question_and_answer(row);
     let text = printed(alloc, fixed, question)?;
-    Ok(are_left(text.items(), wanted))
+    are_left(alloc, text.items(), wanted)
 }
 
 /// The first row of which what it says is not so; nothing where there is none.

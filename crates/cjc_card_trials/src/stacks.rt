@@ -78,7 +78,7 @@ fn is_so(alloc: Global, fixed: &Fixed, row: &str) -> Result<bool, NoMemory> {
     let question = question(alloc, words, instruction, count)?;
     let report = format!(in alloc; "result null, array @1 [B {wanted}, done")?;
     let text = printed(alloc, fixed, &question)?;
-    Ok(are_left(text.items(), &report))
+    are_left(alloc, text.items(), &report)
 }
 
 fn first_wrong(alloc: Global, rows: &'static str) -> &'static str {
