@@ -11,23 +11,12 @@ ghost use Rattle.cjc_card_calls.specs.Found.{found_of};
 
 use crate::dispatch::{dispatched_above, dispatched_on};
 use crate::found::Found;
-use crate::interfaces::interface_on;
+use crate::interfaces::dispatched_interface;
 use cjc_card_files::Files;
 use cjc_card_heap::{Class, Shape};
+use cjc_card_lines::shape_class;
 use cjc_card_lookups::Tables;
 use cjc_card_parts::{Callee, Reached};
-
-// The class whose methods an object of a type has.
-fn shape_class(tables: &Tables<'_>, kind: Shape) -> Option<Class>
-    requires { AreKept tables.now }
-    ensures { option_map class_of result ≡ shape_class (loaded_of tables.now) (shape_of kind) }
-{
-    match kind {
-        Shape::OfClass(class) => Some(class),
-        Shape::OfNumbers(_) => tables.object_class(),
-        Shape::OfReferences(_) => tables.object_class(),
-    }
-}
 
 // The class of a receiver, where there is one.
 fn receiver_class(tables: &Tables<'_>, receiver: Option<Shape>) -> Option<Class>
@@ -57,7 +46,7 @@ fn selected<'a>(
         Callee::OnObject(_, token) => dispatched_on(tables, files, receiver, token),
         Callee::OnSuper(class, token) => dispatched_above(tables, files, class, token),
         Callee::OnInterface(_, interface, token) => {
-            interface_on(tables, files, receiver, interface, token)
+            dispatched_interface(tables, files, receiver, interface, u64::from(token))
         }
     }
 }

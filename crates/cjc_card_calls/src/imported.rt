@@ -27,15 +27,15 @@ fn is_virtual(method: &ExportMethod) -> bool
 }
 
 // Whether a method is virtual and has a token.
-fn is_of_token(method: &ExportMethod, token: u32) -> bool
+fn is_of_token(method: &ExportMethod, token: u64) -> bool
     ensures { result ≡ (is_virtual method.now && (method.now.token == token)) }
 {
-    is_virtual(method) && u32::from(method.token) == token
+    is_virtual(method) && u64::from(method.token) == token
 }
 
 // The virtual method of a class with a token.
 #[tactic(auto, using(crate::proofs::Finding::find_past))]
-fn virtual_method<'a>(class: &'a ExportClass, token: u32) -> Option<&'a ExportMethod>
+fn virtual_method<'a>(class: &'a ExportClass, token: u64) -> Option<&'a ExportMethod>
     ensures { option_copied result ≡ virtual_method token class.now }
 {
     for method in class.methods.items() {
@@ -62,7 +62,7 @@ fn dispatched_outward<'a>(named: &'a ExportClass, line: &[&'a ExportClass], toke
     ensures { found_of result ≡ dispatched_outward named.now.name (classes_at line.now) token }
 {
     for class in line {
-        if let Some(method) = virtual_method(*class, u32::from(token)) {
+        if let Some(method) = virtual_method(*class, u64::from(token)) {
             return outward(named, method);
         }
     }
@@ -103,7 +103,7 @@ pub(crate) fn hidden_by<'a>(walk: Walk) -> Found<'a>
 }
 
 /// The method of a token that an interface of an export file lists.
-pub(crate) fn of_file<'a>(class: &'a ExportClass, token: u32) -> Found<'a>
+pub(crate) fn of_file<'a>(class: &'a ExportClass, token: u64) -> Found<'a>
     ensures { found_of result ≡ outward class.now.name (virtual_method token class.now) dispatch.NotFound }
 {
     match virtual_method(class, token) {

@@ -17,7 +17,7 @@ use cjc_card_lookups::{ClassNames, Tables};
 use cjc_card_parts::ImportedMethod;
 
 // The method of a token of an interface of the package.
-fn of_names<'a>(names: &'a ClassNames, token: u32) -> Found<'a>
+fn of_names<'a>(names: &'a ClassNames, token: u64) -> Found<'a>
     ensures { found_of result ≡ of_names (Some (class_names_of names.now)) token }
 {
     match names.interface_methods.items().get(token as usize) {
@@ -31,7 +31,7 @@ fn of_names<'a>(names: &'a ClassNames, token: u32) -> Found<'a>
 }
 
 // The method of an interface itself.
-fn interface_method<'a>(tables: &Tables<'a>, interface: Class, token: u32) -> Found<'a>
+fn interface_method<'a>(tables: &Tables<'a>, interface: Class, token: u64) -> Found<'a>
     requires { AreKept tables.now }
     ensures { found_of result ≡ interface_method (loaded_of tables.now) (class_of interface) token }
 {
@@ -48,7 +48,7 @@ fn interface_method<'a>(tables: &Tables<'a>, interface: Class, token: u32) -> Fo
 }
 
 // The token of a virtual method, as a map has it.
-fn token_at(map: &[u8], token: u32) -> Option<u8>
+fn token_at(map: &[u8], token: u64) -> Option<u8>
     ensures { result ≡ slice_get map.now token }
 {
     map.get(token as usize).copied()
@@ -60,7 +60,7 @@ fn at_map<'a>(
     files: &Files<'a>,
     class: Class,
     map: &[u8],
-    token: u32,
+    token: u64,
 ) -> Found<'a>
     requires tables { AreKept tables.now }
     requires files { AreFiles (loaded_of tables.now) files.now }
@@ -82,7 +82,7 @@ fn on_own<'a>(
     part: u32,
     offset: u32,
     interface: Class,
-    token: u32,
+    token: u64,
 ) -> Found<'a>
     requires tables { AreKept tables.now }
     requires files { AreFiles (loaded_of tables.now) files.now }
@@ -95,13 +95,13 @@ fn on_own<'a>(
     }
 }
 
-/// A method of an interface on a receiver of a class.
-pub(crate) fn interface_on<'a>(
+/// A method of an interface by its token, on a receiver of a class.
+pub fn dispatched_interface<'a>(
     tables: &Tables<'a>,
     files: &Files<'a>,
     receiver: Option<Class>,
     interface: Class,
-    token: u32,
+    token: u64,
 ) -> Found<'a>
     requires tables { AreKept tables.now }
     requires files { AreFiles (loaded_of tables.now) files.now }
@@ -112,19 +112,4 @@ pub(crate) fn interface_on<'a>(
         Some(Class::Foreign(_, _)) => interface_method(tables, interface, token),
         Some(Class::Own(part, offset)) => on_own(tables, files, part, offset, interface, token),
     }
-}
-
-/// A method of an interface by its token, on a receiver of a class.
-pub fn dispatched_interface<'a>(
-    tables: &Tables<'a>,
-    files: &Files<'a>,
-    receiver: Option<Class>,
-    interface: Class,
-    token: u8,
-) -> Found<'a>
-    requires tables { AreKept tables.now }
-    requires files { AreFiles (loaded_of tables.now) files.now }
-    ensures { found_of result ≡ dispatched_interface (loaded_of tables.now) (option_map class_of receiver) (class_of interface) token }
-{
-    interface_on(tables, files, receiver, interface, u32::from(token))
 }

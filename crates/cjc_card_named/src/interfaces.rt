@@ -1,11 +1,10 @@
 //! Methods of interfaces by their names, and what they are on a receiver (Java Card Virtual Machine Specification 2.2.2,
 //! sections 6.8 and 7.5).
 
-ghost use Rattle.std.specs.Prelude.{◌≡◌, Some, map, option_map, slice_get};
-ghost use Rattle.std.specs.Option.{option_copied};
+ghost use Rattle.std.specs.Prelude.{◌≡◌, map, option_map};
 ghost use Rattle.cjc_card.specs.Calls.{interface_token, start_selected, through_first, token_if_interface};
 ghost use Rattle.cjc_card.specs.Classes.{Own, Foreign, upwards};
-ghost use Rattle.cjc_card.specs.Dispatch.{at_index, at_map, dispatched_interface, map_of, tower};
+ghost use Rattle.cjc_card.specs.Dispatch.{dispatched_interface};
 ghost use Rattle.cjc_card_heap.specs.Objects.{class_of};
 ghost use Rattle.cjc_card_parts.specs.Kinds.{start_of};
 ghost use Rattle.cjc_card_calls.specs.Found.{found_of};
@@ -14,13 +13,13 @@ ghost use Rattle.cjc_card_lines.specs.Lines.{AreLines};
 ghost use Rattle.cjc_card_lookups.specs.Tables.{AreKept, loaded_of};
 
 use crate::names::{listed_token, place_named};
-use cjc_bytes::{Bytes, MemberId};
-use cjc_card_calls::{Found, dispatched_on};
+use cjc_bytes::MemberId;
+use cjc_card_calls::{Found, dispatched_interface};
 use cjc_card_files::Files;
 use cjc_card_heap::Class;
 use cjc_card_lines::{Lines, nothing_above};
 use cjc_card_lookups::Tables;
-use cjc_card_parts::{Start, Token};
+use cjc_card_parts::Start;
 
 // The token of the method of a name in an imported interface.
 fn token_abroad(tables: &Tables<'_>, tree: u32, number: u8, id: &MemberId) -> Option<u64>
@@ -85,79 +84,6 @@ pub(crate) fn start_selected(tables: &Tables<'_>, found: Found<'_>) -> Option<St
     }
 }
 
-// The map of an interface, from a class upwards.
-fn map_above<'a>(tables: &Tables<'a>, class: Class, interface: Class) -> Option<&'a Bytes>
-    requires { AreKept tables.now }
-    ensures { option_copied result ≡ map_of (loaded_of tables.now) (tower (loaded_of tables.now) (class_of class)) (class_of interface) }
-{
-    tables.map_of(Some(class), tables.depth() + 1, interface)
-}
-
-// The entry of a map for a token.
-fn entry_at(map: &Bytes, token: u64) -> Option<u8>
-    ensures { result ≡ slice_get map.now token }
-{
-    map.items().get(token as usize).copied()
-}
-
-// The method of the group of an entry of a map.
-fn start_at_index(
-    tables: &Tables<'_>,
-    files: &Files<'_>,
-    class: Class,
-    token: Option<u8>,
-) -> Option<Start>
-    requires tables { AreKept tables.now }
-    requires files { AreFiles (loaded_of tables.now) files.now }
-    ensures { option_map start_of result ≡ start_selected (loaded_of tables.now) (at_index (tower (loaded_of tables.now) (class_of class)) token) }
-{
-    match token {
-        Some(token) => {
-            let found = dispatched_on(tables, files, Some(class), Token::Open(token));
-            start_selected(tables, found)
-        }
-        None => None,
-    }
-}
-
-// The method of the group that the map of an interface gives for a token.
-fn start_at_map(
-    tables: &Tables<'_>,
-    files: &Files<'_>,
-    class: Class,
-    interface: Class,
-    token: u64,
-) -> Option<Start>
-    requires tables { AreKept tables.now }
-    requires files { AreFiles (loaded_of tables.now) files.now }
-    ensures { option_map start_of result ≡ start_selected (loaded_of tables.now) (at_map (tower (loaded_of tables.now) (class_of class)) (map_of (loaded_of tables.now) (tower (loaded_of tables.now) (class_of class)) (class_of interface)) token) }
-{
-    match map_above(tables, class, interface) {
-        Some(map) => start_at_index(tables, files, class, entry_at(map, token)),
-        None => None,
-    }
-}
-
-// The method of the group that a method of an interface is on objects of a class.
-fn start_on_class(
-    tables: &Tables<'_>,
-    files: &Files<'_>,
-    class: Class,
-    interface: Class,
-    token: u64,
-) -> Option<Start>
-    requires tables { AreKept tables.now }
-    requires files { AreFiles (loaded_of tables.now) files.now }
-    ensures { option_map start_of result ≡ start_selected (loaded_of tables.now) (dispatched_interface (loaded_of tables.now) (Some (class_of class)) (class_of interface) token) }
-{
-    match class {
-        Class::Own(part, offset) => {
-            start_at_map(tables, files, Class::Own(part, offset), interface, token)
-        }
-        Class::Foreign(_, _) => None,
-    }
-}
-
 /// The method of the group that a method of an interface is on a receiver.
 pub(crate) fn start_on_interface(
     tables: &Tables<'_>,
@@ -170,10 +96,8 @@ pub(crate) fn start_on_interface(
     requires files { AreFiles (loaded_of tables.now) files.now }
     ensures { option_map start_of result ≡ start_selected (loaded_of tables.now) (dispatched_interface (loaded_of tables.now) (option_map class_of receiver) (class_of interface) token) }
 {
-    match receiver {
-        Some(class) => start_on_class(tables, files, class, interface, token),
-        None => None,
-    }
+    let found = dispatched_interface(tables, files, receiver, interface, token);
+    start_selected(tables, found)
 }
 
 // The method of the group by the first interface among these that has the method of a name.

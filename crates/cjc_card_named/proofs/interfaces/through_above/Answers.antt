@@ -4,7 +4,7 @@ use Rattle.cjc_card.specs.Classes.{Class}
 use Rattle.cjc_card.specs.Calls.{start_selected, through_first}
 use Rattle.cjc_card_heap.specs.Objects.{class_of}
 use Rattle.cjc_card_lookups.specs.Tables.{loaded_of}
-use Rattle.cjc_card_named.proofs.Selected.{line_above}
+use Rattle.cjc_card_named.proofs.Above.{line_above}
 use Rattle.cjc_card_named.proofs.interfaces.through_above.Goals as goal
 
 pub returns-in-Some : goal.returns-in-Some
