@@ -1,9 +1,9 @@
 -- What calls take and reach.
-use Rattle.std.proofs.Common.{◌≡◌, ℕ, ℤ, ◌≤◌, List, [], ◌∷◌, length, take, drop, reverse, refl, sym, ap, subst, ◌∙◌, Bool, true}
+use Rattle.std.proofs.Common.{◌≡◌, ℕ, ◌≤◌, List, [], ◌∷◌, length, take, drop, reverse, refl, sym, ap, subst, ◌∙◌, Bool, true}
 use Rattle.std.proofs.lemmas.Bool.{le-leb}
 use Rattle.std.specs.Prelude.{Option, Some, None, option_map, slice_get, if◌then◌else◌}
 use Rattle.cjc_script.specs.declared.value.Value.{Value}
-use Rattle.cjc_script.specs.declared.value.Value.TheVariants.{Num, Null, Obj}
+use Rattle.cjc_script.specs.declared.value.Value.TheVariants.{Null, Obj}
 use Rattle.cjc_script.specs.Sorts.{Shape}
 use Rattle.cjc_bytecode.specs.Calculations.{NullPointer}
 use Rattle.cjc_bytecode.specs.Effects.{HeapObject, shape}
@@ -31,18 +31,6 @@ module _ (l : Loaded) (m : Callee) (f : FrameByToken) (outer : List FrameByToken
       let same : Null ≡ v = cc e in
       ap (λ (w : Value). on_receiver (by_token l) m (w ∷ args) f outer s) (sym same)
 
-  -- a number
-  pub on_number_first : (args : List Value) (z : ℤ) → Some (Num z) ≡ slice_get args 0 → on_receiver (by_token l) m args f outer s ≡ StuckAt f.at s
-  on_number_first [] z e = absurd (cc e)
-  on_number_first (v ∷ args) z e =
-      let same : Num z ≡ v = cc e in
-      ap (λ (w : Value). on_receiver (by_token l) m (w ∷ args) f outer s) (sym same)
-
-  -- there is none
-  pub on_nothing : (args : List Value) → None ≡ slice_get args 0 → on_receiver (by_token l) m args f outer s ≡ StuckAt f.at s
-  on_nothing [] e = refl
-  on_nothing (v ∷ args) e = absurd (cc e)
-
   -- a receiver of a type
   pub reaches_there : (args : List Value) (o : Option (HeapObject Class Field)) (kind : Shape Class) → Some kind ≡ option_map shape o → reaches_on (by_token l) m o args f outer s ≡ reaches (by_token l) (reached l m (Some kind)) true args f outer s
   unfolding by_token
@@ -50,11 +38,6 @@ module _ (l : Loaded) (m : Callee) (f : FrameByToken) (outer : List FrameByToken
   reaches_there args (Some thing) kind e =
       let same : kind ≡ shape thing = cc e in
       ap (λ k. reaches (by_token l) (reached l m (Some k)) true args f outer s) (sym same)
-
-  -- no receiver has the number
-  pub reaches_nothing : (args : List Value) (o : Option (HeapObject Class Field)) → None ≡ option_map shape o → reaches_on (by_token l) m o args f outer s ≡ StuckAt f.at s
-  reaches_nothing args None e = refl
-  reaches_nothing args (Some thing) e = absurd (cc e)
 
   -- a call whose words are there
   pub counted_by : (o : Option ℕ) (n : ℕ) (args : List Value) (caller : FrameByToken) → o ≡ Some n → n ≤ length f.stack → args ≡ reverse (take n f.stack) → caller ≡ record f { stack = drop n f.stack } → counted (by_token l) o m f outer s ≡ with_args (by_token l) ((by_token l).on_object m) m args caller outer s
