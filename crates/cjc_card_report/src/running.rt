@@ -1,34 +1,20 @@
 //! What `card LIST DIR SCRIPT N` reads and prints. The program's top call calls it. Nothing here writes.
 
-ghost use Rattle.std.specs.Prelude.{◌≡◌, ◌∷◌, [], IfErr, IfOk};
-ghost use Rattle.cjc_command.specs.Gather.{Gathers, Judged, status_of_fault};
+ghost use Rattle.std.specs.Prelude.{IfErr, IfOk};
+ghost use Rattle.cjc_command.specs.Gather.{Gathers, Judged};
 ghost use Rattle.cjc_card_report.specs.Runs.{AnyBreaks, IsRun, Runs, plan_of_report};
 ghost use Rattle.cjc_card_running.specs.Reads.{IsInput};
 ghost use Rattle.cjc_card_running.specs.Ready.{IsReady};
 ghost use Rattle.cjc_judge.specs.Rules.{IsFirstFault};
-ghost use Rattle.cjc_script_text.specs.Printed.{report_text};
 
 use crate::reporting::report_of;
-use cjc_bytes::{Fault, NoMemory, Row};
+use cjc_bytes::Fault;
 use cjc_card_running::{Input, Ready, gather_input, make_ready};
 use cjc_command::{Status, Todo};
-use cjc_script::Report;
-use cjc_script_text::print;
+use cjc_running::report_todo;
 use cjc_sentences::consistent_where_unbroken;
 use cjc_shelf::Shelf;
 use std::alloc::Global;
-
-/// What is printed of a report.
-fn todo_of(alloc: Global, report: &Report) -> Result<Todo, NoMemory>
-    ensures { IfOk result (λ todo. todo ≡ record { files = []; lines = report_text report.now ∷ [] }) }
-{
-    let mut lines = Row::new(alloc);
-    lines.push(print(alloc, report)?)?;
-    Ok(Todo {
-        files: Row::new(alloc),
-        lines,
-    })
-}
 
 /// Runs what is ready, and gives the lines of its report.
 fn run_ready(
@@ -45,17 +31,7 @@ fn run_ready(
     consistent_where_unbroken();
     let _script = script;
     let report = report_of(alloc, input, ready, n)?;
-    Ok(todo_of(alloc, &report)?)
-}
-
-/// The answer for a fault.
-fn status_of(fault: Fault) -> Status
-    ensures { result ≡ status_of_fault fault }
-{
-    match fault {
-        Fault::Refused(refusal) => Status::Refused(refusal),
-        Fault::NoMemory => Status::NoMemory,
-    }
+    Ok(report_todo(alloc, &report)?)
 }
 
 /// Tests what was read, and runs it.
@@ -75,7 +51,7 @@ fn judge(alloc: Global, script: &[u8], input: &Input, n: u32) -> Result<Todo, St
 {
     match run_input(alloc, script, input, n) {
         Ok(todo) => Ok(todo),
-        Err(fault) => Err(status_of(fault)),
+        Err(fault) => Err(Status::from(fault)),
     }
 }
 

@@ -1,5 +1,5 @@
 -- The reads of a list, its files, the components of a folder and a script, each behind those before it.
-use Rattle.std.proofs.Common.{◌≡◌, inl, inr, ℕ, ◌<◌, ◌≤◌, List, length, refl, sym, ap, subst, ◌∙◌, arith, Result, Ok, Err}
+use Rattle.std.proofs.Common.{◌≡◌, ℕ, ◌≤◌, List, length, refl, sym, ap, subst, ◌∙◌, arith, Result, Ok, Err}
 use Rattle.std.proofs.lemmas.List.{length-map}
 use Rattle.cjc_bytes.specs.Refused.{IsUnlessNoMemory}
 use Rattle.cjc_bytes.specs.declared.fault.Fault.TheVariants as faults
@@ -13,10 +13,10 @@ use Rattle.cjc_command.proofs.Gathering.{gathers_then, gathers_end, gathers_has,
 use Rattle.cjc_folder.specs.Breaks.{ArePartsRead, ArePartsShort}
 use Rattle.cjc_folder.specs.Reads.{plan_of_parts}
 use Rattle.cjc_folder.specs.declared.folder.Parts.{Parts}
-use Rattle.cjc_judge.specs.Spelt.{IsRead, AreFiles}
+use Rattle.cjc_judge.specs.Spelt.{IsRead}
 use Rattle.cjc_list.specs.Listed.{ListTree, listed, answer}
-use Rattle.cjc_list.specs.Spelling.{IsSpelt}
 use Rattle.cjc_running.specs.Reads.{names_of}
+use Rattle.cjc_running.proofs.Gathers.{answer_ok, answer_err, are_files}
 use Rattle.cjc_shelf.specs.Shelf.{Shelved, longest_file}
 use Rattle.cjc_card_running.specs.declared.input.Input.{Input}
 use Rattle.cjc_card_running.specs.Reads.{IsInput, plan_behind_files, plan_behind_list, plan_behind_parts, plan_behind_text, plan_of_card}
@@ -73,18 +73,6 @@ listed_then dir script list names files parts text old mid late new n g p s =
 
 -- ---- the list
 
-answer_ok : (r : Result ListTree Refusal) (list : ListTree) → IsUnlessNoMemory (Ok list) (answer r) → r ≡ Ok list
-answer_ok (Ok l) list (inl e) = cc
-answer_ok (Ok l) list (inr e) = absurd cc
-answer_ok (Err r) list (inl e) = absurd cc
-answer_ok (Err r) list (inr e) = absurd cc
-
-answer_err : (r : Result ListTree Refusal) (x : Refusal) → IsUnlessNoMemory (Err (faults.Refused x)) (answer r) → r ≡ Err x
-answer_err (Ok l) x (inl e) = absurd cc
-answer_err (Ok l) x (inr e) = absurd cc
-answer_err (Err r) x (inl e) = cc
-answer_err (Err r) x (inr e) = absurd cc
-
 pub text_then : (name dir script text : List ℕ) (list : ListTree) (old new : Shelved) (result : Result Input Status) → IsUnlessNoMemory (Ok list) (answer (listed name text))
     → Gathers (plan_behind_list dir script list) IsSame old new result → Gathers (plan_behind_text name dir script text) IsSame old new result
 text_then name dir script text list old new result e g =
@@ -103,13 +91,6 @@ pub input_then : (name dir script text : List ℕ) (old mid new : Shelved) (resu
 input_then name dir script text old mid new result a b = gathers_then (read name) (plan_behind_text name dir script) IsSame old mid new text result a b
 
 -- ---- what was read
-
--- a list of the name
-pub is_read : (name text : List ℕ) (list : ListTree) → length text < 4294967296 → IsSpelt name list text → IsRead list
-is_read name text list short s = (text, short, subst (λ (n : List ℕ). IsSpelt n list text) (sym s.0.3.named) s)
-
-are_files : (files : Texts) → AreShort files → AreFiles files
-are_files files s i = let e = s i in omega arith
 
 pub is_input : (list : ListTree) (files : Texts) (parts : Parts) (script : List ℕ) (names : Texts) → IsRead list → names ≡ names_of list.lines → length files ≡ length names → AreShort files
     → ArePartsShort parts → ArePartsRead parts → length script ≤ longest_file → IsInput (input_of list files parts script)

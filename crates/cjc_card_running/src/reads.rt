@@ -1,29 +1,18 @@
 //! Reads a list, its files, the components of a folder and a script, each after those that stand before it. Nothing here writes.
 
-ghost use Rattle.std.specs.Prelude.{◌≡◌, ◌<◌, IfOk, length};
+ghost use Rattle.std.specs.Prelude.{◌<◌, IfOk, length};
 ghost use Rattle.cjc_command.specs.Gather.{Gathers, IsSame};
 ghost use Rattle.cjc_judge.specs.Spelt.{IsRead};
-ghost use Rattle.cjc_running.specs.Reads.{names_of as names_lem};
 ghost use Rattle.cjc_card_running.specs.Reads.{IsInput, plan_behind_list, plan_behind_text, plan_of_card};
 
 use crate::input::Input;
-use cjc_bytes::{Bytes, Fault, FileLine, NoMemory, Row};
+use cjc_bytes::{Fault, NoMemory};
 use cjc_command::{Status, fetch, fetch_each};
 use cjc_folder::gather_parts;
 use cjc_list::{List, read_list};
+use cjc_running::names_of;
 use cjc_shelf::Shelf;
 use std::alloc::Global;
-
-/// The names of the files of a list.
-fn names_of(alloc: Global, lines: &[FileLine]) -> Result<Row<Bytes>, NoMemory>
-    ensures { IfOk result (λ names. names ≡ names_lem lines.now) }
-{
-    let mut names = Row::new(alloc);
-    for line in lines {
-        names.push(Bytes::copy_of(alloc, line.name.items())?)?;
-    }
-    Ok(names)
-}
 
 /// Reads the files of a list, then the components of a folder, and then a script.
 fn gather_listed<S: Shelf>(

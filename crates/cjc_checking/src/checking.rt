@@ -3,7 +3,7 @@
 ghost use Rattle.std.specs.Prelude.{◌≡◌, ◌∷◌, [], IfErr, IfOk, OnOk};
 ghost use Rattle.cjc_bytes.specs.Breaks.{IsFirstRefusal};
 ghost use Rattle.cjc_checking.specs.Check.{AreConsistent, Checks, check_breaks, ok_line, plan_of_check};
-ghost use Rattle.cjc_command.specs.Gather.{Gathers, Judged, status_of_fault};
+ghost use Rattle.cjc_command.specs.Gather.{Gathers, Judged};
 ghost use Rattle.cjc_folder.specs.Breaks.{AreRead, AreShort, AreTrees};
 
 use cjc_bytes::{Bytes, Fault, NoMemory, Row};
@@ -53,16 +53,6 @@ fn print_ok(alloc: Global) -> Result<Todo, NoMemory>
     })
 }
 
-/// The answer for a fault.
-fn status_of(fault: Fault) -> Status
-    ensures { result ≡ status_of_fault fault }
-{
-    match fault {
-        Fault::Refused(refusal) => Status::Refused(refusal),
-        Fault::NoMemory => Status::NoMemory,
-    }
-}
-
 // All is computed here, the line too.
 fn judge(alloc: Global, folder: &Folder) -> Result<Todo, Status>
     requires short { AreShort folder.now }
@@ -74,7 +64,7 @@ fn judge(alloc: Global, folder: &Folder) -> Result<Todo, Status>
             Ok(todo) => Ok(todo),
             Err(NoMemory) => Err(Status::NoMemory),
         },
-        Err(fault) => Err(status_of(fault)),
+        Err(fault) => Err(Status::from(fault)),
     }
 }
 

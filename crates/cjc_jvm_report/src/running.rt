@@ -1,32 +1,17 @@
 //! What `jvm LIST SCRIPT N` reads and prints. The program's top call calls it. Nothing here writes.
 
-ghost use Rattle.std.specs.Prelude.{◌≡◌, ◌∷◌, [], IfOk};
-ghost use Rattle.cjc_command.specs.Gather.{Gathers, Judged, status_of_fault};
+ghost use Rattle.std.specs.Prelude.{IfOk};
+ghost use Rattle.cjc_command.specs.Gather.{Gathers, Judged};
 ghost use Rattle.cjc_running.specs.Ready.{IsReady};
 ghost use Rattle.cjc_running.specs.Reads.{IsInput};
-ghost use Rattle.cjc_script_text.specs.Printed.{report_text};
 ghost use Rattle.cjc_jvm_report.specs.Runs.{Runs, IsRun, plan_of_jvm};
 
 use crate::reporting::report_of;
-use cjc_bytes::{Fault, NoMemory, Row};
+use cjc_bytes::NoMemory;
 use cjc_command::{Status, Todo};
-use cjc_running::{Input, Ready, gather_input, make_ready};
-use cjc_script::Report;
-use cjc_script_text::print;
+use cjc_running::{Input, Ready, gather_input, make_ready, report_todo};
 use cjc_shelf::Shelf;
 use std::alloc::Global;
-
-/// What is printed of a report.
-fn todo_of(alloc: Global, report: &Report) -> Result<Todo, NoMemory>
-    ensures { IfOk result (λ todo. todo ≡ record { files = []; lines = report_text report.now ∷ [] }) }
-{
-    let mut lines = Row::new(alloc);
-    lines.push(print(alloc, report)?)?;
-    Ok(Todo {
-        files: Row::new(alloc),
-        lines,
-    })
-}
 
 /// Runs what is ready, and gives the lines of its report.
 fn run_ready(
@@ -41,17 +26,7 @@ fn run_ready(
 {
     let (_script, _input) = (script, input);
     let report = report_of(alloc, ready, n)?;
-    todo_of(alloc, &report)
-}
-
-/// The answer for a fault.
-fn status_of(fault: Fault) -> Status
-    ensures { result ≡ status_of_fault fault }
-{
-    match fault {
-        Fault::Refused(refusal) => Status::Refused(refusal),
-        Fault::NoMemory => Status::NoMemory,
-    }
+    report_todo(alloc, &report)
 }
 
 // All is computed here, the lines too.
@@ -70,7 +45,7 @@ fn judge(alloc: Global, script: &[u8], input: &Input, n: u32) -> Result<Todo, St
             Ok(todo) => Ok(todo),
             Err(NoMemory) => Err(Status::NoMemory),
         },
-        Err(fault) => Err(status_of(fault)),
+        Err(fault) => Err(Status::from(fault)),
     }
 }
 

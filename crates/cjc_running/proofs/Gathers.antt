@@ -43,13 +43,13 @@ listed_then script list names files text old mid new n g p =
 
 -- ---- the list
 
-answer_ok : (r : Result ListTree Refusal) (list : ListTree) → IsUnlessNoMemory (Ok list) (answer r) → r ≡ Ok list
+pub answer_ok : (r : Result ListTree Refusal) (list : ListTree) → IsUnlessNoMemory (Ok list) (answer r) → r ≡ Ok list
 answer_ok (Ok l) list (inl e) = cc
 answer_ok (Ok l) list (inr e) = absurd cc
 answer_ok (Err r) list (inl e) = absurd cc
 answer_ok (Err r) list (inr e) = absurd cc
 
-answer_err : (r : Result ListTree Refusal) (x : Refusal) → IsUnlessNoMemory (Err (faults.Refused x)) (answer r) → r ≡ Err x
+pub answer_err : (r : Result ListTree Refusal) (x : Refusal) → IsUnlessNoMemory (Err (faults.Refused x)) (answer r) → r ≡ Err x
 answer_err (Ok l) x (inl e) = absurd cc
 answer_err (Ok l) x (inr e) = absurd cc
 answer_err (Err r) x (inl e) = cc

@@ -13,7 +13,7 @@ use cjc_shelf::Shelf;
 use std::alloc::Global;
 
 /// The names of the files of a list.
-fn names_of(alloc: Global, lines: &[FileLine]) -> Result<Row<Bytes>, NoMemory>
+pub fn names_of(alloc: Global, lines: &[FileLine]) -> Result<Row<Bytes>, NoMemory>
     ensures { IfOk result (λ names. names ≡ names_lem lines.now) }
 {
     let mut names = Row::new(alloc);

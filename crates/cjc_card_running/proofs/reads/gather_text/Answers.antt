@@ -1,4 +1,5 @@
-use Rattle.cjc_card_running.proofs.Gathers.{is_read, text_then}
+use Rattle.cjc_running.proofs.Gathers.{is_read}
+use Rattle.cjc_card_running.proofs.Gathers.{text_then}
 use Rattle.cjc_card_running.proofs.reads.gather_text.Goals as goal
 
 pub gather_listed-requires : goal.gather_listed-requires

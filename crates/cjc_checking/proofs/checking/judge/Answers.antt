@@ -9,4 +9,4 @@ use Rattle.cjc_checking.proofs.checking.judge.Goals as goal
 pub returns-in-Err : goal.returns-in-Err
 returns-in-Err c =
     let P : Status → Type 0 = λ s. Judged {T = Todo} (Checks c.args.folder.now) (Err s) in
-    subst P (sym c.status_of.ensures) (judged_fault c.args.folder.now c.in-Err.fault c.in-Err.ensures.refused)
+    subst P (sym c.from.ensures) (judged_fault c.args.folder.now c.in-Err.fault c.in-Err.ensures.refused)
