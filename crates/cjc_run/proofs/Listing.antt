@@ -1,32 +1,19 @@
 -- How the reads of a conversion go on from its list.
-use Rattle.std.proofs.Common.{◌≡◌, inl, inr, ℕ, ◌<◌, List, length, Result, Ok, Err, sym, subst, arith}
+use Rattle.std.proofs.Common.{◌≡◌, ℕ, List, Result, Ok, Err, sym, subst}
 use Rattle.cjc_bytes.specs.Refused.{IsUnlessNoMemory}
 use Rattle.cjc_bytes.specs.declared.fault.Fault.TheVariants as faults
 use Rattle.cjc_bytes.specs.declared.fault.Refusal.{Refusal}
 use Rattle.cjc_shelf.specs.Shelf.{Shelved}
 use Rattle.cjc_list.specs.Listed.{ListTree, listed, answer}
-use Rattle.cjc_list.specs.Spelling.{IsSpelt}
-use Rattle.cjc_judge.specs.Spelt.{IsRead}
 use Rattle.cjc_command.specs.declared.status.Status.{Status}
 use Rattle.cjc_command.specs.declared.status.Status.TheVariants as status
 use Rattle.cjc_command.specs.declared.status.Todo.{Todo}
 use Rattle.cjc_command.specs.Plan.{◌>>=◌, has, read_each, unless_refused}
-use Rattle.cjc_command.specs.Gather.{Gathers, IsSame, Judged, AreShort}
+use Rattle.cjc_command.specs.Gather.{Gathers, IsSame, Judged}
 use Rattle.cjc_command.proofs.Gathering.{gathers_refused, gathers_then, gathers_end}
 use Rattle.cjc_command.proofs.Judging.{gathers_judged}
+use Rattle.cjc_running.proofs.Gathers.{answer_ok, answer_err}
 use Rattle.cjc_run.specs.Convert.{names_of, plan_of_files, plan_of_list, Makes}
-
-answer_ok : (r : Result ListTree Refusal) (list : ListTree) → IsUnlessNoMemory (Ok list) (answer r) → r ≡ Ok list
-answer_ok (Ok l) list (inl e) = cc
-answer_ok (Ok l) list (inr e) = absurd cc
-answer_ok (Err r) list (inl e) = absurd cc
-answer_ok (Err r) list (inr e) = absurd cc
-
-answer_err : (r : Result ListTree Refusal) (x : Refusal) → IsUnlessNoMemory (Err (faults.Refused x)) (answer r) → r ≡ Err x
-answer_err (Ok l) x (inl e) = absurd cc
-answer_err (Ok l) x (inr e) = absurd cc
-answer_err (Err r) x (inl e) = cc
-answer_err (Err r) x (inr e) = absurd cc
 
 -- the text is a list, and its files were asked for
 pub listed_goes_on : (name text dir : List ℕ) (list : ListTree) (old new : Shelved) (result : Result Todo Status) → IsUnlessNoMemory (Ok list) (answer (listed name text))
@@ -40,10 +27,6 @@ pub listed_refuses : (name text dir : List ℕ) (r : Refusal) (s : Shelved) → 
 listed_refuses name text dir r s e =
     subst (λ (l : Result ListTree Refusal). Gathers (unless_refused l >>= plan_of_files) (Makes dir) s s (Err (status.Refused r))) (sym (answer_err (listed name text) r e))
     (gathers_refused (Makes dir) s r)
-
--- what was read is a list of the name
-pub is_read : (name text : List ℕ) (list : ListTree) → length text < 4294967296 → IsSpelt name list text → IsRead list
-is_read name text list short s = (text, short, subst (λ (n : List ℕ). IsSpelt n list text) (sym s.0.3.named) s)
 
 -- the files of the list could not all be read
 pub files_end : (list : ListTree) (dir : List ℕ) (names : List (List ℕ)) (old new : Shelved) (end : Status) → names ≡ names_of list

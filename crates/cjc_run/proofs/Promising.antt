@@ -1,6 +1,5 @@
 -- A conversion that is done keeps its promise.
-use Rattle.std.proofs.Common.{◌≡◌, inl, inr, ℕ, Bool, true, false, cond, List, [], ◌∷◌, ◌++◌, length, map, nat_lt, Option, Some, None, IfSome, IsSomeAnd, Result, Ok, Err, refl, sym, ap, subst, ◌∙◌, ◌<◌, arith}
-use Rattle.std.proofs.lemmas.Bool.Decides.{nat_tests}
+use Rattle.std.proofs.Common.{◌≡◌, ℕ, Bool, true, false, cond, List, [], ◌∷◌, ◌++◌, length, map, nat_lt, Option, Some, None, IfSome, IsSomeAnd, Result, Ok, Err, refl, sym, ap, subst, ◌∙◌}
 use Rattle.std.proofs.lemmas.List.{append-nil, append_assoc}
 use Rattle.std.specs.FinMap.{get}
 use Rattle.cjc_bytes.specs.Format.{FileSpells}
@@ -11,18 +10,7 @@ use Rattle.cjc_shelf.specs.Sink.{Sunk}
 use Rattle.cjc_list.specs.Listed.{ListTree, listed}
 use Rattle.cjc_classfile.specs.ClassFile.{class_file}
 use Rattle.cjc_classfile.specs.declared.tree.ClassTree.{ClassTree}
-use Rattle.cjc_alike.specs.Alike.{BehaveAlike}
-use Rattle.cjc_fair_exports.specs.Fair.{ExportsAreFair}
-use Rattle.cjc_components.specs.Components.{components_of}
-use Rattle.cjc_components.specs.Limits.{limit_breaks}
-use Rattle.cjc_components.specs.Package.{Package}
-use Rattle.cjc_judge.specs.Rules.{files_spelt}
-use Rattle.cjc_judge.specs.declared.judged.Judged.{Judged}
-use Rattle.cjc_judge.specs.Spelt.{IsRead, FileTree, SpellTrees, classes_of, exports_of, of_class, of_export}
-use Rattle.cjc_prepared.specs.Prepared.{IsSound}
-use Rattle.cjc_sentences.specs.Consistent.{Consistent}
-use Rattle.cjc_whole.specs.Conversion.{IsPackageOf}
-use Rattle.cjc_world.specs.Files.{Files as World}
+use Rattle.cjc_judge.specs.Spelt.{FileTree, SpellTrees, classes_of, exports_of, of_class, of_export}
 use Rattle.cjc_export.specs.ExportFile.{export_file}
 use Rattle.cjc_export.specs.declared.tree.ExportTree.{ExportTree}
 use Rattle.cjc_command.specs.Plan.{◌>>=◌, has, Verdict, at_file, verdict, for_each, read_behind, read_each, unless_refused, absent, too_long, refused, complete}
@@ -42,7 +30,6 @@ use Rattle.cjc_run.proofs.Standing.{stand_made}
 use Rattle.cjc_run.proofs.CardRan.{keeps_card}
 use Rattle.cjc_run.proofs.Ran.{keeps_run}
 use Rattle.cjc_run.proofs.Tested.{keeps_tested}
-use Rattle.cjc_run.proofs.Listing.{is_read}
 
 -- ---- what was read
 
@@ -89,7 +76,6 @@ files_got files list x e =
 pub record IsGot (files : Files) (name : List ℕ) (x : ListTree × List (List ℕ)) : Type 0 where
   pub text : List ℕ
   pub text_is : get files name ≡ Some text
-  pub short : length text < 4294967296
   pub listed_is : listed name text ≡ Ok x.0
   pub all : AllGot files (names_of x.0) x.1
 
@@ -101,20 +87,11 @@ list_got files (Ok list) x e =
     let same : list ≡ x.0 = sym (ap (λ (y : ListTree × List (List ℕ)). y.0) got.0) in
     (ap (λ (l : ListTree). Ok l) same, subst (λ (l : ListTree). AllGot files (names_of l) x.1) same got.1)
 
--- a file that is not too long has a length of four bytes
-got_short : {X : Type 0} (name : List ℕ) (next : List ℕ → Verdict X) (bytes : List ℕ) (x : X) → at_file name next (Some bytes) ≡ complete x → length bytes < 4294967296
-got_short {X} name next bytes x e = by (nat_lt longest_file (length bytes)) refl e
-  where
-    by : (b : Bool) → nat_lt longest_file (length bytes) ≡ b → cond b (too_long name) (next bytes) ≡ complete x → length bytes < 4294967296
-    by true is h = absurd cc
-    by false is h = grind (arith, nat_tests)
-
 pub convert_got : (files : Files) (name : List ℕ) (x : ListTree × List (List ℕ)) → verdict files (plan_of_convert name) ≡ complete x → IsGot files name x
 convert_got files name x e =
     let got = at_got name (λ text. verdict files (plan_of_list name text)) (get files name) x e in
     let list = list_got files (listed name got.0) x got.2 in
-    let short = got_short name (λ text. verdict files (plan_of_list name text)) got.0 x (subst (λ (o : Option (List ℕ)). at_file name (λ text. verdict files (plan_of_list name text)) o ≡ complete x) got.1 e) in
-    record { text = got.0; text_is = got.1; short = short; listed_is = list.0; all = list.1 }
+    record { text = got.0; text_is = got.1; listed_is = list.0; all = list.1 }
 
 -- ---- what the files spell
 
@@ -161,56 +138,43 @@ exports_spelt files (line ∷ lines) (bytes ∷ all) (of_export tree ∷ trees) 
 
 -- ---- the whole
 
--- What is said of the package of each list that was read, of files that break no rule, nor does what is written for them, with fair export files.
-abbrev pub OfPackages : (ListTree → Package → Type 0) → Type 0
-OfPackages Holds =
-    (list : ListTree) (files : List (List ℕ)) (judged : Judged) → IsRead list → IsSound list files judged → (p : Package) → IsPackageOf list files p → limit_breaks p ≡ []
-    → (let world = p.files in ExportsAreFair world.exports) → Holds list p
+keeps : (name dir : List ℕ) (files : Files) (new : Shelved) (todo : Todo) → IsReady (command_of (convert name dir)) (Some files) todo → IsWritten (Some files) todo new
+    → IsSomeAnd new.files (Converts name dir files)
+keeps name dir files new todo ready written =
+    let x = ready.inputs in
+    let got = convert_got files name x ready.read in
+    let made = ready.made.0 in
+    let kept = ready.made.2 in
+    let all : List File = map (below dir) (files_made x.0.package made) in
+    let after : written_files todo.files files ≡ written_files all files = ap (λ (t : Todo). written_files t.files files) ready.made.3 in
+    subst (λ (o : Option Files). IsSomeAnd o (Converts name dir files)) (sym written) (record {
+      text = got.text;
+      list = x.0;
+      classes = classes_of kept.trees;
+      exports = exports_of kept.trees;
+      made = made;
+      cap = kept.cap;
+      text_is = got.text_is;
+      list_is = listed_spelt name got.text x.0 got.listed_is;
+      class_files = classes_spelt files x.0.lines x.1 kept.trees got.all kept.spell;
+      export_files = exports_spelt files x.0.lines x.1 kept.trees got.all kept.spell;
+      stand = subst (λ (fs : Files). Stand fs all) (sym after) (stand_made dir x.0.package files made);
+      spelt = kept.spelt;
+      consistent = kept.consistent;
+      alike = kept.alike;
+    })
 
-module _ (behave : OfPackages (λ list p. BehaveAlike list p.files (components_of p))) (consist : OfPackages (λ list p. let world = p.files in Consistent (components_of p) world.exports)) where
-  keeps : (name dir : List ℕ) (files : Files) (new : Shelved) (todo : Todo) → IsReady (command_of (convert name dir)) (Some files) todo → IsWritten (Some files) todo new
-      → IsSomeAnd new.files (Converts name dir files)
-  keeps name dir files new todo ready written =
-      let x = ready.inputs in
-      let got = convert_got files name x ready.read in
-      let made = ready.made.0 in
-      let is = ready.made.1 in
-      let trees = is.is_package.spelt.trees in
-      let spell = is.is_package.spelt.is_world.0 in
-      let world : is.whole.files ≡ files_spelt x.0 trees = is.is_package.spelt.world_is in
-      let list = listed_spelt name got.text x.0 got.listed_is in
-      let all : List File = map (below dir) (files_made x.0.package made) in
-      let after : written_files todo.files files ≡ written_files all files = ap (λ (t : Todo). written_files t.files files) ready.made.2 in
-      subst (λ (o : Option Files). IsSomeAnd o (Converts name dir files)) (sym written) (record {
-        text = got.text;
-        list = x.0;
-        classes = classes_of trees;
-        exports = exports_of trees;
-        made = made;
-        cap = components_of is.whole;
-        text_is = got.text_is;
-        list_is = list;
-        class_files = classes_spelt files x.0.lines x.1 trees got.all spell;
-        export_files = exports_spelt files x.0.lines x.1 trees got.all spell;
-        stand = subst (λ (fs : Files). Stand fs all) (sym after) (stand_made dir x.0.package files made);
-        spelt = is.caps_spelt;
-        consistent = λ fair. subst (λ (w : World). Consistent (components_of is.whole) w.exports) world
-            (consist x.0 x.1 is.judged (is_read name got.text x.0 got.short list) is.sound is.whole is.is_package is.limits (subst (λ (w : World). ExportsAreFair w.exports) (sym world) fair));
-        alike = λ fair. subst (λ (w : World). BehaveAlike x.0 w (components_of is.whole)) world
-            (behave x.0 x.1 is.judged (is_read name got.text x.0 got.short list) is.sound is.whole is.is_package is.limits (subst (λ (w : World). ExportsAreFair w.exports) (sym world) fair));
-      })
+keeps_told : (name dir : List ℕ) (told : Option Files) (new : Shelved) (todo : Todo) → IsReady (command_of (convert name dir)) told todo → IsWritten told todo new
+    → IfSome told (λ before. IsSomeAnd new.files (Converts name dir before))
+keeps_told name dir None new todo ready written = tt
+keeps_told name dir (Some files) new todo ready written = keeps name dir files new todo ready written
 
-  keeps_told : (name dir : List ℕ) (told : Option Files) (new : Shelved) (todo : Todo) → IsReady (command_of (convert name dir)) told todo → IsWritten told todo new
-      → IfSome told (λ before. IsSomeAnd new.files (Converts name dir before))
-  keeps_told name dir None new todo ready written = tt
-  keeps_told name dir (Some files) new todo ready written = keeps name dir files new todo ready written
+promised_done : (r : Request) (old new : Shelved) (from to : Sunk) → Answers (command_of r) old new from to status.Done → Promised r old new from to
+promised_done (convert name dir) old new from to t = keeps_told name dir old.files new t.0 t.1 t.2
+promised_done (check name dir) old new from to t = keeps_tested name dir old new from to t.0 t.1 t.2 t.3
+promised_done (jvm name script n) old new from to t = keeps_run name script n old new from to t.0 t.1 t.2 t.3
+promised_done (card name dir script n) old new from to t = keeps_card name dir script n old new from to t.0 t.1 t.2 t.3
 
-  promised_done : (r : Request) (old new : Shelved) (from to : Sunk) → Answers (command_of r) old new from to status.Done → Promised r old new from to
-  promised_done (convert name dir) old new from to t = keeps_told name dir old.files new t.0 t.1 t.2
-  promised_done (check name dir) old new from to t = keeps_tested name dir old new from to t.0 t.1 t.2 t.3
-  promised_done (jvm name script n) old new from to t = keeps_run name script n old new from to t.0 t.1 t.2 t.3
-  promised_done (card name dir script n) old new from to t = keeps_card name dir script n old new from to t.0 t.1 t.2 t.3
-
-  pub promised : (r : Request) (old new : Shelved) (from to : Sunk) (answer : Status) → Acts (command_of r) old new from to answer → answer ≡ status.Done
-      → Promised r old new from to
-  promised r old new from to answer a done = promised_done r old new from to (subst (λ (s : Status). Answers (command_of r) old new from to s) done a.answers)
+pub promised : (r : Request) (old new : Shelved) (from to : Sunk) (answer : Status) → Acts (command_of r) old new from to answer → answer ≡ status.Done
+    → Promised r old new from to
+promised r old new from to answer a done = promised_done r old new from to (subst (λ (s : Status). Answers (command_of r) old new from to s) done a.answers)

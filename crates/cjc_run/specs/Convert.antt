@@ -3,6 +3,7 @@ use Rattle.std.specs.Prelude.{◌≡◌, ◌==◌, ℕ, List, [], ◌∷◌, ◌
 use Rattle.cjc_bytes.specs.declared.fault.Refusal.{Refusal}
 use Rattle.cjc_list.specs.Listed.{ListTree, listed}
 use Rattle.cjc_capwrite.specs.declared.files.CapFiles.{CapFiles}
+use Rattle.cjc_conversion.specs.Promise.{KeepsPromise}
 use Rattle.cjc_convert.specs.declared.conversion.Converted.{Converted}
 use Rattle.cjc_convert.specs.Conversion.{IsConverted}
 use Rattle.cjc_whole.specs.Conversion.{IsRefused}
@@ -84,7 +85,8 @@ publication dir files = record { files = map (below dir) files; lines = map file
 abbrev pub with_files : List ℕ → Todo → List File → Todo
 with_files dir todo files = record { files = todo.files ++ map (below dir) files; lines = todo.lines ++ map file_line files }
 
--- What is made of the list and its files, or which rule they break first.
+-- What is made of the list and its files, with what the conversion promises of it; or which rule they break first.
 abbrev pub Makes : List ℕ → ListTree × List (List ℕ) → Result Todo Refusal → Type 0
-Makes dir input (Ok todo) = (made : Converted) × IsConverted input.0 input.1 made × (todo ≡ publication dir (files_made input.0.package made))
+Makes dir input (Ok todo) =
+    (made : Converted) × IsConverted input.0 input.1 made × KeepsPromise input.0 input.1 made × (todo ≡ publication dir (files_made input.0.package made))
 Makes dir input (Err r) = IsRefused input.0 input.1 r

@@ -12,7 +12,6 @@ ghost use Rattle.cjc_run.specs.Promise.{Promised};
 
 use crate::command::{Asked, asked_by};
 use crate::converting::gather_convert;
-use cjc_alike::converted_packages_behave_alike;
 use cjc_bytes::Bytes;
 use cjc_card_report::gather_card;
 use cjc_checking::gather_check;
@@ -75,7 +74,6 @@ pub fn run<S: Shelf, O: Sink>(alloc: Global, words: &[Bytes], shelf: &mut S, out
     // alike, and the components are consistent.
     ensures alike { result ≡ Status.Done → IfSome (request words.now) (λ asked. Promised asked (S.shelved shelf.old) (S.shelved shelf.new) (O.sunk out.old) (O.sunk out.new)) }
 {
-    converted_packages_behave_alike();
     match asked_by(words) {
         None => Status::Usage,
         Some(command) => act(alloc, command, shelf, out),

@@ -18,4 +18,4 @@ returns-in-Some-clause-complete g c =
 pub returns-in-Some-clause-alike : goal.returns-in-Some-clause-alike
 returns-in-Some-clause-alike g c =
     let is = rw c.in-Some.is at c.asked_by.ensures in
-    rw (sym is) (λ done. promised c.converted_packages_behave_alike.ensures.alike c.converted_packages_behave_alike.ensures.consistent (asked c.in-Some.command) _ _ _ _ _ c.act.ensures done)
+    rw (sym is) (λ done. promised (asked c.in-Some.command) _ _ _ _ _ c.act.ensures done)
