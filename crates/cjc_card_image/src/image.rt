@@ -11,8 +11,8 @@ use cjc_opcodes::Letter;
 use cjc_script::Value;
 use std::marker::Model;
 
-/// The reference cells of a package, of which each takes two in the offsets of cells, and the bytes of the numbers behind
-/// them.
+/// The reference cells of a package, of which each takes two in the offsets of cells, and the bytes of the
+/// numbers behind them.
 #[derive(Drop)]
 pub struct Image {
     pub(crate) references: Vec<Value>,

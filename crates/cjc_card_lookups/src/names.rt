@@ -17,8 +17,8 @@ pub struct FieldName {
     pub desc: Bytes,
 }
 
-/// Of the class info with the same number: its name, the methods of its class as Descriptor lists them, its instance fields
-/// in the order of the class file, and of an interface its methods by token.
+/// Of the class info with the same number: its name, the methods of its class as Descriptor lists them, its
+/// instance fields in the order of the class file, and of an interface its methods by token.
 #[derive(Drop)]
 pub struct ClassNames {
     pub name: Bytes,

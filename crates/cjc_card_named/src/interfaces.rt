@@ -1,5 +1,5 @@
-//! Methods of interfaces by their names, and what they are on a receiver (Java Card Virtual Machine Specification 2.2.2,
-//! sections 6.8 and 7.5).
+//! Methods of interfaces by their names, and what they are on a receiver (Java Card Virtual Machine
+//! Specification 2.2.2, sections 6.8 and 7.5).
 
 ghost use Rattle.std.specs.Prelude.{◌≡◌, Some, map, option_map, slice_get};
 ghost use Rattle.std.specs.Option.{option_copied};

@@ -6,7 +6,8 @@ use cjc_card_parts::CellName;
 use cjc_cases::{cut, number, text};
 use std::alloc::Global;
 
-/// Each class, the methods of an interface, and the instance fields: a digit for the token, a letter for the name, the type.
+/// Each class, the methods of an interface, and the instance fields: a digit for the token, a letter for the
+/// name, the type.
 const CLASSES: [(&str, &str, &str); 3] = [
     ("p/I", "a()S b()S", ""),
     ("p/T", "", "0bB 1sS 2iI 4rLp/T;"),

@@ -91,8 +91,8 @@ fn class_entries(
     Ok(entries)
 }
 
-/// Class of a package: interfaces before classes, and a super before its subs. Offsets of methods stand by the number of
-/// the class and by the place of the method there.
+/// Class of a package: interfaces before classes, and a super before its subs. Offsets of methods stand by the
+/// number of the class and by the place of the method there.
 pub fn class_info(
     alloc: Global,
     world: &World<'_>,

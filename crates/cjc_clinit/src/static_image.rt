@@ -192,8 +192,8 @@ fn image_after(
 
 // ---- a package
 
-/// What of rule 308 a package breaks first, with its place in the order of refusals, for whoever tests further rules of the
-/// same hundred. `codes` has the instructions of the methods that have some.
+/// What of rule 308 a package breaks first, with its place in the order of refusals, for whoever tests further
+/// rules of the same hundred. `codes` has the instructions of the methods that have some.
 pub fn first_broken<'w>(
     alloc: Global,
     world: &'w World<'_>,
@@ -206,8 +206,8 @@ pub fn first_broken<'w>(
     image_break(alloc, world, codes.items(), &mut rows, &mut arrays)
 }
 
-/// What the static fields of a package hold after its initialisers. A refusal is the first of what is broken of rule 308.
-/// `codes` has the instructions of the methods that have some.
+/// What the static fields of a package hold after its initialisers. A refusal is the first of what is broken of
+/// rule 308. `codes` has the instructions of the methods that have some.
 pub fn image(alloc: Global, world: &World<'_>, codes: &Codes) -> Result<StaticImage, Fault>
     ensures made { IfOk result (IsImage world.now codes.now) }
     ensures unbroken { OnOk result ((b : Broken) → BreaksImage world.now codes.now b → ⊥) }

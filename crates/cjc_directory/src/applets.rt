@@ -76,8 +76,8 @@ fn applet_entries(
     Ok(entries)
 }
 
-/// Applet of a package, in the order of the list; None where the list has no applet line. Offsets of methods stand by the
-/// number of the class and by the place of the method there.
+/// Applet of a package, in the order of the list; None where the list has no applet line. Offsets of methods
+/// stand by the number of the class and by the place of the method there.
 pub fn applet(
     alloc: Global,
     world: &World<'_>,

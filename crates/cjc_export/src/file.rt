@@ -241,9 +241,9 @@ pub fn read(alloc: Global, file: &[u8], bytes: &[u8]) -> Result<ExportTree, Faul
     }
 }
 
-/// The bytes of a file spell one tree at most, or break at one place, and not both; and reading as a function of the bytes
-/// gives that tree or place. The trees that bytes spell are
-/// those that can be written, and no bytes that spell a tree are fewer than the written ones.
+/// The bytes of a file spell one tree at most, or break at one place, and not both; and reading as a function
+/// of the bytes gives that tree or place. The trees that bytes spell are those that can be written, and no
+/// bytes that spell a tree are fewer than the written ones.
 pub fn readings()
     ensures tree { (s t : Tree) (bytes : List ℕ) → FileSpells export_file s bytes → FileSpells export_file t bytes → s ≡ t }
     ensures place { (j k : ℕ) (bytes : List ℕ) → FileBreaks export_file bytes j → FileBreaks export_file bytes k → j ≡ k }

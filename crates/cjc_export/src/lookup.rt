@@ -89,8 +89,8 @@ impl ExportTree {
     }
 }
 
-/// Going upwards over export files gives the classes of some names and all that stand above them by what is listed, each
-/// once, and nothing else.
+/// Going upwards over export files gives the classes of some names and all that stand above them by what is
+/// listed, each once, and nothing else.
 pub fn supers()
     ensures found { (classes : List Class) (names : List (List ℕ)) (name : List ℕ)
         → (is_one_of (map (λ c. c.name) (upwards classes names)) name ≡ true) ↔ (IsAtOrAbove classes names name × ((c : Class) × (class_named classes name ≡ Some c))) }

@@ -68,8 +68,8 @@ fn tree(alloc: Global, source: &Source<'_, '_>) -> Result<ExportTree, NoMemory>
     })
 }
 
-/// The export file of a package, whose tokens these are: the classes that others may name, by token, with their members. Only
-/// want of memory is an error.
+/// The export file of a package, whose tokens these are: the classes that others may name, by token, with their
+/// members. Only want of memory is an error.
 pub fn export_of(
     alloc: Global,
     list: &List,

@@ -81,9 +81,9 @@ fn key_token(
     }
 }
 
-/// By the number of a key the token of its virtual method in the class that it names: of a public or protected one, or one that
-/// the class got from its interfaces; or of a package-visible one of the package, with the high bit. 0 of a key that is of no
-/// virtual method.
+/// By the number of a key the token of its virtual method in the class that it names: of a public or protected
+/// one, or one that the class got from its interfaces; or of a package-visible one of the package, with the
+/// high bit. 0 of a key that is of no virtual method.
 pub fn key_tokens(
     alloc: Global,
     world: &World<'_>,

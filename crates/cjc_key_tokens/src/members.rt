@@ -22,7 +22,8 @@ fn behind(fields: usize, methods: usize, place: usize) -> Result<u32, NoMemory>
     Ok((fields + methods + place) as u32)
 }
 
-/// The token of the member of a class of the package that stands behind its fields and so many methods; no interface has slots.
+/// The token of the member of a class of the package that stands behind its fields and so many methods; no
+/// interface has slots.
 pub(crate) fn own_token(
     tokens: &Tokens,
     number: u32,

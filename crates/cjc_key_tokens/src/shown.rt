@@ -19,7 +19,8 @@ use cjc_tokens::Tokens;
 use cjc_world::{Known, World, lookup_laws};
 use std::alloc::Global;
 
-/// The token of a method that a class got from its interfaces, if it got one of this name and descriptor and declares none.
+/// The token of a method that a class got from its interfaces, if it got one of this name and descriptor and
+/// declares none.
 fn got_here(
     world: &World<'_>,
     tokens: &Tokens,

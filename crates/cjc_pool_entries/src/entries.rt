@@ -94,8 +94,8 @@ fn entry(
     }
 }
 
-/// The entries of ConstantPool, one for each key. The token of the virtual method of a key and the offset of the cell of its
-/// static field stand by the number of the key, 0 where it is of none.
+/// The entries of ConstantPool, one for each key. The token of the virtual method of a key and the offset of
+/// the cell of its static field stand by the number of the key, 0 where it is of none.
 pub fn pool_entries(
     alloc: Global,
     world: &World<'_>,

@@ -112,8 +112,8 @@ impl Tokens {
         }
     }
 
-    /// The methods that the tokens of public and protected virtual methods mean in a class of the package, or the tokens
-    /// of an interface, by token. None at a token that no method has.
+    /// The methods that the tokens of public and protected virtual methods mean in a class of the package, or
+    /// the tokens of an interface, by token. None at a token that no method has.
     pub fn public_methods(&self, class: u32) -> &[Option<Found>]
         ensures { result.now ≡ public_methods_of self.now class }
     {

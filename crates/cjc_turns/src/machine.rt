@@ -8,7 +8,8 @@ use cjc_heap::{Heap, Statics};
 use cjc_script::{Answer, Entry, Note};
 use std::marker::Model;
 
-/// The callers, the heap and the static cells, what is left of the script, the notes, and how many instructions were run.
+/// The callers, the heap and the static cells, what is left of the script, the notes, and how many instructions
+/// were run.
 pub struct Machine<'a> {
     pub callers: Pile<Caller<'a>>,
     pub heap: Heap<'a>,

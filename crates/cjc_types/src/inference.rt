@@ -188,9 +188,9 @@ fn types_of(alloc: Global, world: &World<'_>, method: &Method<'_>) -> Result<Typ
 ///
 /// # Errors
 ///
-/// The first broken rule of the method, in the order of its instructions: 501 where two ways to an instruction have
-/// stacks of different heights, 502 where an operand is of the wrong kind or class, 503 where the stack goes below empty
-/// or above `max_stack`; with the offset of the instruction in bytes.
+/// The first broken rule of the method, in the order of its instructions: 501 where two ways to an instruction
+/// have stacks of different heights, 502 where an operand is of the wrong kind or class, 503 where the stack
+/// goes below empty or above `max_stack`; with the offset of the instruction in bytes.
 pub fn infer_method(
     alloc: Global,
     world: &World<'_>,
@@ -233,8 +233,8 @@ fn told(
     }
 }
 
-/// As `infer_method`, with a broken rule as a refusal. Its place has the file, the class, the method's name and descriptor,
-/// and the offset of the instruction in bytes.
+/// As `infer_method`, with a broken rule as a refusal. Its place has the file, the class, the method's name and
+/// descriptor, and the offset of the instruction in bytes.
 pub fn infer(
     alloc: Global,
     file: &[u8],

@@ -170,7 +170,8 @@ fn with_names(alloc: Global, set: Row<Bytes>, names: &[Bytes]) -> Result<Row<Byt
     Ok(Row::of(all))
 }
 
-/// The names of either set, made of the first. A few names are put in one by one, so that a great set is not copied for them.
+/// The names of either set, made of the first. A few names are put in one by one, so that a great set is not
+/// copied for them.
 pub(crate) fn either(
     alloc: Global,
     set: Row<Bytes>,

@@ -286,8 +286,8 @@ impl<'a> World<'a> {
         )
     }
 
-    /// The method of an interface: its own of this name and descriptor, else that of the first of its superinterfaces, in
-    /// their order, that declares one. None where there is none.
+    /// The method of an interface: its own of this name and descriptor, else that of the first of its
+    /// superinterfaces, in their order, that declares one. None where there is none.
     pub fn method_of_interface(&self, interface: &[u8], name: &[u8], desc: &[u8]) -> Option<Found>
         ensures { result ≡ method_of_interface (all_classes self.now) interface.now name.now desc.now }
     {
