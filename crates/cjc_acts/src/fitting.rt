@@ -1,4 +1,6 @@
-//! Which values are of which types.
+//! Whether a value is of the type that a descriptor says, by the class of the object that a reference means.
+//! Asked of what scripts give; of a call in code only whether numbers and references stand where its types want
+//! them.
 
 ghost use Rattle.std.specs.Prelude.{◌≡◌, List, None, option_map, map, IfOk};
 ghost use Rattle.cjc_script.specs.declared.report.Thing.{Thing};

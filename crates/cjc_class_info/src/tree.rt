@@ -1,4 +1,5 @@
-//! Class of a package.
+//! The component Class of a package, put together from the infos that `entries` makes: interfaces first, then
+//! classes, each behind its superclass.
 
 ghost use Rattle.std.specs.Prelude.{◌≡◌, ◌++◌, map, option_to_list, IfOk, OnOk};
 ghost use Rattle.cjc_world.specs.Classes.{all_classes};

@@ -1,4 +1,5 @@
-//! Whole export files.
+//! An export file read from its magic number to its last class: header, pool, package, classes. What the crate
+//! is called for; the rules of members and of pool entries are in `members` and `pool`.
 
 ghost use Rattle.std.specs.Prelude.{◌≡◌, ◌<◌, ◌≤◌, ◌^◌, ◌⊎◌, ℕ, List, [], length, IfOk, IfErr};
 ghost use Rattle.std.specs.Option.{option_copied};

@@ -1,4 +1,5 @@
-//! The whole export file.
+//! The export file of the package as a tree: of all its classes those that others may name, by token. `class`
+//! and `fields` say what stands there of each; nothing here writes bytes.
 
 ghost use Rattle.std.specs.Prelude.{◌≡◌, ◌++◌, ◌∷◌, [], false, if◌then◌else◌, length, map, nat_lt, IfOk, OnOk};
 ghost use Rattle.cjc_world.specs.Exported.{is_exported};

@@ -1,4 +1,5 @@
-//! The tokens of keys.
+//! Of each key of the pool the token of its virtual method, looked up in the class that the key names. What the
+//! crate is called for.
 
 ghost use Rattle.std.specs.Prelude.{◌≡◌, ◌<◌, Bool, Some, length, map, slice_get, IfOk};
 ghost use Rattle.cjc_classfile.specs.declared.tree.ClassTree.{ClassTree as Tree};

@@ -1,4 +1,5 @@
-//! One entry for each key.
+//! From keys to the entries of ConstantPool, one for each, in the same order, so that an index means the same
+//! before and after. What the crate is called for.
 
 ghost use Rattle.std.specs.Prelude.{◌≡◌, ◌<◌, length, map, IfOk};
 ghost use Rattle.cjc_world.specs.Classes.{all_classes};

@@ -1,4 +1,5 @@
-//! The tokens of a package, and look-up in them.
+//! `Tokens`: what `assigning` has found, kept for look-up in both directions, from a member to its token and
+//! from a virtual token to its method. It assigns none.
 
 ghost use Rattle.std.specs.Prelude.{◌≡◌, ◌<◌, length, position, IfSome};
 ghost use Rattle.cjc_tokens.specs.Tokens.{field_of_token, has_token, method_of_token, package_methods_of, public_methods_of, token_of_class, token_of_member};

@@ -1,4 +1,5 @@
-//! Type tables, and frames as states without a clash.
+//! `TypeTable`, what inference gives to the crates above: the frame before each instruction that is reached,
+//! kept where ways meet.
 
 ghost use Rattle.std.specs.Prelude.{◌≡◌, option_map, IfOk};
 ghost use Rattle.cjc_types.specs.Search.{cells_of as cells_of_stack, frame_of as frame_of_state};
