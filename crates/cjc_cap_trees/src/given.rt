@@ -1,4 +1,5 @@
-//! What is made of a package before its components are put together.
+//! `Given`, what the converter has made of a package before its components are put together: world, tokens,
+//! image, keys and extents. All modules of the crate read it.
 
 use cjc_bytes::Row;
 use cjc_descriptor::Extent;

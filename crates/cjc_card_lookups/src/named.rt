@@ -1,4 +1,5 @@
-//! Names of classes and methods, and what scripts name.
+//! The part of `Tables` that tells the names of classes and finds classes by name. Scripts and reports need
+//! names; instructions do not ask here.
 
 ghost use Rattle.std.specs.Prelude.{◌≡◌, ◌==◌, ℕ, option_map, option_and_then};
 ghost use Rattle.std.specs.Option.{option_copied};

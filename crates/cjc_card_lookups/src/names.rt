@@ -1,4 +1,5 @@
-//! Names of classes, fields and methods, by the order of components.
+//! Names beside components: of each class info, method and field in the order of the components, lent by
+//! whoever made them. A CAP file has none, so they come from class files.
 
 use cjc_bytes::{Bytes, Row};
 

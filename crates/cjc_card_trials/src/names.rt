@@ -1,4 +1,5 @@
-//! The names of what the components have. Called by runs.rt.
+//! The names that the made components lack and a group wants: of classes, methods, fields and cells, written
+//! down for `runs`.
 
 use cjc_bytes::{Bytes, MemberId, NoMemory, Row};
 use cjc_card_lookups::{ClassNames, FieldName, MethodName};

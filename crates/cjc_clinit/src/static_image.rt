@@ -1,4 +1,5 @@
-//! The static image of a package, and the test of rule 308.
+//! The static image of a package from what the initialisers of all its classes put, each field in its group, or
+//! the first of them that breaks rule 308. What the crate is called for.
 
 ghost use Rattle.std.specs.Prelude.{◌≡◌, [], map, slice_get, Some, Ok, IfErr, IfOk, OnOk, option_map};
 ghost use Rattle.cjc_bytes.specs.Breaks.{Break as Broken};

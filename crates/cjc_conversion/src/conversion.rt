@@ -1,4 +1,5 @@
-//! The conversion, and what it promises. It writes nothing.
+//! `convert`, from a list and the bytes of its files to the bytes of all that is to be written, with the
+//! promise that is made of it. It reads no file and writes none.
 
 ghost use Rattle.std.specs.Prelude.{◌≡◌, ◌⊎◌, ◌≤◌, ◌^◌, length, All, IfOk, IfErr};
 ghost use Rattle.cjc_bytes.specs.declared.fault.Fault.TheVariants as faults;

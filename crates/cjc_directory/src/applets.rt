@@ -1,4 +1,5 @@
-//! Applet: the applets of the list with their install methods.
+//! Applet: of each applet line its AID and the offset of its install method, found from the class that the line
+//! names (Java Card Virtual Machine Specification 2.2.2, section 6.5).
 
 ghost use Rattle.std.specs.Prelude.{◌≡◌, codes, map, IfOk};
 ghost use Rattle.cjc_world.specs.Classes.{all_classes};

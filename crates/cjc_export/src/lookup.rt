@@ -1,4 +1,5 @@
-//! Looking up classes and members of a tree. Nothing here takes memory.
+//! Look-up in an export file that is read: a class by name or token, a member by name and descriptor. Nothing
+//! here takes memory.
 
 ghost use Rattle.std.specs.Prelude.{◌≡◌, ◌↔◌, ℕ, List, true, Some, map};
 ghost use Rattle.std.specs.List.{AllByRecursion};

@@ -1,4 +1,5 @@
-//! Public and protected methods. Called by `keys`.
+//! The slot that a class has for a public or protected method, by the nearest of it and its superclasses that
+//! declares it, got it or is imported. Called by `keys`.
 
 ghost use Rattle.std.specs.Prelude.{◌≡◌, ◌<◌, ◌&&◌, Bool, None, Some, length, map, position, slice_get, IfOk};
 ghost use Rattle.cjc_classfile.specs.declared.tree.ClassTree.{ClassTree as Tree};

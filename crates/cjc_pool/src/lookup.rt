@@ -1,4 +1,5 @@
-//! Look-ups of a constant pool, for whoever emits code.
+//! The pool as emitting asks it: the index of what an instruction or a handler names. That it answers by the
+//! keys of `Pool` is all that is here.
 
 ghost use Rattle.std.specs.Prelude.{◌≡◌, position};
 ghost use Rattle.cjc_ncode.specs.PoolOrder.{same_key};

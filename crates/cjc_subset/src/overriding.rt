@@ -1,4 +1,5 @@
-//! Rules 305, 306 and 307: methods and the methods that they inherit.
+//! Rules 305, 306 and 307: visibility and kind that change on the way down, and methods without code, told by a
+//! method beside those of its name and descriptor above it.
 
 ghost use Rattle.std.specs.Prelude.{◌≡◌, ◌&&◌, ◌<◌, false, length, get_or, map, not, option_map, IfOk};
 ghost use Rattle.cjc_world.specs.Classes.{Member, all_classes, declared, imported};

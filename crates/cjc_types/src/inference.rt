@@ -1,4 +1,5 @@
-//! Inference: the least table of a method, or the first rule that it breaks.
+//! `infer`, from a method to its type table, or the first instruction where rule 501, 502 or 503 is broken.
+//! What the crate is called for.
 
 ghost use Rattle.std.specs.Prelude.{◌≡◌, ◌<◌, ◌^◌, length, IfOk, IfErr, IfSome, Ok, Err};
 ghost use Rattle.cjc_world.specs.Classes.{all_classes};

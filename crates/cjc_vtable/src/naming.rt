@@ -1,4 +1,5 @@
-//! The name and the descriptor of a method that a look-up or a token means.
+//! The name and descriptor of a method that a token means, for what is said of dispatch by tables: it selects
+//! as names do.
 
 ghost use Rattle.std.specs.Prelude.{◌≡◌, false, map, option_map, slice_get, IfOk, Some};
 ghost use Rattle.cjc_world.specs.Classes.{all_classes, class_at};
