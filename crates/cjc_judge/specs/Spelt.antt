@@ -1,4 +1,4 @@
--- What the files of a list spell.
+-- Which class files and export files the bytes of a list's files spell, in the order of its lines.
 use Rattle.std.specs.Prelude.{◌≡◌, ℕ, ◌<◌, List, [], ◌∷◌, length, All, true, false}
 use Rattle.cjc_bytes.specs.Format.{FileSpells}
 use Rattle.cjc_bytes.specs.declared.settings.FileLine.{FileLine}
