@@ -1,6 +1,5 @@
-//! Whether a value is of the type that a descriptor says, by the class of the object that a reference means.
-//! Asked of what scripts give; of a call in code only whether numbers and references stand where its types want
-//! them.
+//! Whether a value of a script is of the type that a descriptor says, by the class of its object; of the
+//! arguments of a call in code only whether they are numbers and references where it wants them.
 
 ghost use Rattle.std.specs.Prelude.{◌≡◌, List, None, option_map, map, IfOk};
 ghost use Rattle.cjc_script.specs.declared.report.Thing.{Thing};

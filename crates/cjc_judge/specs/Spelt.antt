@@ -40,7 +40,7 @@ exports_of (of_export tree ∷ trees) = tree ∷ exports_of trees
 
 -- ---- what is given
 
--- Some text of fewer than 2 ^ 32 bytes spells this list.
+-- Some text of fewer than 2^32 bytes spells this list.
 abbrev pub IsRead : ListTree → Type 0
 IsRead list = (text : List ℕ) × (length text < 4294967296) × IsListSpelt list.name list text
 

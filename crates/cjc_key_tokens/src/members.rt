@@ -1,4 +1,5 @@
-//! Tokens of members of the package's classes by their places.
+//! The token of a member that a look-up tells by its place, behind fields and own methods where the class got
+//! it. Called by `hidden` and `shown`.
 
 ghost use Rattle.std.specs.Prelude.{◌≡◌, ◌+◌, Some, false, length, IfOk};
 ghost use Rattle.cjc_bytes.specs.AccessFlags.{is_interface};

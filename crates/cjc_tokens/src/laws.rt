@@ -1,4 +1,4 @@
-//! What holds of tokens, for every caller. Nothing here runs.
+//! What tokens of the interfaces of a package mean, for every caller. Nothing here runs.
 
 ghost use Rattle.std.specs.Prelude.{◌≡◌, ◌<◌, ℕ, Bool, true, slice_get, Some};
 ghost use Rattle.cjc_classfile.specs.declared.tree.ClassTree.{ClassTree};

@@ -1,4 +1,5 @@
-//! The world of a package, and look-up in it. Nothing here takes memory but `new`.
+//! `World`, the package with the export files that it stands on, once its rules are tested, and look-up of
+//! classes, fields and methods in it. Nothing here takes memory but `new`.
 
 ghost use Rattle.std.specs.Prelude.{◌≡◌, ◌<◌, [], ◌++◌, true, false, length, slice_get, option_map, IfSome, IfOk, IfErr, OnOk};
 ghost use Rattle.cjc_world.specs.Classes.{all_classes, class_at, class_named};
