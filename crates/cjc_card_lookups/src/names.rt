@@ -1,5 +1,5 @@
-//! Names beside components: of each class info, method and field in the order of the components, lent by
-//! whoever made them. A CAP file has none, so they come from class files.
+//! Names beside components: of each class info its class, methods and fields, in the order of the components. A
+//! CAP file has no names, so whoever runs one gives them.
 
 use cjc_bytes::{Bytes, Row};
 

@@ -1,5 +1,4 @@
-//! The pool as emitting asks it: the index of what an instruction or a handler names. That it answers by the
-//! keys of `Pool` is all that is here.
+//! `Pool` as emitting asks it: the index of what an instruction or a handler names, by the keys of the pool.
 
 ghost use Rattle.std.specs.Prelude.{◌≡◌, position};
 ghost use Rattle.cjc_ncode.specs.PoolOrder.{same_key};

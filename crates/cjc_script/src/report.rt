@@ -1,5 +1,5 @@
 //! `Report`: the notes of a run in order, its static fields and heap at the end, and how it ended. Both
-//! machines make it, and what they promise is said of it.
+//! machines make one, and it is by reports that they are said to behave alike.
 
 use crate::value::Value;
 use cjc_bytes::{Bytes, MemberId, Row};

@@ -1,5 +1,5 @@
-//! The name and descriptor of a method that a token means, for what is said of dispatch by tables: it selects
-//! as names do.
+//! The names and descriptors of the methods that a row of tokens means, of the package or imported. Called by
+//! `maps`, which finds an interface's methods in a class by them.
 
 ghost use Rattle.std.specs.Prelude.{◌≡◌, false, map, option_map, slice_get, IfOk, Some};
 ghost use Rattle.cjc_world.specs.Classes.{all_classes, class_at};
