@@ -1,5 +1,5 @@
-//! Runs of `check` in memory: the files as they are, or with some bytes of one altered, the text that is
-//! printed, and the exit status.
+//! Runs of `check` in memory: the files as they are or with some bytes altered, the text that is printed, and
+//! the exit status.
 
 use crate::folders::{
     CLASS, Change, DESCRIPTOR, DIRECTORY, EXPORT, FILES, HEADER, IMPORT, LANG, LIST, LOCATIONS,

@@ -1,5 +1,5 @@
-//! A made package in one piece: its list, its class files and export files, and a script. What the crate is
-//! called for.
+//! A made package in one piece: its list, the export file of java/lang and its class files, and a script. What
+//! the crate is called for.
 
 ghost use Rattle.std.specs.Prelude.{◌≡◌, ◌≤◌, ◌++◌, ◌∷◌, [], map, OnOk, IfOk};
 ghost use Rattle.cjc_make.specs.ClassFile.{file_bytes};
