@@ -1,4 +1,5 @@
-//! Acts of a script on the heap.
+//! What a script does to the heap by name between its calls: it makes arrays and objects and puts items into
+//! arrays, each act only where the types allow it. Called when an entry begins or an answer is given.
 
 ghost use Rattle.std.specs.Prelude.{◌≡◌, ◌<◌, ◌+◌, ◌≤◌, ◌≤ℤ◌, ℕ, pos, unsigned_abs, Some, None, true, false, length, slice_set, option_map, IfOk, OnOk, if◌then◌else◌};
 ghost use Rattle.cjc_script.specs.declared.script.Act.TheVariants as acts;

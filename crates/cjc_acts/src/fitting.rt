@@ -1,4 +1,5 @@
-//! Which values are of which types.
+//! Whether a value of a script is of the type that a descriptor says, by the class of its object; of the
+//! arguments of a call in code only whether they are numbers and references where it wants them.
 
 ghost use Rattle.std.specs.Prelude.{◌≡◌, List, None, option_map, map, IfOk};
 ghost use Rattle.cjc_script.specs.declared.report.Thing.{Thing};

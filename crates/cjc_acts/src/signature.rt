@@ -1,4 +1,4 @@
-//! The types of a method, by its descriptor.
+//! The types of a method's parameters and of its result, parsed from its descriptor once for a call.
 
 ghost use Rattle.std.specs.Prelude.{◌≡◌, ◌≤◌, map, length, option_map, IfOk};
 ghost use Rattle.cjc_script.specs.Sorts.{sort_of, signature_of, result_by};

@@ -1,4 +1,5 @@
-//! The type of a value.
+//! Types as descriptors say them: of numbers, of references by the class or the array, or of no value; and what
+//! each holds at first. It asks no look-up and no heap.
 
 ghost use Rattle.std.specs.Prelude.{◌≡◌, ◌≤◌, length, option_map, IfOk};
 ghost use Rattle.cjc_bytes.specs.Descriptor.{part_at};

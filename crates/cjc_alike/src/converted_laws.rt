@@ -1,5 +1,5 @@
-//! That the components of a converted package are consistent with the export files that it imports, from what is left to
-//! show of it. For whoever converts a package. Nothing here runs.
+//! That the components of a converted package are consistent with the export files that it imports, from what
+//! is left to show of it. For whoever converts a package. Nothing here runs.
 
 ghost use Rattle.std.specs.Prelude.{ℕ, List};
 ghost use Rattle.cjc_component_laws.specs.Whole.{exports_of};

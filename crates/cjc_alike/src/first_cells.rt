@@ -1,5 +1,5 @@
-//! What the static cells of a converted package hold at first is what cells of their types hold. For whoever shows that its
-//! components run as its narrow code. It has one law; nothing here runs.
+//! What the static cells of a converted package hold at first is what cells of their types hold. For whoever
+//! shows that its components run as its narrow code. It has one law; nothing here runs.
 
 ghost use Rattle.std.specs.Prelude.{◌≡◌, ℕ, List, true};
 ghost use Rattle.cjc_by_token.specs.Cells.{are_cells};
@@ -18,10 +18,10 @@ ghost use Rattle.cjc_written_laws.specs.Converted.{IsConverted};
 use cjc_tables_by_token::static_fields_are_told;
 use cjc_written_laws::converted_files_are_sound;
 
-/// The static cells with which narrow code begins are those of the static fields in their order, each with a value that its
-/// cell can hold: an array or null, or a number of its field's type. So it is where the static image is what the initialisers
-/// make, of which each class has one, its numbers are of the types of their fields, and these are types that values have; and
-/// so in each converted package.
+/// The static cells with which narrow code begins are those of the static fields in their order, each with a
+/// value that its cell can hold: an array or null, or a number of its field's type. So it is where the static
+/// image is what the initialisers make, of which each class has one, its numbers are of the types of their
+/// fields, and these are types that values have; and so in each converted package.
 pub fn first_cells_are_typed()
     ensures image { (list : List ℕ) (p : Package) (codes : List MethodCode) → IsSound list p.files → AreTyped p.files → IsImage p.files codes p.image → StandOnce p.files codes → AreFit p.image
         → are_cells (statics_of (let files = p.files in files.classes)) (let memory = first_memory p.files p.image in memory.statics) ≡ true }

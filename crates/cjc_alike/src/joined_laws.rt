@@ -1,6 +1,6 @@
-//! That the components of a converted package run by token as its narrow code runs by name, from what is asked of its export
-//! files. For whoever promises that what was converted behaves as its class files. It has a definition and laws alone; nothing
-//! here runs.
+//! That the components of a converted package run by token as its narrow code runs by name, from what is asked
+//! of its export files. For whoever promises that what was converted behaves as its class files. It has a
+//! definition and laws alone; nothing here runs.
 
 ghost use Rattle.std.specs.Prelude.{◌≡◌, ◌≢◌, ℕ, List};
 ghost use Rattle.cjc_card.specs.ByToken.{run as run_by_token};
@@ -33,8 +33,8 @@ use cjc_written_sends::{
     sent_methods_begin_alike,
 };
 
-/// A converted package has all that joins its narrow code to its components, where the calls that are known are those that its code
-/// makes.
+/// A converted package has all that joins its narrow code to its components, where the calls that are known are
+/// those that its code makes.
 pub fn converted_packages_are_joined()
     ensures { (list : ListTree) (files : List (List ℕ)) (judged : Judged) (p : Package)
         → IsConverted list files judged p → AreLeft p → IsJoined p (is_called p) }
@@ -58,8 +58,8 @@ pub fn converted_packages_are_joined()
     sent_methods_begin_alike();
 }
 
-/// So its components, run by token, give the report of its narrow code, run by name, for every script and every number of
-/// instructions where narrow code is not stuck.
+/// So its components, run by token, give the report of its narrow code, run by name, for every script and every
+/// number of instructions where narrow code is not stuck.
 pub fn converted_components_run_by_token()
     ensures { (list : ListTree) (files : List (List ℕ)) (judged : Judged) (p : Package)
         → IsConverted list files judged p → AreLeft p → (script : Script) (n : ℕ)

@@ -1,5 +1,5 @@
-//! That the class files of a converted package, run by name, and its components, run by token, behave alike. For whoever
-//! promises so of what was converted. It has a definition and laws alone; nothing here runs.
+//! That the class files of a converted package, run by name, and its components, run by token, behave alike.
+//! For whoever promises so of what was converted. It has a definition and laws alone; nothing here runs.
 #![tactic(auto)]
 
 mod call_opcodes;
@@ -44,8 +44,9 @@ pub use named_calls::calls_are_named;
 pub use named_laws::{export_files_are_kept, fixed_calls_are_named, names_are_there};
 pub use virtual_calls::{super_calls_are_named, virtual_calls_are_named};
 
-/// Of a list that was read, and files that break no rule, nor does what is written for them, with export files that are fair:
-/// the class files and the components of their package behave alike, and the components are consistent with the export files.
+/// Of a list that was read, and files that break no rule, nor does what is written for them, with export files
+/// that are fair: the class files and the components of their package behave alike, and the components are
+/// consistent with the export files.
 pub fn converted_packages_behave_alike()
     ensures alike { (list : ListTree) (files : List (List ℕ)) (judged : Judged) → IsRead list → IsSound list files judged
         → (p : Package) → IsPackageOf list files p → limit_breaks p ≡ [] → (let world = p.files in ExportsAreFair world.exports)

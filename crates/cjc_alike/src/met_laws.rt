@@ -58,10 +58,10 @@ pub fn types_are_known()
     calls_have_opcodes();
 }
 
-/// Each key of its pool names what is there: a class; a field of the package, static ones with their cells; a static
-/// method, a constructor or a private method, of the package or of an imported class, by the class that declares it;
-/// or a virtual method that calls can name, those of a superclass where the classes of export files implement interfaces
-/// by public or protected methods.
+/// Each key of its pool names what is there: a class; a field of the package, static ones with their cells; a
+/// static method, a constructor or a private method, of the package or of an imported class, by the class that
+/// declares it; or a virtual method that calls can name, those of a superclass where the classes of export
+/// files implement interfaces by public or protected methods.
 pub fn members_are_there()
     ensures { (list : ListTree) (files : List (List ℕ)) (judged : Judged) (p : Package)
         → IsConverted list files judged p → ExportsImplement (world p) → AllAreThere p }

@@ -1,6 +1,7 @@
-//! That the calls of virtual methods in the code of a converted package, by invokevirtual and by invokespecial on what its superclass
-//! has, are ones that can be named, and which words they take. For whoever promises that each call reaches by token what it reaches
-//! by name. It has a definition and laws alone, and knows no static, private or interface call; nothing here runs.
+//! That the calls of virtual methods in the code of a converted package, by invokevirtual and by invokespecial
+//! on what its superclass has, are ones that can be named, and which words they take. For whoever promises that
+//! each call reaches by token what it reaches by name. It has a definition and laws alone, and knows no static,
+//! private or interface call; nothing here runs.
 
 ghost use Rattle.std.specs.Prelude.{◌≡◌, ℕ, List, Some, false};
 ghost use Rattle.cjc_bytes.specs.AccessFlags.{is_interface, is_private};
@@ -26,9 +27,9 @@ use cjc_vtable::package_laws;
 use cjc_world::lookup_laws;
 use cjc_written_laws::{converted_classes_keep_rules, converted_files_are_sound};
 
-/// What an invokevirtual calls is a virtual method of a class, by the class that code names where it is of the package, and by the one
-/// that declares the method otherwise: a public or protected one, a package-visible one, or one that an abstract class got from an
-/// interface. It takes the words of its descriptor.
+/// What an invokevirtual calls is a virtual method of a class, by the class that code names where it is of the
+/// package, and by the one that declares the method otherwise: a public or protected one, a package-visible
+/// one, or one that an abstract class got from an interface. It takes the words of its descriptor.
 pub fn virtual_calls_are_named()
     ensures named { (list : ListTree) (files : List (List ℕ)) (judged : Judged) (p : Package)
         → IsConverted list files judged p → (class : ClassTree) (id : Member)
@@ -48,9 +49,9 @@ pub fn virtual_calls_are_named()
     package_laws();
 }
 
-/// What an invokespecial in a class calls, where it is neither a constructor nor private, is a virtual method that the superclass and
-/// the class have by one token, where the classes of export files implement interfaces by public or protected methods. It takes the
-/// words of its descriptor.
+/// What an invokespecial in a class calls, where it is neither a constructor nor private, is a virtual method
+/// that the superclass and the class have by one token, where the classes of export files implement interfaces
+/// by public or protected methods. It takes the words of its descriptor.
 pub fn super_calls_are_named()
     ensures named { (list : ListTree) (files : List (List ℕ)) (judged : Judged) (p : Package)
         → IsConverted list files judged p → ExportsImplement (world p) → (class : ClassTree) (id : Member)

@@ -51,8 +51,9 @@ pub fn calculations_run()
     ensures ints { of_t (codes "ints") (codes "(I)I") (Num (pos 70000) ∷ []) [] ≡ ends (Result (Some (Num (pos 70000))) ∷ []) (things.Array (codes "[I") (Num (pos 0) ∷ Num (pos 70000) ∷ []) ∷ []) Done 9 }
 {}
 
-/// Calls of all kinds: an imported one that waits, is unfit, is answered and throws; on a subclass, of a superclass, of an
-/// interface, and one that reaches an imported class; constructors, fields, and numbers that a put keeps.
+/// Calls of all kinds: an imported one that waits, is unfit, is answered and throws; on a subclass, of a
+/// superclass, of an interface, and one that reaches an imported class; constructors, fields, and numbers that
+/// a put keeps.
 pub fn calls_run()
     ensures waits { of_t (codes "ext") (codes "(S)S") (Num (pos 7) ∷ []) [] ≡ ends (Event (id (codes "lib/L") (codes "inc") (codes "(S)S")) (Num (pos 7) ∷ []) ∷ []) [] Waiting 2 }
     ensures answered { of_t (codes "ext") (codes "(S)S") (Num (pos 7) ∷ []) (answer (Give (Some (Num (pos 9)))) ∷ []) ≡ ends (Event (id (codes "lib/L") (codes "inc") (codes "(S)S")) (Num (pos 7) ∷ []) ∷ Result (Some (Num (pos 9))) ∷ []) [] Done 3 }
@@ -83,25 +84,26 @@ pub fn statics_run()
     ensures next { run r r_image (script (call (codes "r/S") (codes "next") (codes "()S") [] ∷ []) []) 100 ≡ record { notes = (Result (Some (Num (pos 12))) ∷ []); statics = cell (codes "n") (codes "Ljava/lang/Object;") Null ∷ cell (codes "k") (codes "S") (Num (pos 12)) ∷ cell (codes "a") (codes "[B") (Obj 0) ∷ cell (codes "z") (codes "I") (Num (pos 0)) ∷ []; heap = things.Array (codes "[B") (Num (pos 1) ∷ Num (negsuc 0) ∷ []) ∷ []; outcome = Done; spent = 6 } }
 {}
 
-/// A package over another: a static call, constructors across both, and a package-visible method that the other package's
-/// does not override; alone, the upper one makes events of its calls.
+/// A package over another: a static call, constructors across both, and a package-visible method that the other
+/// package's does not override; alone, the upper one makes events of its calls.
 pub fn packages_run_together()
     ensures across { run_group both (script (call (codes "app/M") (codes "f") (codes "(S)S") (Num (pos 32767) ∷ []) ∷ []) []) 100 ≡ ends (Result (Some (Num (negsuc 32767))) ∷ []) [] Done 8 }
     ensures not_overridden { run_group both (script (call (codes "app/M") (codes "make") (codes "()Lapp/M;") [] ∷ send (codes "lib/L") (codes "w") (codes "()S") (Obj 0 ∷ []) ∷ send (codes "app/M") (codes "v") (codes "()S") (Obj 0 ∷ []) ∷ send (codes "lib/L") (codes "v") (codes "()S") (Obj 0 ∷ []) ∷ []) []) 100 ≡ ends (Result (Some (Obj 0)) ∷ Result (Some (Num (pos 1))) ∷ Result (Some (Num (pos 2))) ∷ Result (Some (Num (pos 1))) ∷ []) (bare (codes "app/M") ∷ []) Done 19 }
     ensures alone { run app_package no_image (script (call (codes "app/M") (codes "f") (codes "(S)S") (Num (pos 32767) ∷ []) ∷ []) []) 100 ≡ ends (Event (id (codes "lib/L") (codes "inc") (codes "(S)S")) (Num (pos 32767) ∷ []) ∷ []) [] Waiting 2 }
 {}
 
-/// The wallet: it is installed, credited and debited, and a debit beyond its balance is refused. Its run is the same with more
-/// instructions than it needs, and cut off with one less.
+/// The wallet: it is installed, credited and debited, and a debit beyond its balance is refused. Its run is the
+/// same with more instructions than it needs, and cut off with one less.
 pub fn wallet_runs()
     ensures whole { run wallet_package no_image wallet_script 10000 ≡ wallet_report }
     ensures to_the_last { run wallet_package no_image wallet_script 65 ≡ wallet_report }
     ensures cut_off { (run wallet_package no_image wallet_script 64).outcome ≡ Running }
 {}
 
-/// Where the machine is stuck, and where it raises: an exception, a result and an answer without room, an argument of another
-/// sort, a member that is nowhere before its receiver is null, a receiver of another class, types of arrays, an array that is
-/// thrown, abstract methods, a local that is not set, and the other exceptions of the machine's own.
+/// Where the machine is stuck, and where it raises: an exception, a result and an answer without room, an
+/// argument of another sort, a member that is nowhere before its receiver is null, a receiver of another class,
+/// types of arrays, an array that is thrown, abstract methods, a local that is not set, and the other
+/// exceptions of the machine's own.
 pub fn ends_are_met()
     ensures no_room_for_exception { of_t (codes "noroom") (codes "()V") [] [] ≡ ends [] (bare (codes "java/lang/ArithmeticException") ∷ []) (Stuck 2) 3 }
     ensures no_room_for_result { of_t (codes "full") (codes "()V") [] [] ≡ ends [] [] (Stuck 1) 2 }
@@ -200,9 +202,10 @@ pub fn rows_give_their_results()
     ensures field_nowhere { (l : Linked) (m : Method) (at : ℕ) (locals : List (Option Value)) (store : Store) (id : MemberId) (stack : List Value) → l.field (holder l m at locals store) id ≡ None → effect l m at locals store (jop.Field false id) stack ≡ Stick }
 {}
 
-/// For every record of look-ups: what a call, a return and an exception meet. A member that is nowhere is stuck whatever its
-/// receiver, and so are operands of other sorts, an abstract method, and a result or exception without room; an exception
-/// of the machine's own is made before it is caught, and an imported call is noted before it waits.
+/// For every record of look-ups: what a call, a return and an exception meet. A member that is nowhere is stuck
+/// whatever its receiver, and so are operands of other sorts, an abstract method, and a result or exception
+/// without room; an exception of the machine's own is made before it is caught, and an imported call is noted
+/// before it waits.
 pub fn calls_and_exceptions_end()
     ensures nowhere { (l : Linked) (op : ℕ) (id : MemberId) (f : Frame) (outer : List Frame) (s : State) → l.call (holder_of f) op id ≡ None → after_effect l (Invoke op id) f outer s ≡ stuck_at (offset f) s }
     ensures other_sorts { (l : Linked) (call : Call) (types : Signature) (f : Frame) (outer : List Frame) (s : State) → are_of_sorts types.params (reverse (take (length types.params) f.stack)) ≡ false → with_types l call (Some types) f outer s ≡ stuck_at (offset f) s }

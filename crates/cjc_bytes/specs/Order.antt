@@ -7,7 +7,7 @@ use Rattle.cjc_bytes.specs.declared.order.GroupKey.TheVariants as groups
 use Rattle.cjc_bytes.specs.declared.settings.FileLine.{FileLine}
 
 -- The number by which files are compared: the list, then the files of its lines, the components by their tags, the
--- script. A list has fewer than 2 ^ 64 lines, and tags begin with 1.
+-- script. A list has fewer than 2^64 lines, and tags begin with 1.
 abbrev pub file_number : FileKey → ℕ
 file_number keys.List = 0
 file_number (keys.Line i) = i + 1
@@ -15,7 +15,7 @@ file_number (keys.Component tag) = 2 ^ 64 + tag
 file_number keys.Script = 2 ^ 64 + 256
 
 -- Of several packages: the file that names them, then package by package, then the script. No file of a package has a
--- number of 2 ^ 65 or more, and no package an index of 256 or more.
+-- number of 2^65 or more, and no package an index of 256 or more.
 abbrev pub group_number : GroupKey → ℕ
 group_number groups.Group = 0
 group_number (groups.Of p file) = (p + 1) * 2 ^ 65 + file_number file

@@ -1,4 +1,5 @@
-//! Bytes that are written one after the other, numbers big-endian.
+//! How files are written: bytes at the end of what is there, numbers big-endian. Every writer of a format uses
+//! it.
 
 ghost use Rattle.std.specs.Prelude.{◌≡◌, ℕ, [], ◌∷◌, ◌++◌, OnOk, OnErr};
 ghost use Rattle.std.specs.Int.{w16, w32, to_be_bytes};

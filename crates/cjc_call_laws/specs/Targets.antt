@@ -1,4 +1,4 @@
--- The methods that calls reach.
+-- Which methods calls and scripts can reach, and of which classes receivers are.
 use Rattle.std.specs.Prelude.{◌≡◌, ◌⊎◌, List, ℕ, true, false, Some}
 use Rattle.cjc_bytes.specs.AccessFlags.{is_abstract, is_interface, is_static}
 use Rattle.cjc_bytes.specs.declared.fault.MemberId.{MemberId}

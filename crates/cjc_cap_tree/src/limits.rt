@@ -1,5 +1,5 @@
-//! Limits on the sizes of components, rules 411 and 416. Method is counted as if each of its instructions had its greatest
-//! size, so that the limit says nothing of how jumps are laid out.
+//! Limits on the sizes of components, rules 411 and 416. Method is counted as if each of its instructions had
+//! its greatest size, so that the limit says nothing of how jumps are laid out.
 
 ghost use Rattle.std.specs.Prelude.{◌≡◌, ◌+◌, sum_by, option_map, IfOk};
 ghost use Rattle.cjc_bytes.specs.Breaks.{IsFirstOf};

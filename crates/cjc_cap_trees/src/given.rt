@@ -1,4 +1,5 @@
-//! What is made of a package before its components are put together.
+//! `Given`, what the converter has made of a package before its components are put together: world, tokens,
+//! image, keys and extents. All modules of the crate read it.
 
 use cjc_bytes::Row;
 use cjc_descriptor::Extent;
@@ -21,7 +22,7 @@ pub struct Given<'a> {
     pub keys: &'a [PoolKey],
     /// By the number of a key the token of its virtual method, 0 where it is of none.
     pub key_tokens: &'a [u8],
-    /// By the number of a class and of its member where a method stands in Method. Fields are counted first, then methods,
-    /// then those that the class got.
+    /// By the number of a class and of its member where a method stands in Method. Fields are counted first,
+    /// then methods, then those that the class got.
     pub extents: &'a [Row<Extent>],
 }

@@ -1,4 +1,5 @@
-//! The class_refs of a package's classes by their numbers.
+//! The class_refs of the package's classes as a row, so that a class is found by its number and not by its
+//! name. Called by `names`.
 
 ghost use Rattle.std.specs.Prelude.{◌≡◌, map, IfOk};
 ghost use Rattle.cjc_class_info.specs.Refs.{ref_of};

@@ -1,4 +1,5 @@
-//! The numbers of a package's classes in the order of Class and Descriptor.
+//! The numbers of a package's classes as Class and Descriptor have them: interfaces first, then classes in the
+//! order that is given.
 
 ghost use Rattle.std.specs.Prelude.{◌≡◌, ◌++◌, map, Some, IfOk, OnOk};
 ghost use Rattle.cjc_methods.specs.Ready.{AreOrdered};

@@ -1,4 +1,5 @@
-//! The sizes of the components, as Directory has them.
+//! The size of each component that is in the tree, as Directory is to have them; one that is absent has the
+//! size 0. Called by `tree`, which makes Directory last.
 
 ghost use Rattle.std.specs.Prelude.{◌≡◌, length, map, IfOk};
 ghost use Rattle.cjc_capwrite.specs.Size.{info_of};

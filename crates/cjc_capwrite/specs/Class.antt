@@ -1,4 +1,5 @@
--- The bytes of Class.
+-- The component Class as bytes (Java Card Virtual Machine Specification 2.2.2, section 6.8): what the writer is
+-- proved to write.
 use Rattle.std.specs.Prelude.{ℕ, ◌+◌, ◌*◌, ◌%◌, List, [], ◌∷◌, ◌++◌, length}
 use Rattle.std.specs.List.{flat_map}
 use Rattle.cjc_capread.specs.declared.tree.ClassInfo.{ClassInfo}

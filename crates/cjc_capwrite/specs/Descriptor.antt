@@ -1,4 +1,5 @@
--- The bytes of Descriptor.
+-- The component Descriptor as bytes (Java Card Virtual Machine Specification 2.2.2, section 6.13): what the
+-- writer is proved to write.
 use Rattle.std.specs.Prelude.{ℕ, List, [], ◌∷◌, ◌++◌, length, Option, Some, None}
 use Rattle.std.specs.List.{flat_map}
 use Rattle.cjc_capread.specs.declared.tree.Descriptor.{Descriptor}

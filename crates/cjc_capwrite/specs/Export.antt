@@ -1,4 +1,5 @@
--- The bytes of Export.
+-- The component Export as bytes (Java Card Virtual Machine Specification 2.2.2, section 6.12): what the writer
+-- is proved to write.
 use Rattle.std.specs.Prelude.{ℕ, List, ◌++◌, length}
 use Rattle.std.specs.List.{flat_map}
 use Rattle.cjc_capread.specs.declared.tree.Export.{Export}

@@ -1,4 +1,5 @@
--- The bytes of Method.
+-- The component Method as bytes (Java Card Virtual Machine Specification 2.2.2, section 6.9): what the writer
+-- is proved to write.
 use Rattle.std.specs.Prelude.{ℕ, ◌+◌, ◌%◌, List, ◌++◌, length, if◌then◌else◌}
 use Rattle.std.specs.List.{flat_map}
 use Rattle.cjc_capread.specs.declared.tree.Method.{Method}

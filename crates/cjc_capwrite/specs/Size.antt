@@ -1,4 +1,4 @@
--- The size item of each component.
+-- The size item of each component, by which Directory is written and limits are tested.
 use Rattle.std.specs.Prelude.{ℕ, ◌-◌, ◌^◌, List, [], min, ◌==◌, if◌then◌else◌}
 use Rattle.cjc_capread.specs.declared.tree.CapTree.{CapTree}
 use Rattle.cjc_capwrite.specs.Files.{infos_of}

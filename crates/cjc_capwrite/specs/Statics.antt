@@ -1,4 +1,5 @@
--- The bytes of StaticField and ReferenceLocation.
+-- The components StaticField and ReferenceLocation as bytes (Java Card Virtual Machine Specification 2.2.2,
+-- sections 6.10 and 6.11): what the writer is proved to write.
 use Rattle.std.specs.Prelude.{ℕ, List, [], ◌∷◌, ◌++◌, length}
 use Rattle.std.specs.List.{flat_map}
 use Rattle.cjc_capread.specs.declared.tree.StaticField.{StaticField}

@@ -1,5 +1,5 @@
-//! The bytes of Class: interfaces, then classes (Java Card Virtual Machine Specification 2.2.2, 6.8). Called by `files`.
-//! It tests no limit.
+//! The bytes of Class: interfaces, then classes (Java Card Virtual Machine Specification 2.2.2, 6.8). Called by
+//! `files`. It tests no limit.
 
 ghost use Rattle.std.specs.Prelude.{◌≡◌, ◌++◌, length, OnOk};
 ghost use Rattle.std.specs.List.{flat_map};

@@ -1,5 +1,5 @@
-//! The bytes of Descriptor: classes with their members, and all types (6.13). Called by `files`. A count that has no room
-//! is cut to its low bytes; `limits` tests it before.
+//! The bytes of Descriptor: classes with their members, and all types (6.13). Called by `files`. A count that
+//! has no room is cut to its low bytes; `limits` tests it before.
 
 ghost use Rattle.std.specs.Prelude.{◌≡◌, ◌++◌, IfOk, OnOk, None};
 ghost use Rattle.std.specs.List.{flat_map};

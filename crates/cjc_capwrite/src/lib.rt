@@ -1,5 +1,5 @@
-//! Component trees as the files of a CAP file, their sizes, and the limits that a tree breaks. It knows nothing of how a
-//! tree was made.
+//! Component trees as the files of a CAP file, their sizes, and the limits that a tree breaks. It knows nothing
+//! of how a tree was made.
 #![tactic(auto)]
 
 mod class;

@@ -1,5 +1,5 @@
-//! The bytes of Header, Directory, Applet and Import (6.3 to 6.6). Called by `files`. Directory is written as it is told,
-//! and counts nothing itself.
+//! The bytes of Header, Directory, Applet and Import (6.3 to 6.6). Called by `files`. Directory is written as
+//! it is told, and counts nothing itself.
 
 ghost use Rattle.std.specs.Prelude.{◌≡◌, ◌++◌, OnOk};
 ghost use Rattle.std.specs.List.{flat_map};

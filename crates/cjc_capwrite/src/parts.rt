@@ -1,5 +1,5 @@
-//! What several components share: numbers in their low bytes, lists behind their count, references to classes and static
-//! members (6.1, 6.7.3). Called by the module of each component, of which it knows none.
+//! What several components share: numbers in their low bytes, lists behind their count, references to classes
+//! and static members (6.1, 6.7.3). Called by the module of each component, of which it knows none.
 
 ghost use Rattle.std.specs.Prelude.{◌≡◌, ◌++◌, length, OnOk};
 ghost use Rattle.std.specs.List.{flat_map};

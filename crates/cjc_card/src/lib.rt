@@ -62,9 +62,10 @@ pub fn ints_run()
 {}
 
 /// Where the machine is stuck, and where it is not: an exception that a handler without room takes, a return
-/// without room, an answer without room, locals by the header alone, an imported call's word of another kind and a call inside that carries any word, a member that
-/// is nowhere before its receiver is null, flags of a header, locals that are not set, slots by Class, types
-/// of arrays, an array that is thrown, an abstract method, and the package-visible number 127.
+/// without room, an answer without room, locals by the header alone, an imported call's word of another kind
+/// and a call inside that carries any word, a member that is nowhere before its receiver is null, flags of a
+/// header, locals that are not set, slots by Class, types of arrays, an array that is thrown, an abstract
+/// method, and the package-visible number 127.
 pub fn ends_are_met()
     ensures no_room_for_exception { run at_ends (script (call (codes "k/T") (codes "x") (codes "()V") ([]) ∷ []) ([])) 100 ≡ ends ([]) (bare (codes "java/lang/ArithmeticException") ∷ []) (Stuck 21) 3 }
     ensures no_room_for_result { run at_ends (script (call (codes "k/T") (codes "r") (codes "()V") ([]) ∷ []) ([])) 100 ≡ ends ([]) ([]) (Stuck 38) 2 }

@@ -1,4 +1,5 @@
--- States of the machine by token.
+-- The types of the machine by token under short names: settings, frames, states and turns, as contracts of
+-- running code say them.
 use Rattle.std.specs.Prelude.{List}
 use Rattle.cjc_bytecode.specs.Effects.{HeapObject}
 use Rattle.cjc_bytecode.specs.Machine.{Setting, State, Turn}

@@ -1,4 +1,5 @@
-//! Acts of a script on the heap.
+//! What a script does to the heap by token between its calls: it makes arrays and objects and puts items into
+//! arrays, each act only where the types allow it. Called when an entry begins or an answer is given.
 
 ghost use Rattle.std.specs.Prelude.{◌≡◌, ◌≤◌, ◌+◌, ℕ, Some, length, option_and_then, pos, slice_get, IfOk, OnOk, if◌then◌else◌};
 ghost use Rattle.cjc_script.specs.declared.report.Outcome.TheVariants.{Unfit};

@@ -1,4 +1,4 @@
-//! How fields are read, by their descriptors, and what they hold at first.
+//! By a field's descriptor the letter with which it is read, and what it holds at first: 0, or null.
 
 ghost use Rattle.std.specs.Prelude.{◌≡◌, option_map, IfOk};
 ghost use Rattle.cjc_script.specs.Sorts.{Sort, field_sort, sort_by, zero_of};

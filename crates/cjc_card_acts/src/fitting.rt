@@ -1,4 +1,5 @@
-//! Which values are of which types.
+//! Whether a value of a script is of the type that a descriptor says, on the heap by token: of a number its
+//! range, of a reference the class of its object. Never asked of code.
 
 ghost use Rattle.std.specs.Prelude.{◌≡◌, ℕ, List, Bool, map, option_map};
 ghost use Rattle.cjc_script.specs.declared.value.Value.TheVariants.{Num};

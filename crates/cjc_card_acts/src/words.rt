@@ -1,4 +1,5 @@
-//! The words of values, and the values of words.
+//! Between values of scripts and words of frames: an int is two words, any other value one. Calls and answers
+//! come in by it, and events go out.
 
 ghost use Rattle.std.specs.Prelude.{◌≡◌, ◌≤◌, ◌∷◌, ◌++◌, List, None, Some, true, length, drop, map, option_map, IfOk, IfSome, OnOk, if◌then◌else◌};
 ghost use Rattle.std.specs.List.{All};

@@ -1,4 +1,4 @@
--- What a token or a name selects.
+-- What a call selects as the code tells it, and the selection of the definitions that this is.
 use Rattle.cjc_card.specs.Dispatch.{Selection}
 use Rattle.cjc_card.specs.Dispatch
 use Rattle.cjc_card_calls.specs.declared.found.Found.{Found}

@@ -1,4 +1,5 @@
-//! What a token or a name selects.
+//! What a virtual or interface call selects by token, or a script's call by name: a method of the package by
+//! its offset, an imported one by its entry in the export file, or none.
 
 use cjc_card_parts::ImportedMethod;
 

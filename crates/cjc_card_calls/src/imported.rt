@@ -1,4 +1,5 @@
-//! Methods of imported classes, as their export files list them.
+//! Calls that reach imported classes: the method of a token that the nearest class upwards lists in its export
+//! file. Its code is not there, so a script answers for it.
 
 ghost use Rattle.std.specs.Prelude.{◌≡◌, ◌==◌, ◌&&◌};
 ghost use Rattle.std.specs.Option.{option_copied};

@@ -1,5 +1,5 @@
-//! What calls reach, and how many words they take: methods of the package by its tables, and methods of imported classes as
-//! export files list them. Called by who runs components; it knows no frame that runs.
+//! What calls reach, and how many words they take: methods of the package by its tables, and methods of
+//! imported classes as export files list them. Called by who runs components; it knows no frame that runs.
 #![tactic(auto)]
 
 mod arguments;

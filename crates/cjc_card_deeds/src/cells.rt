@@ -1,4 +1,5 @@
-//! Static cells: getstatic and putstatic.
+//! getstatic and putstatic on the image of the field's package, where the field's offset and letter are known
+//! already.
 
 ghost use Rattle.std.specs.Prelude.{ℕ, IfOk};
 ghost use Rattle.cjc_bytecode.specs.Effects.{GetStatic, PutStatic, effect};

@@ -1,4 +1,5 @@
-//! What an instruction asks of the machine.
+//! What an instruction by token leaves to others, beside what it has changed in words and memory: go on, raise,
+//! throw, call or return. Whoever runs instructions does it.
 
 ghost use Rattle.std.specs.Prelude.{◌≡◌, ℕ};
 ghost use Rattle.cjc_card_frame.specs.Frames.{Words};

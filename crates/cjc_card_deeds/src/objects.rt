@@ -1,4 +1,5 @@
-//! new, newarray and anewarray.
+//! new, newarray and anewarray: what is made on the heap, and its number on the stack in place of what was
+//! taken. A negative length raises.
 
 ghost use Rattle.std.specs.Prelude.{◌≡◌, ◌+◌, ◌<◌, ◌≤◌, ◌^◌, drop, length, IfOk, OnOk};
 ghost use Rattle.cjc_bytecode.specs.Effects.{New, NewNumbers, NewReferences, effect, made};

@@ -71,8 +71,8 @@ fn put_if_word<'a>(
     }
 }
 
-/// A number of a letter in the place of so many words on top of the stack, where it is of the letter's kind and there is
-/// room.
+/// A number of a letter in the place of so many words on top of the stack, where it is of the letter's kind and
+/// there is room.
 fn put_number<'a>(
     cells: &mut Cells,
     room: usize,
@@ -91,8 +91,8 @@ fn put_number<'a>(
     }
 }
 
-/// A reference of a letter in the place of so many words on top of the stack, where it is of the letter's kind and there is
-/// room.
+/// A reference of a letter in the place of so many words on top of the stack, where it is of the letter's kind
+/// and there is room.
 fn put_reference<'a>(
     cells: &mut Cells,
     room: usize,
@@ -131,8 +131,8 @@ pub(crate) fn put_value<'a>(
     }
 }
 
-/// Whatever an array of references holds, in the place of so many words on top of the stack, where there is room. No memory
-/// is there for a number that no word holds.
+/// Whatever an array of references holds, in the place of so many words on top of the stack, where there is
+/// room. No memory is there for a number that no word holds.
 pub(crate) fn put_any<'a>(
     cells: &mut Cells,
     room: usize,

@@ -1,4 +1,5 @@
-//! checkcast, instanceof, athrow and returns.
+//! checkcast and instanceof by what look-ups answer of types, athrow, and the returns: areturn, sreturn,
+//! ireturn and return.
 
 ghost use Rattle.std.specs.Prelude.{◌≡◌, ℕ, Some, option_map, slice_get, IfOk};
 ghost use Rattle.cjc_bytecode.specs.Effects.{Ask, Cast, Return, Throw, effect, shape, touched};

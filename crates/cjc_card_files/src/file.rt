@@ -1,4 +1,5 @@
-//! What stands above the classes of one export file.
+//! What is kept for one export file: under the token of each class the class and what stands above it. Called
+//! by `files`.
 
 ghost use Rattle.std.specs.Prelude.{◌≡◌, ◌==◌, ℕ, [], Some, None, OnOk, if◌then◌else◌};
 ghost use Rattle.cjc_card.specs.Classes.{or_else};

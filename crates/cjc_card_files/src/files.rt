@@ -1,4 +1,5 @@
-//! Of each imported class what stands above it, found at once.
+//! `Files`: of each imported class it and what stands above it, by the number of its export file and its token.
+//! Dispatch on objects of imported classes asks it.
 
 ghost use Rattle.std.specs.Prelude.{◌≡◌, ◌+◌, ◌==◌, ℕ, Some, None, if◌then◌else◌, IfOk, OnOk};
 ghost use Rattle.cjc_card.specs.Classes.{or_else, with_token};

@@ -1,5 +1,5 @@
-//! What stands above each imported class, as export files list it, kept once for all. Called by who dispatches on objects
-//! of imported classes; it knows no component and no frame that runs.
+//! What stands above each imported class, as export files list it, kept once for all. Called by who dispatches
+//! on objects of imported classes; it knows no component and no frame that runs.
 #![tactic(auto)]
 
 mod file;

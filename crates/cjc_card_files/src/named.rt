@@ -1,4 +1,5 @@
-//! The classes of export files by their names, each found at once.
+//! The classes of all export files by name, in one map, for the walks upwards that follow listed names. Called
+//! by `files` and `upwards`.
 
 ghost use Rattle.std.specs.Prelude.{◌≡◌, ℕ, List, Some, None, IfOk, OnOk, if◌then◌else◌};
 ghost use Rattle.std.specs.Option.{option_copied};

@@ -1,4 +1,5 @@
-//! Conditions of jumps: of a number, of two, of a reference, of two.
+//! The conditions of jumps, ifeq to if_acmpne: operands are taken and compared. Where a jump leads is not known
+//! here.
 
 ghost use Rattle.std.specs.Prelude.{◌≡◌};
 ghost use Rattle.cjc_bytecode.specs.Calculations.{if_null, if_number, if_numbers, if_same};

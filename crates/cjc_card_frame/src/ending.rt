@@ -1,4 +1,5 @@
-//! How an instruction that sees a frame's words alone ends.
+//! How an instruction that sees words alone ends: well, by an exception of the machine's own, or wrongly, since
+//! an operand is missing or of another kind or there is no room.
 
 use cjc_frame::Exception;
 

@@ -1,4 +1,5 @@
-//! Constants and locals: sconst_m1 to iipush, loads, stores, sinc and iinc.
+//! Constants and locals on words of 16 bits: sconst_m1 to iipush, loads and stores, sinc and iinc. An int takes
+//! two words.
 
 ghost use Rattle.std.specs.Prelude.{◌≡◌, ◌<◌, ◌+◌, ◌^◌, ◌∷◌, [], ℕ, pos, slice_get, FitsSigned, IfOk, IfSome};
 ghost use Rattle.std.specs.Int.{w16};

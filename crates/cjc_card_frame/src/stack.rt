@@ -1,4 +1,5 @@
-//! Words that change places: pop to swap_x.
+//! The instructions that move words on the stack: pop, pop2, dup, dup2, dup_x and swap_x (Java Card Virtual
+//! Machine Specification 2.2.2, chapter 7). They see no kind of word.
 
 ghost use Rattle.std.specs.Prelude.{◌≡◌, ◌≤◌, ◌++◌, ℕ, take, drop, length, IfOk, OnOk};
 ghost use Rattle.cjc_bytecode.specs.Calculations.{copied, dup_x, is_swap, popped, swap_x};

@@ -1,4 +1,5 @@
-//! A method under way.
+//! A method under way: where it is in code, its words, and what becomes of these when it begins, goes on behind
+//! a call, or goes on at a handler. It does no instruction.
 
 ghost use Rattle.std.specs.Prelude.{◌≡◌, ◌≤◌, ◌∷◌, [], ◌++◌, length, reverse, nat_le, true, IfOk, OnOk, if◌then◌else◌};
 ghost use Rattle.std.specs.List.{All};

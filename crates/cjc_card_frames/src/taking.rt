@@ -1,4 +1,5 @@
-//! The words of a call's arguments.
+//! Arguments taken off the stack of the caller, deepest first, and set as the first locals of the method that
+//! is called.
 
 ghost use Rattle.std.specs.Prelude.{◌≡◌, ◌≤◌, ◌++◌, length, reverse, slice_get, take, IfOk, OnOk};
 ghost use Rattle.std.specs.List.{All};

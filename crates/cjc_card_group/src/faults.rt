@@ -1,4 +1,5 @@
-//! The machine's own exceptions by name.
+//! The class names of the exceptions that the machine by token itself raises. The only place that knows these
+//! names there.
 
 ghost use Rattle.std.specs.Prelude.{◌≡◌};
 ghost use Rattle.cjc_card.specs.Classes.{fault_name};

@@ -1,4 +1,5 @@
-//! A package with all that is kept for its look-ups.
+//! `Group`, a package ready to be run: its tables, what stands above its classes and above imported ones, made
+//! once before the first instruction.
 
 ghost use Rattle.std.specs.Prelude.{◌≡◌, ◌<◌, ◌^◌, true, IfOk, OnOk};
 ghost use Rattle.cjc_sentences.specs.Complete.{class_info_size};

@@ -1,4 +1,5 @@
-//! The arrays and objects, in order of creation.
+//! The heap by token: each array or object has its number from the order of creation, and none is ever taken
+//! away.
 
 ghost use Rattle.std.specs.Prelude.{◌≡◌, ◌++◌, ◌∷◌, [], length, option_map, slice_get, OnOk};
 ghost use Rattle.cjc_bytecode.specs.Effects.{shape};

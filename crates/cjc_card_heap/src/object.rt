@@ -1,4 +1,5 @@
-//! One array or object of the heap.
+//! One array or object: its type by token and what it holds, made, read and replaced in place. It has no
+//! number; the heap gives it one.
 
 ghost use Rattle.std.specs.Prelude.{◌≡◌, map, pos, replicate, IfOk};
 ghost use Rattle.cjc_script.specs.declared.value.Value.TheVariants.{Null};

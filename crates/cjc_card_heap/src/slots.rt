@@ -1,4 +1,5 @@
-//! What an object holds under its fields.
+//! The fields of an object by token: what is found under a field and what is put there. Nothing here knows
+//! which fields a class has.
 
 ghost use Rattle.std.specs.Prelude.{◌≡◌, map, slice_get};
 ghost use Rattle.cjc_bytecode.specs.Effects.{slot_of, slots_with};

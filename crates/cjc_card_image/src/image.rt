@@ -1,4 +1,5 @@
-//! The image of one package: its reference cells, and the bytes behind them.
+//! The static field image of one package while it runs: reference cells, and behind them the bytes of numbers,
+//! read and written by a letter at an offset.
 
 ghost use Rattle.std.specs.Prelude.{◌≡◌, ◌≤◌, ◌+◌, ◌*◌, ◌-◌, Some, None, true, false, nat_le, length, is_some, option_map, IfSome, if◌then◌else◌};
 ghost use Rattle.cjc_bytecode.specs.Effects.{Byte, Int, Reference, Short};
@@ -11,8 +12,8 @@ use cjc_opcodes::Letter;
 use cjc_script::Value;
 use std::marker::Model;
 
-/// The reference cells of a package, of which each takes two in the offsets of cells, and the bytes of the numbers behind
-/// them.
+/// The reference cells of a package, of which each takes two in the offsets of cells, and the bytes of the
+/// numbers behind them.
 #[derive(Drop)]
 pub struct Image {
     pub(crate) references: Vec<Value>,

@@ -1,6 +1,6 @@
-//! The static cells of the machine by token: the image of each package, what cells hold by a letter and what is put into
-//! them, and what images and heap are before the first entry, against the definitions of cjc_card. Whoever runs
-//! components calls it. Knows no frame, no constant pool and no name.
+//! The static cells of the machine by token: the image of each package, what cells hold by a letter and what is
+//! put into them, and what images and heap are before the first entry, against the definitions of cjc_card.
+//! Whoever runs components calls it. Knows no frame, no constant pool and no name.
 #![tactic(auto)]
 
 mod first;

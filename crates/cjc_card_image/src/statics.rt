@@ -1,4 +1,5 @@
-//! The images of all packages.
+//! The static field images of all packages of a group side by side: a cell is found by the number of its
+//! package and its offset there.
 
 ghost use Rattle.std.specs.Prelude.{◌≡◌, ◌++◌, ◌∷◌, [], Some, None, false, option_map, OnOk, if◌then◌else◌};
 ghost use Rattle.cjc_opcodes.specs.Meanings.{letter_of};

@@ -1,4 +1,4 @@
--- Handlers whose offsets are small.
+-- That the offsets of all handlers of a group are counted by 32 bits, as the code holds them.
 use Rattle.std.specs.Prelude.{List, [], ◌∷◌, Bool, true, nat_lt, ◌&&◌}
 use Rattle.cjc_capread.specs.declared.tree.Handler.{Handler}
 use Rattle.cjc_card.specs.Loaded.{Part, Loaded}

@@ -1,4 +1,5 @@
-//! All classes of a package and of the export files that it imports.
+//! All classes that are there, by token: those of the package's Class and those that export files list. Called
+//! by `lines`.
 
 ghost use Rattle.std.specs.Prelude.{◌≡◌, ◌<◌, ◌^◌, ◌++◌, length, map, option_map, option_to_list, IfOk, OnOk};
 ghost use Rattle.cjc_card.specs.Classes.{Class as ByToken, Foreign, is_in, is_there};

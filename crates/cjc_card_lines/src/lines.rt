@@ -1,4 +1,5 @@
-//! Of each class what stands above it, found at once.
+//! `Lines`: under each class by token the class and what stands above it, put together once, so that a type
+//! test or a handler takes no walk.
 
 ghost use Rattle.std.specs.Prelude.{◌≡◌, ◌∷◌, [], map, option_map, if◌then◌else◌, Some, None, IfOk, OnOk};
 ghost use Rattle.cjc_card.specs.Classes.{Class as ByToken, is_there, or_else, same_class, steps, upwards};

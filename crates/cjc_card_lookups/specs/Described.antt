@@ -1,4 +1,4 @@
--- The lengths of methods by their offsets.
+-- The lengths of methods by offset, read off Descriptor.
 use Rattle.std.specs.Prelude.{◌≡◌, ◌+◌, ◌<◌, ◌^◌, ℕ, List, [], ◌∷◌, Bool, false, if◌then◌else◌, Option, Some, None, option_and_then, option_map, slice_get}
 use Rattle.cjc_capread.specs.declared.tree.ClassDescriptor.{ClassDescriptor}
 use Rattle.cjc_capread.specs.declared.tree.ClassInfo.{ClassInfo}

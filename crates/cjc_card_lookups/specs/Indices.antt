@@ -1,4 +1,4 @@
--- What is kept under numbers and names.
+-- Maps from numbers and from names: names compare and hash by their bytes, and the first that is noted stands.
 use Rattle.std.specs.Prelude.{◌≡◌, ℕ, suc, List, [], ◌∷◌, Option, Some, None, option_map, Bool, if◌then◌else◌, ◌==◌}
 use Rattle.std.specs.Bool.{IsTrue}
 use Rattle.std.specs.Cmp.{IsEquivalence, decided}

@@ -1,4 +1,4 @@
--- Classes that were met.
+-- The set of classes that a walk upwards has met, and that its map serves: classes compare and hash alike.
 use Rattle.std.specs.Prelude.{◌==◌, ◌&&◌, Option, is_some}
 use Rattle.std.specs.Bool.{Decides, IsTrue}
 use Rattle.std.specs.Cmp.{IsEquivalence, decided}

@@ -1,4 +1,4 @@
--- What data of names stands for.
+-- Names beside components: what the code's rows of names are as the names that the machine by token knows.
 use Rattle.std.specs.Prelude.{map}
 use Rattle.cjc_card.specs.Loaded.{MethodName, FieldName, ClassNames}
 use Rattle.cjc_card_lookups.specs.declared.names.MethodName.{MethodName as MethodNameData}

@@ -1,4 +1,4 @@
--- What is kept for all look-ups.
+-- The tables made once for all look-ups by token, and that they are those of the group.
 use Rattle.std.specs.Prelude.{◌≡◌, ℕ, List, length}
 use Rattle.std.specs.Str.{bytes_eq}
 use Rattle.cjc_card.specs.Loaded.{Loaded}

@@ -1,5 +1,5 @@
-//! The lengths of methods by the offsets of their headers, as Descriptor lists them (Java Card Virtual Machine Specification
-//! 2.2.2, section 6.13).
+//! The lengths of methods by the offsets of their headers, as Descriptor lists them (Java Card Virtual Machine
+//! Specification 2.2.2, section 6.13).
 
 ghost use Rattle.std.specs.Prelude.{◌≡◌, ◌==◌, ℕ, option_map, if◌then◌else◌, Some, None, IfOk, OnOk};
 ghost use Rattle.cjc_card.specs.Classes.{or_else};

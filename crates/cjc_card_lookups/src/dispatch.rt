@@ -1,5 +1,5 @@
-//! Dispatch through the tables of a class and its superclasses in the package, up to an imported class (Java Card Virtual
-//! Machine Specification 2.2.2, sections 6.8.2 and 7.5).
+//! Dispatch through the tables of a class and its superclasses in the package, up to an imported class (Java
+//! Card Virtual Machine Specification 2.2.2, sections 6.8.2 and 7.5).
 
 ghost use Rattle.std.specs.Prelude.{◌≡◌, ℕ, List, Option, option_map, if◌then◌else◌};
 ghost use Rattle.std.specs.Option.{option_copied};

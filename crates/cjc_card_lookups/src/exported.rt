@@ -1,4 +1,5 @@
-//! The classes of export files by their tokens and by their names (Java Card Virtual Machine Specification 2.2.2, chapter 5).
+//! The classes of export files by their tokens and by their names (Java Card Virtual Machine Specification
+//! 2.2.2, chapter 5).
 
 ghost use Rattle.std.specs.Prelude.{◌≡◌, ◌<◌, ◌^◌, ℕ, List, length, option_map, if◌then◌else◌, Some, None, IfOk, OnOk};
 ghost use Rattle.std.specs.Str.{bytes_eq};

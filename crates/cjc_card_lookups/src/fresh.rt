@@ -1,5 +1,5 @@
-//! What new objects hold: a slot for each token of each class of the package (Java Card Virtual Machine Specification 2.2.2,
-//! section 6.8.2).
+//! What new objects hold: a slot for each token of each class of the package (Java Card Virtual Machine
+//! Specification 2.2.2, section 6.8.2).
 
 ghost use Rattle.std.specs.Prelude.{◌≡◌, ◌<◌, ◌+◌, ◌^◌, ◌++◌, map, option_map, IfOk, OnOk};
 ghost use Rattle.cjc_card.specs.Classes.{depth, fresh, is_reference_token, own_slots, slot_for, slots_from, slots_upwards};

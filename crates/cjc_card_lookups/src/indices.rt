@@ -1,4 +1,5 @@
-//! What stands first under a number or a name, found at once.
+//! Maps of this crate: a number kept under a number, a place kept under a name, the first that is noted. They
+//! know nothing of what is numbered.
 
 ghost use Rattle.std.specs.Prelude.{◌≡◌, ◌==◌, ℕ, List, Some, None, OnOk, if◌then◌else◌, option_map};
 ghost use Rattle.std.specs.Str.{bytes_eq};

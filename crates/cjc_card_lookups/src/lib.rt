@@ -1,6 +1,6 @@
-//! Look-ups by token over the components of a package and the export files that it imports: what instructions, scripts and
-//! reports ask of them, found by tables that are made once. Called by who runs components; it knows no frame that runs, and
-//! not how names came to components.
+//! Look-ups by token over the components of a package and the export files that it imports: what instructions,
+//! scripts and reports ask of them, found by tables that are made once. Called by who runs components; it knows
+//! no frame that runs, and not how names came to components.
 #![tactic(auto)]
 
 mod calls;

@@ -1,4 +1,4 @@
-//! Classes that were met on the way upwards, each found at once.
+//! Which classes were met on a walk upwards, so that none is gone through twice. Called by `supers`.
 
 ghost use Rattle.std.specs.Prelude.{◌≡◌, ◌||◌, Some, None, true, false, if◌then◌else◌, OnOk};
 ghost use Rattle.std.specs.Cmp.{partial_equiv_from_equiv};

@@ -1,4 +1,5 @@
-//! Names of classes and methods, and what scripts name.
+//! The part of `Tables` that tells the name of a class and finds a class by its name: for scripts, reports,
+//! descriptors, and the classes that the machine itself names.
 
 ghost use Rattle.std.specs.Prelude.{◌≡◌, ◌==◌, ℕ, option_map, option_and_then};
 ghost use Rattle.std.specs.Option.{option_copied};

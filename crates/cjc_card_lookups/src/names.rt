@@ -1,4 +1,5 @@
-//! Names of classes, fields and methods, by the order of components.
+//! Names beside components: of each class info its class, methods and fields, in the order of the components. A
+//! CAP file has no names, so whoever runs one gives them.
 
 use cjc_bytes::{Bytes, Row};
 
@@ -17,8 +18,8 @@ pub struct FieldName {
     pub desc: Bytes,
 }
 
-/// Of the class info with the same number: its name, the methods of its class as Descriptor lists them, its instance fields
-/// in the order of the class file, and of an interface its methods by token.
+/// Of the class info with the same number: its name, the methods of its class as Descriptor lists them, its
+/// instance fields in the order of the class file, and of an interface its methods by token.
 #[derive(Drop)]
 pub struct ClassNames {
     pub name: Bytes,

@@ -1,4 +1,5 @@
-//! The components of a package, with names.
+//! What of a package is looked into when it runs: its components, lent, and the names that scripts and reports
+//! use for what these hold.
 
 use crate::names::ClassNames;
 use cjc_capread::{ClassDescriptor, ClassInfo, ExportedClass, Method, PoolEntry, StaticField};

@@ -1,4 +1,5 @@
-//! Imported classes by their names.
+//! Imported classes that a script names: those whose objects it makes, and those that an answer throws. No
+//! instruction asks here.
 
 ghost use Rattle.std.specs.Prelude.{◌≡◌, codes, option_and_then, option_map};
 ghost use Rattle.cjc_card.specs.Calls.{if_below, imported, imported_class_of, throwable};

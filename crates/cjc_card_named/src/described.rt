@@ -1,5 +1,5 @@
-//! What Descriptor says of the methods that classes of a package declare (Java Card Virtual Machine Specification 2.2.2,
-//! section 6.13).
+//! What Descriptor says of the methods that classes of a package declare (Java Card Virtual Machine
+//! Specification 2.2.2, section 6.13).
 
 ghost use Rattle.std.specs.Prelude.{◌≡◌, map, option_map};
 ghost use Rattle.std.specs.Option.{option_copied};

@@ -1,5 +1,5 @@
-//! Methods of interfaces by their names, and what they are on a receiver (Java Card Virtual Machine Specification 2.2.2,
-//! sections 6.8 and 7.5).
+//! Methods of interfaces by their names, and what they are on a receiver (Java Card Virtual Machine
+//! Specification 2.2.2, sections 6.8 and 7.5).
 
 ghost use Rattle.std.specs.Prelude.{◌≡◌, map, option_map};
 ghost use Rattle.cjc_card.specs.Calls.{interface_token, start_selected, through_first, token_if_interface};

@@ -1,5 +1,5 @@
-//! The methods and classes that a script names, found in a group by their names (Java Card Virtual Machine Specification
-//! 2.2.2, section 7.5). Called by who runs components for a script; it knows no frame that runs.
+//! The methods and classes that a script names, found in a group by their names (Java Card Virtual Machine
+//! Specification 2.2.2, section 7.5). Called by who runs components for a script; it knows no frame that runs.
 #![tactic(auto)]
 
 mod classes;

@@ -1,4 +1,5 @@
-//! Methods by their names and descriptors.
+//! A method found by name and descriptor in a list of names or among the methods of an export file; the first
+//! that is there counts.
 
 ghost use Rattle.std.specs.Prelude.{◌≡◌, ◌&&◌, map, position, slice_get, if◌then◌else◌, Some, None};
 ghost use Rattle.std.specs.Str.{bytes_eq};

@@ -1,5 +1,5 @@
-//! What a method that a script names is on an object: by a method that is found from the named class upwards, else by an
-//! interface above it (Java Card Virtual Machine Specification 2.2.2, section 7.5).
+//! What a method that a script names is on an object: by a method that is found from the named class upwards,
+//! else by an interface above it (Java Card Virtual Machine Specification 2.2.2, section 7.5).
 
 ghost use Rattle.std.specs.Prelude.{◌≡◌, option_map};
 ghost use Rattle.cjc_card.specs.Calls.{sent, sent_as, sent_by, sent_to, start_selected};

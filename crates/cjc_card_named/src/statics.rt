@@ -1,4 +1,5 @@
-//! Static methods by their names.
+//! The static method that an entry of a script calls, by class, name and descriptor. Instructions never come
+//! here: they have tokens.
 
 ghost use Rattle.std.specs.Prelude.{◌≡◌, option_map};
 ghost use Rattle.cjc_card.specs.Calls.{called, static_start};

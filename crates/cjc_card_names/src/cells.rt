@@ -1,4 +1,5 @@
-//! The names of static cells (Java Card Virtual Machine Specification 2.2.2, section 6.10), class by class. It knows no token.
+//! The names of static cells (Java Card Virtual Machine Specification 2.2.2, section 6.10), class by class. It
+//! knows no token.
 
 ghost use Rattle.std.specs.Prelude.{◌≡◌, ◌++◌, map, IfOk, OnOk};
 ghost use Rattle.std.specs.List.{flat_map};
@@ -88,8 +89,8 @@ fn cells_of(
     Ok(cells)
 }
 
-/// The static cells of a package by their offsets in its image, with their names: class by class in the order of the list, and
-/// in each in the order of its file.
+/// The static cells of a package by their offsets in its image, with their names: class by class in the order
+/// of the list, and in each in the order of its file.
 pub fn cell_names(
     alloc: Global,
     world: &World<'_>,

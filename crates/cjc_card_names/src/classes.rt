@@ -1,5 +1,5 @@
-//! The names of classes and of their members, in the order of Class and Descriptor (Java Card Virtual Machine Specification 2.2.2,
-//! sections 6.8 and 6.13).
+//! The names of classes and of their members, in the order of Class and Descriptor (Java Card Virtual Machine
+//! Specification 2.2.2, sections 6.8 and 6.13).
 
 ghost use Rattle.std.specs.Prelude.{◌≡◌, ◌++◌, map, IfOk, OnOk};
 ghost use Rattle.std.specs.List.{flat_map};
@@ -72,8 +72,9 @@ fn put_classes(
     Ok(())
 }
 
-/// The names of the classes and interfaces of a package that has these tokens, in the order of Class: the methods of each as
-/// Descriptor lists them, its instance fields by token, and of an interface its methods by token.
+/// The names of the classes and interfaces of a package that has these tokens, in the order of Class: the
+/// methods of each as Descriptor lists them, its instance fields by token, and of an interface its methods by
+/// token.
 pub fn class_names(
     alloc: Global,
     world: &World<'_>,

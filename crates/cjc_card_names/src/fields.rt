@@ -1,5 +1,5 @@
-//! The names of the instance fields of a class, by token (Java Card Virtual Machine Specification 2.2.2, section 4.3.7.5). Called
-//! by `classes`.
+//! The names of the instance fields of a class, by token (Java Card Virtual Machine Specification 2.2.2,
+//! section 4.3.7.5). Called by `classes`.
 
 ghost use Rattle.std.specs.Prelude.{◌≡◌, ◌++◌, map, IfOk, OnOk};
 ghost use Rattle.cjc_tokens.specs.Fields.{is_instance};

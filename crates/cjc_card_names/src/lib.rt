@@ -1,5 +1,5 @@
-//! The names of classes and of static cells that the components of a package are given from its class files, in the order of
-//! components. Whoever runs components beside their class files calls it. It knows no component.
+//! The names of classes and of static cells that the components of a package are given from its class files, in
+//! the order of components. Whoever runs components beside their class files calls it. It knows no component.
 #![tactic(auto)]
 
 mod cells;

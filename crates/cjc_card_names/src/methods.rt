@@ -1,5 +1,5 @@
-//! The names of the methods of a class, in the order of Descriptor, and of those of an interface by token (Java Card Virtual
-//! Machine Specification 2.2.2, sections 6.8 and 6.13.3). Called by `classes`.
+//! The names of the methods of a class, in the order of Descriptor, and of those of an interface by token (Java
+//! Card Virtual Machine Specification 2.2.2, sections 6.8 and 6.13.3). Called by `classes`.
 
 ghost use Rattle.std.specs.Prelude.{◌≡◌, ◌++◌, map, option_map, IfOk, OnOk};
 ghost use Rattle.std.specs.List.{flat_map};

@@ -1,4 +1,5 @@
-//! Methods, calls and static cells by token (Java Card Virtual Machine Specification 2.2.2, sections 6.7, 6.9 and 6.10).
+//! Methods, calls and static cells by token (Java Card Virtual Machine Specification 2.2.2, sections 6.7, 6.9
+//! and 6.10).
 
 ghost use Rattle.std.specs.Prelude.{◌≡◌};
 ghost use Rattle.cjc_card.specs.Calls.{on_object};

@@ -1,4 +1,5 @@
-//! What is done with an entry of the constant pool, by what it names.
+//! A law of uses of the constant pool: what an instruction does with an entry, it does with the field, cell,
+//! method or class that this names. Nothing here runs.
 
 ghost use Rattle.std.specs.Prelude.{◌≡◌, ℕ, Bool, option_map};
 ghost use Rattle.cjc_capread.specs.declared.tree.PoolEntry.{PoolEntry};

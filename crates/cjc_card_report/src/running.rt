@@ -55,13 +55,15 @@ fn judge(alloc: Global, script: &[u8], input: &Input, n: u32) -> Result<Todo, St
     }
 }
 
-/// Reads a list, its files, the components of a folder and a script, and runs n instructions of the components by token.
+/// Reads a list, its files, the components of a folder and a script, and runs n instructions of the components
+/// by token.
 ///
 /// # Errors
 ///
-/// A list that is refused; the first file that is absent, too long or can't be read; where all are read the first broken rule of the
-/// first three hundreds, of 401 to 409 and 413, or of 701 to 719, those of single files first: 106 of components behind the files of
-/// the list, and 105 of the script behind these; want of memory.
+/// A list that is refused; the first file that is absent, too long or can't be read; where all are read the
+/// first broken rule of the first three hundreds, of 401 to 409 and 413, or of 701 to 719, those of single
+/// files first: 106 of components behind the files of the list, and 105 of the script behind these; want of
+/// memory.
 pub fn gather_card<S: Shelf>(
     alloc: Global,
     name: &[u8],

@@ -1,4 +1,5 @@
-//! Entries of a script.
+//! How an entry of a script begins by token: its acts are done, its method is found, its arguments become
+//! words, and a frame is made of these.
 
 ghost use Rattle.std.specs.Prelude.{◌≡◌, ◌≤◌, [], true, map, option_map, IfOk, IfSome, OnOk};
 ghost use Rattle.std.specs.List.{All};

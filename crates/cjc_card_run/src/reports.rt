@@ -1,4 +1,5 @@
-//! What a run makes known in the end.
+//! The report of a state by token: static fields and objects told by the names that look-ups have for their
+//! tokens. Nothing of the state is changed.
 
 ghost use Rattle.std.specs.Prelude.{◌≡◌, ◌++◌, map, IfOk, OnOk};
 ghost use Rattle.cjc_script.specs.declared.value.Value.TheVariants.{Num};

@@ -1,4 +1,5 @@
-//! Heap and static cells before the first entry.
+//! The first state of a run by token: arrays of the static field images stand on the heap, cells hold what the
+//! images say, and the whole script is left. No instruction has run.
 
 ghost use Rattle.std.specs.Prelude.{◌≡◌, ◌++◌, ◌∷◌, [], length, map, IfOk, OnOk};
 ghost use Rattle.cjc_card.specs.Statics.{first_array, first_arrays, first_image, first_images};

@@ -1,4 +1,5 @@
-//! One instruction of the frame under way.
+//! One instruction by token, counted, and what follows it: go on, raise, throw, call or return. Called by
+//! `runs`, which does not look into instructions.
 
 ghost use Rattle.std.specs.Prelude.{◌≡◌, ◌<◌, ◌≤◌, ◌+◌, ◌^◌, ◌∷◌, ℕ, List, IfOk, OnOk};
 ghost use Rattle.cjc_decode.specs.Decoded.{IsAtFront, instruction_of};

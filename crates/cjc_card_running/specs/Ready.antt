@@ -35,7 +35,7 @@ pub data Breaks (input : Input) (name : List ℕ) (b : Break) : Type 0 where
   of_script : BreaksScript name input.script b → Breaks input name b
   of_sentences : BreaksSentence input.list input.files input.parts b → Breaks input name b
 
--- The package breaks no rule; these components are spelt, none but Applet and Export is absent, each has fewer bytes than 2 ^ 32, and
+-- The package breaks no rule; these components are spelt, none but Applet and Export is absent, each has fewer bytes than 2^32, and
 -- they are consistent with the package's export files; and the text is this script.
 pub record IsReady (input : Input) (name : List ℕ) (ready : Ready) : Type 0 where
   pub judged : IsJudged input.list input.files tested ready.judged

@@ -1,5 +1,5 @@
-//! What runs of components start from: the package of a list with its files, the components of a folder, and a script, as they are
-//! read and tested. The command that runs components calls it; it knows no machine.
+//! What runs of components start from: the package of a list with its files, the components of a folder, and a
+//! script, as they are read and tested. The command that runs components calls it; it knows no machine.
 #![tactic(auto)]
 
 mod input;

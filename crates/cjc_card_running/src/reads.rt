@@ -1,4 +1,5 @@
-//! Reads a list, its files, the components of a folder and a script, each after those that stand before it. Nothing here writes.
+//! Reads a list, its files, the components of a folder and a script, each after those that stand before it.
+//! Nothing here writes.
 
 ghost use Rattle.std.specs.Prelude.{◌<◌, IfOk, length};
 ghost use Rattle.cjc_command.specs.Gather.{Gathers, IsSame};
@@ -61,12 +62,13 @@ fn gather_text<S: Shelf>(
     }
 }
 
-/// Reads a list, its files in the order of its lines, the components of a folder by their tags, and a script. Where the bytes of
-/// Directory spell none the script follows it.
+/// Reads a list, its files in the order of its lines, the components of a folder by their tags, and a script.
+/// Where the bytes of Directory spell none the script follows it.
 ///
 /// # Errors
 ///
-/// A list that is refused, before the next file is read; the first file that is absent, too long or can't be read; want of memory.
+/// A list that is refused, before the next file is read; the first file that is absent, too long or can't be
+/// read; want of memory.
 pub fn gather_input<S: Shelf>(
     alloc: Global,
     name: &[u8],

@@ -1,5 +1,6 @@
-//! A package, components and a script, tested in the order of refusals: a rule of a single file of the list, then the components
-//! and the script by themselves, then the rules of the package, and last what components say together.
+//! A package, components and a script, tested in the order of refusals: a rule of a single file of the list,
+//! then the components and the script by themselves, then the rules of the package, and last what components
+//! say together.
 
 ghost use Rattle.std.specs.Prelude.{◌≡◌, [], Some, Ok, IfOk, IfErr, OnOk};
 ghost use Rattle.cjc_bytes.specs.Breaks.{Break as Broken, IsFirstRefusal};
@@ -23,8 +24,8 @@ use cjc_script::Script;
 use cjc_script_text::read;
 use std::alloc::Global;
 
-/// A package that breaks no rule of the first three hundreds, of limits and of tokens, components that are consistent with its
-/// export files, and a script.
+/// A package that breaks no rule of the first three hundreds, of limits and of tokens, components that are
+/// consistent with its export files, and a script.
 #[derive(Drop)]
 pub struct Ready<'a> {
     /// The package.
@@ -35,7 +36,8 @@ pub struct Ready<'a> {
     pub script: Script,
 }
 
-/// The answer for a fault of what stands behind the files of the list: the first rule that one of these breaks, else the fault.
+/// The answer for a fault of what stands behind the files of the list: the first rule that one of these breaks,
+/// else the fault.
 fn behind_files(alloc: Global, input: &Input, name: &[u8], fault: Fault) -> Fault
     requires input { IsInput input.now }
     requires behind { ((b : Broken) → BreaksFile input.now.list.lines input.now.files b → ⊥) → IsFirstFault (Breaks input.now name.now) fault }
@@ -142,13 +144,13 @@ fn check_cap(
     consistent(alloc, cap, judged.world.exports())
 }
 
-/// The package of a list with the components of a folder and a script of this name, where they break none of 101 to 106, of
-/// families 2 and 3, of 401 to 409 and 413, and of 701 to 718.
+/// The package of a list with the components of a folder and a script of this name, where they break none of
+/// 101 to 106, of families 2 and 3, of 401 to 409 and 413, and of 701 to 718.
 ///
 /// # Errors
 ///
-/// The first broken rule of all these, in the order of refusals: 106 of components stands behind the rules of single files of the
-/// list, 105 of the script behind it, and both before all others.
+/// The first broken rule of all these, in the order of refusals: 106 of components stands behind the rules of
+/// single files of the list, 105 of the script behind it, and both before all others.
 pub fn make_ready<'a>(alloc: Global, input: &'a Input, name: &[u8]) -> Result<Ready<'a>, Fault>
     requires { IsInput input.now }
     ensures ready { IfOk result (IsReady input.now name.now) }

@@ -1,4 +1,5 @@
-//! Instructions that see a frame's words alone.
+//! The instructions that see words alone, done by cjc_card_frame, and how they end as the machine has it: go
+//! on, raise, or stuck.
 
 ghost use Rattle.std.specs.Prelude.{IfOk};
 ghost use Rattle.cjc_bytecode.specs.Effects.{Do};

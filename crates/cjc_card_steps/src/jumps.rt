@@ -1,4 +1,5 @@
-//! Jumps and switches, and the offsets where they lead.
+//! The jumps and switches of the card: the operands are taken off the stack, and the offset is answered that
+//! the run goes on at. Called by `instruction`.
 
 ghost use Rattle.std.specs.Prelude.{◌≡◌, ◌≤◌, ℕ, ℤ, List, length, drop, IfOk, IfSome};
 ghost use Rattle.cjc_script.specs.declared.value.Value.{Value};

@@ -241,7 +241,8 @@ pub(crate) fn made_once(alloc: Global) -> Result<Shared, NoMemory> {
     })
 }
 
-/// The info of Method: four handlers, those past a row's over no byte; the methods from 33 on; and a row's method at 254.
+/// The info of Method: four handlers, those past a row's over no byte; the methods from 33 on; and a row's
+/// method at 254.
 fn method_info(alloc: Global, code: &[u8], handlers: &[u8]) -> Result<Bytes, NoMemory> {
     if handlers.len() > 32 {
         return Err(NoMemory);

@@ -1,6 +1,6 @@
-//! Each opcode of the card, run in a method of components that are made by hand: rows of its bytes, arguments and the
-//! report, worked out from the standard. What stands here beside tests tells how long a Class component is: a crate with
-//! tests of its own is proved twice.
+//! Each opcode of the card, run in a method of components that are made by hand: rows of its bytes, arguments
+//! and the report, worked out from the standard. What stands here beside tests tells how long a Class component
+//! is: a crate with tests of its own is proved twice.
 #![tactic(auto)]
 
 #[cfg(test)]

@@ -1,4 +1,5 @@
-//! The names of what the components have. Called by runs.rt.
+//! The names that the made components lack and a group wants: of classes, methods, fields and cells, written
+//! down for `runs`.
 
 use cjc_bytes::{Bytes, MemberId, NoMemory, Row};
 use cjc_card_lookups::{ClassNames, FieldName, MethodName};
@@ -6,7 +7,8 @@ use cjc_card_parts::CellName;
 use cjc_cases::{cut, number, text};
 use std::alloc::Global;
 
-/// Each class, the methods of an interface, and the instance fields: a digit for the token, a letter for the name, the type.
+/// Each class, the methods of an interface, and the instance fields: a digit for the token, a letter for the
+/// name, the type.
 const CLASSES: [(&str, &str, &str); 3] = [
     ("p/I", "a()S b()S", ""),
     ("p/T", "", "0bB 1sS 2iI 4rLp/T;"),

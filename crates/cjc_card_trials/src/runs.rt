@@ -1,9 +1,9 @@
 //! A row's run: its components, its script and its report. Called by rows.rt and stacks.rt.
 //!
-//! A row has what is called, ` : ` and the bytes of the method, ` = ` and the lines of the report with `, ` between. What is
-//! called is the method f with arguments, `; ` between those of several calls, and further lines of the script behind
-//! `, `. The bytes are a header and code, whose offset is 256 behind a short header, and behind `/` the handlers. Lines that
-//! say what was so before the call are left out of the report.
+//! A row has what is called, ` : ` and the bytes of the method, ` = ` and the lines of the report with `, `
+//! between. What is called is the method f with arguments, `; ` between those of several calls, and further
+//! lines of the script behind `, `. The bytes are a header and code, whose offset is 256 behind a short header,
+//! and behind `/` the handlers. Lines that say what was so before the call are left out of the report.
 
 use crate::components::{Shared, descriptor, made_once, method};
 use crate::is_short;
@@ -20,8 +20,8 @@ use cjc_script::{Report, Script};
 use cjc_script_text::{print, read};
 use std::alloc::Global;
 
-/// Lines of a report that a row leaves out: the static cells and their array as they are at first, and the first object where its
-/// fields are so.
+/// Lines of a report that a row leaves out: the static cells and their array as they are at first, and the
+/// first object where its fields are so.
 const FIRST: [&str; 10] = [
     "",
     "static p/T.a:[S @0",

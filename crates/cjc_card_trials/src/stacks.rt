@@ -1,8 +1,8 @@
-//! Instructions that move words of the stack. A row has the words before, from the lowest up, the bytes of the instruction, and
-//! the words behind it.
+//! Instructions that move words of the stack. A row has the words before, from the lowest up, the bytes of the
+//! instruction, and the words behind it.
 //!
-//! The method puts null and the words on the stack, makes the instruction, takes so many words into an array from its last
-//! element down, and returns null, so that no word is left over.
+//! The method puts null and the words on the stack, makes the instruction, takes so many words into an array
+//! from its last element down, and returns null, so that no word is left over.
 
 use crate::runs::{Fixed, are_left, fixed_parts, printed};
 use cjc_bytes::NoMemory;
@@ -54,9 +54,9 @@ fn pushes(alloc: Global, words: &str) -> Result<String, NoMemory> {
     Ok(code)
 }
 
-/// The method f, called once, for the words before, an instruction and so many words behind it: newarray byte into local 0, the
-/// last index into local 1, null, the words, the instruction; then store_2, local 0, 1 and 2, bastore, sinc, as long as the index is
-/// not negative.
+/// The method f, called once, for the words before, an instruction and so many words behind it: newarray byte
+/// into local 0, the last index into local 1, null, the words, the instruction; then store_2, local 0, 1 and 2,
+/// bastore, sinc, as long as the index is not negative.
 fn question(
     alloc: Global,
     words: &str,

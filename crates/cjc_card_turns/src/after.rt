@@ -1,4 +1,5 @@
-//! What a step of a run leaves.
+//! What a call, a return or a throw by token leaves: the frame that goes on, the end of the run, or the offset
+//! where it is stuck. Whoever makes one instruction after the other reads it.
 
 use cjc_card_frames::Frame;
 use cjc_script::Outcome;

@@ -1,4 +1,5 @@
-//! Results, imported calls and what answers them.
+//! What a result is to whoever waits for it, and calls that leave the components: the event is noted, and the
+//! next answer of the script is done and given back.
 
 ghost use Rattle.std.specs.Prelude.{◌≡◌, ◌<◌, ◌≤◌, ◌+◌, ◌^◌, List, true, option_map, IfOk, OnOk};
 ghost use Rattle.std.specs.List.{All};

@@ -1,4 +1,5 @@
-//! All of a run but the frame under way.
+//! The state of a run by token beside the frame under way: callers, heap, static cells, what is left of the
+//! script, notes and the count of instructions.
 
 ghost use Rattle.std.specs.Prelude.{◌≡◌};
 

@@ -1,4 +1,5 @@
-//! What a run makes known as it goes.
+//! The note of an imported call, with copies of its arguments. Notes are what a report tells of the time before
+//! its end.
 
 ghost use Rattle.std.specs.Prelude.{◌≡◌, IfOk};
 ghost use Rattle.cjc_script.specs.declared.report.Note.TheVariants.{Event, Thrown};

@@ -9,8 +9,8 @@ pub const SUM: &[u8] = b"\
     \x00\x01\x00\x09\x00\x05\x00\x06\x00\x01\x00\x07\x00\x00\x00\x11\x00\x02\x00\x01\x00\x00\x00\x05\x1A\
     \x04`\x93\xAC\x00\x00\x00\x00\x00\x00";
 
-/// The applet p/Wallet, which keeps a balance:S: an APDU whose buffer has 0x30 at 1 adds the byte at 5, one with 0x40 takes it
-/// away, and 0x6A85 is thrown where there is less, 0x6D00 for any other.
+/// The applet p/Wallet, which keeps a balance:S: an APDU whose buffer has 0x30 at 1 adds the byte at 5, one
+/// with 0x40 takes it away, and 0x6A85 is thrown where there is less, 0x6D00 for any other.
 pub const WALLET: &[u8] = b"\
     \xCA\xFE\xBA\xBE\x00\x00\x004\x00\x22\
     \x01\x00\x08p/Wallet\x07\x00\x01\x01\x00\x19javacard/framework/Applet\
@@ -62,7 +62,8 @@ pub const ROWS: &[u8] = b"\
     \x00\x00\x00\
     \x00\x00";
 
-/// A package-visible class p/B below q/A, which overrides a, and two static methods, one that makes a B and one that calls b on it.
+/// A package-visible class p/B below q/A, which overrides a, and two static methods, one that makes a B and one
+/// that calls b on it.
 pub const OVERRIDES: &[u8] = b"\
     \xCA\xFE\xBA\xBE\x00\x00\x004\x00\x14\
     \x01\x00\x03p/B\x07\x00\x01\x01\x00\x03q/A\x07\x00\x03\x01\x00\x06<init>\x01\x00\x03()V\x0C\x00\x05\
@@ -178,7 +179,8 @@ pub const INSTALLS: &[u8] = b"\
     \x00\x00\
     \x00\x00";
 
-/// An abstract class p/A with instance fields of each group, a constant, a static field and a static method, which implements p/K.
+/// An abstract class p/A with instance fields of each group, a constant, a static field and a static method,
+/// which implements p/K.
 pub const MEMBERS: &[u8] = b"\
     \xCA\xFE\xBA\xBE\x00\x00\x004\x00\x16\
     \x01\x00\x03p/A\x07\x00\x01\x01\x00\x10java/lang/Object\x07\x00\x03\x01\x00\x03p/K\x07\x00\x05\x01\

@@ -1,4 +1,5 @@
-//! Files of cases, byte for byte: export files, and class files made by hand. Crates of tests name them; it knows no test.
+//! Files of cases, byte for byte: export files, and class files made by hand. Crates of tests name them; it
+//! knows no test.
 #![tactic(auto)]
 
 mod classes;

@@ -89,8 +89,8 @@ fn pool_item(alloc: Global, line: &str) -> Result<PoolItem, NoMemory> {
     }
 }
 
-/// A constant pool, an entry a line from index 1 on: `int NUMBER`, `class NAME`, or `field`, `method` or `interface` with a
-/// class, a name and a descriptor.
+/// A constant pool, an entry a line from index 1 on: `int NUMBER`, `class NAME`, or `field`, `method` or
+/// `interface` with a class, a name and a descriptor.
 pub fn pool(alloc: Global, lines: &str) -> Result<Row<PoolItem>, NoMemory> {
     let mut pool = Row::new(alloc);
     pool.push(PoolItem::Other)?;

@@ -1,5 +1,5 @@
-//! Cases of tests that stand as text: their words, class trees, and a package over the export file of java/lang. Called by
-//! crates of tests. It knows nothing of what they test.
+//! Cases of tests that stand as text: their words, class trees, and a package over the export file of
+//! java/lang. Called by crates of tests. It knows nothing of what they test.
 #![tactic(auto)]
 
 mod classes;

@@ -1,5 +1,5 @@
-//! Words of cases: ` = ` and what is answered end a case, and ` # ` begins a reason. A word that is not what it is to be
-//! ends the case as want of memory does.
+//! Words of cases: ` = ` and what is answered end a case, and ` # ` begins a reason. A word that is not what it
+//! is to be ends the case as want of memory does.
 
 ghost use Rattle.std.specs.Prelude.{◌≤◌};
 

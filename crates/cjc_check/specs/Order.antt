@@ -1,4 +1,4 @@
--- The first place of a sentence as a break.
+-- A broken sentence as a break, in the order in which sentences are tested: those that it needs are true.
 use Rattle.std.specs.Prelude.{ℕ, Bool, true, false, Option, Some, None, if◌then◌else◌}
 use Rattle.cjc_bytes.specs.Breaks.{Break}
 use Rattle.cjc_sentences.specs.declared.spot.Spot.{Spot}

@@ -1,5 +1,5 @@
-//! Components that were found consistent, with the export files that they import. Whoever runs or verifies components takes
-//! them as such.
+//! Components that were found consistent, with the export files that they import. Whoever runs or verifies
+//! components takes them as such.
 
 ghost use Rattle.std.specs.Prelude.{◌≡◌};
 ghost use Rattle.cjc_sentences.specs.Consistent.{Consistent};

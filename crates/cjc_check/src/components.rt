@@ -1,4 +1,5 @@
-//! The test of components, whole: the first broken sentence in the order of refusals, or components that are consistent.
+//! The test of components, whole: the first broken sentence in the order of refusals, or components that are
+//! consistent.
 
 ghost use Rattle.std.specs.Prelude.{◌≡◌, IfErr, IfOk, List, OnOk, flat_map, option_map};
 ghost use Rattle.cjc_bytes.specs.Breaks.{IsFirstOf, IsFirstRefusal};
@@ -76,8 +77,9 @@ fn test(alloc: Global, tree: &CapTree, exports: &[ExportTree]) -> Result<(), Fau
 ///
 /// # Errors
 ///
-/// The first broken sentence and its place, in the order of refusals: 701 to 718. A sentence counts as true where one that it needs
-/// is false; where a component other than Applet and Export is absent, only 701 and 702 are tested.
+/// The first broken sentence and its place, in the order of refusals: 701 to 718. A sentence counts as true
+/// where one that it needs is false; where a component other than Applet and Export is absent, only 701 and 702
+/// are tested.
 pub fn check(alloc: Global, tree: CapTree, exports: &Row<ExportTree>) -> Result<Checked<'_>, Fault>
     // Bytes that were read, fewer than 2^32 of each component, spell trees that are small.
     requires { IsSmall tree }

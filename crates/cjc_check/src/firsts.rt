@@ -1,5 +1,5 @@
-//! The first places of all sentences on components of which only Applet and Export may be absent, and the first of these in the
-//! order of refusals. What looks classes up is made here, once.
+//! The first places of all sentences on components of which only Applet and Export may be absent, and the first
+//! of these in the order of refusals. What looks classes up is made here, once.
 
 ghost use Rattle.std.specs.Prelude.{◌≡◌, ◌+◌, ◌<◌, ◌^◌, IfOk, List, flat_map, option_map};
 ghost use Rattle.cjc_bytes.specs.Breaks.{IsFirstOf};

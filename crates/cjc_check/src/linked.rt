@@ -1,5 +1,5 @@
-//! The sentences that look classes, methods and types up: what is kept of methods and classes is made here, once, and handed to
-//! their tests.
+//! The sentences that look classes, methods and types up: what is kept of methods and classes is made here,
+//! once, and handed to their tests.
 
 ghost use Rattle.std.specs.Prelude.{◌≡◌, ℕ, ◌==◌, ◌&&◌, IfOk, length};
 ghost use Rattle.std.specs.List.{list_any};

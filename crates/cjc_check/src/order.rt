@@ -1,5 +1,5 @@
-//! The first broken sentence in the order of refusals: a sentence by its number, whether those that it needs are true, and its
-//! first place. It knows no sentence.
+//! The first broken sentence in the order of refusals: a sentence by its number, whether those that it needs
+//! are true, and its first place. It knows no sentence.
 
 ghost use Rattle.std.specs.Prelude.{◌≡◌, ◌&&◌, ◌++◌, Bool, List, option_map};
 ghost use Rattle.cjc_bytes.specs.Breaks.{Break as BreakOf, IsFirstOf};
@@ -81,7 +81,8 @@ pub(crate) fn both(one: bool, other: bool) -> bool
     one && other
 }
 
-/// The first break of a sentence, by its number, whether those that it needs are true, and its first place, and of those behind it.
+/// The first break of a sentence, by its number, whether those that it needs are true, and its first place, and
+/// of those behind it.
 pub(crate) fn with_sentence(
     number: u16,
     needed: bool,

@@ -1,8 +1,9 @@
-//! The components of a package with one method, made by hand, and the export file of java/lang. The tests of whole runs alter
-//! them. Nothing here runs.
+//! The components of a package with one method, made by hand, and the export file of java/lang. The tests of
+//! whole runs alter them. Nothing here runs.
 
-/// A list, its export file and the components of the package p: a class with one static method f(S)S, which adds 1. No class file is
-/// read, and neither is Applet, which stands there though Directory has no size for it.
+/// A list, its export file and the components of the package p: a class with one static method f(S)S, which
+/// adds 1. No class file is read, and neither is Applet, which stands there though Directory has no size for
+/// it.
 pub(crate) const FILES: [(&[u8], &[u8]); 13] = [
     (
         b"list",
@@ -53,8 +54,8 @@ pub(crate) const FILES: [(&[u8], &[u8]); 13] = [
     ),
 ];
 
-/// A file by its name, an offset, and the bytes from there on; what stood behind is kept where there are fewer, and cut where there
-/// are none.
+/// A file by its name, an offset, and the bytes from there on; what stood behind is kept where there are fewer,
+/// and cut where there are none.
 pub(crate) type Change = (&'static [u8], usize, &'static [u8]);
 
 /// The name of the list.
@@ -96,8 +97,8 @@ pub(crate) const EXPORT: &[u8] = b"out/Export.cap";
 /// The name of Descriptor's file.
 pub(crate) const DESCRIPTOR: &[u8] = b"out/Descriptor.cap";
 
-/// What gives the method a handler of its first instruction, with these bytes of the handler: the method stands at 9 then, and its
-/// code at 11.
+/// What gives the method a handler of its first instruction, with these bytes of the handler: the method stands
+/// at 9 then, and its code at 11.
 pub(crate) const fn handled(method: &'static [u8]) -> [Change; 4] {
     [
         (METHOD, 1, method),
@@ -117,8 +118,8 @@ pub(crate) const fn installed(offset: &'static [u8]) -> [Change; 4] {
     ]
 }
 
-/// What gives the class tables of one entry in all: the count of the public one, the base and the count of the package one, and the
-/// entry.
+/// What gives the class tables of one entry in all: the count of the public one, the base and the count of the
+/// package one, and the entry.
 pub(crate) const fn tabled(tables: &'static [u8]) -> [Change; 3] {
     [
         (DIRECTORY, 14, b"\x0E"),
@@ -144,8 +145,8 @@ pub(crate) const fn pooled(entry: &'static [u8]) -> [Change; 7] {
 const WITH_INTERFACE: &[u8] =
     b"\x00\xFA\xCA\xDE\x02\x02\x00\x0B\x01\x00\x09java/lang\x0D\x01\x00\x00\x00\x01\x07\xA0\x00\x00\x00b\x00\x01\x01\x00\x10java/lang/Object\x07\x00\x02\x01\x00\x06<init>\x01\x00\x03()V\x01\x00\x06equals\x01\x00\x15(Ljava/lang/Object;)Z\x01\x00\x0Bjava/lang/I\x07\x00\x08\x01\x00\x01m\x00\x01\x02\x00\x00\x01\x00\x03\x00\x00\x00\x00\x00\x00\x02\x00\x00\x01\x00\x04\x00\x05\x00\x00\x01\x00\x06\x00\x07\x01\x06\x01\x00\x09\x00\x00\x00\x00\x00\x00\x01\x00\x04\x01\x00\x0A\x00\x05";
 
-/// What lets the class implement java/lang/I, with this size of Class and this count and map of indices. The class has the virtual
-/// token 1, by a table of one entry.
+/// What lets the class implement java/lang/I, with this size of Class and this count and map of indices. The
+/// class has the virtual token 1, by a table of one entry.
 pub(crate) const fn implementing(size: &'static [u8], map: &'static [u8]) -> [Change; 9] {
     [
         (LANG, 0, WITH_INTERFACE),

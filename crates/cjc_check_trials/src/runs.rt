@@ -1,4 +1,5 @@
-//! What `check` prints, and how it ends.
+//! Runs of `check` in memory: the files as they are or with some bytes altered, the text that is printed, and
+//! the exit status.
 
 use crate::folders::{
     CLASS, Change, DESCRIPTOR, DIRECTORY, EXPORT, FILES, HEADER, IMPORT, LANG, LIST, LOCATIONS,
@@ -18,7 +19,8 @@ fn words_of(alloc: Global, words: &[&[u8]]) -> Result<Row<Bytes>, NoMemory> {
     Ok(row)
 }
 
-/// A file with the bytes from an offset on put in place of its own, and what is over put at its end; cut there where there are none.
+/// A file with the bytes from an offset on put in place of its own, and what is over put at its end; cut there
+/// where there are none.
 fn with_bytes(mut file: Vec<u8>, at: usize, bytes: &[u8]) -> Result<Vec<u8>, Fail> {
     if bytes.is_empty() {
         file.truncate(at);
@@ -184,7 +186,8 @@ fn tables_maps_pools_and_applets(rt: HostRuntime) -> Result<(), Fail> {
         // a token whose method the imported superclass has
         &tabled(b"\x01\x00\x00\xFF\xFF"),
         &implementing(b"\x12", b"\x01\x01"),
-        // equals of the superclass, as a method of the class and as one of its superclass; a constructor of an imported class
+        // equals of the superclass, as a method of the class and as one of its superclass; a constructor of an
+        // imported class
         &pooled(b"\x03\x00\x02\x00"),
         &pooled(b"\x04\x00\x02\x00"),
         &pooled(b"\x06\x80\x00\x00"),
@@ -211,7 +214,8 @@ fn tables_maps_pools_and_applets(rt: HostRuntime) -> Result<(), Fail> {
             &implementing(b"\x12", b"\x01\x02"),
             "refused 707 Class.cap - - 20\n",
         ),
-        // no instance field, virtual method, method of the superclass, cell, method start or static method of an imported class
+        // no instance field, virtual method, method of the superclass, cell, method start or static method of
+        // an imported class
         (
             &pooled(b"\x02\x00\x02\x00"),
             "refused 708 ConstantPool.cap - - 5\n",

@@ -72,8 +72,9 @@ fn judge(alloc: Global, folder: &Folder) -> Result<Todo, Status>
 ///
 /// # Errors
 ///
-/// A list that is refused; the first file that is absent, too long or can't be read; where all are read the first broken rule: of
-/// export files (104), else of components (106), else of what they say together (701 to 718); want of memory.
+/// A list that is refused; the first file that is absent, too long or can't be read; where all are read the
+/// first broken rule: of export files (104), else of components (106), else of what they say together (701 to
+/// 718); want of memory.
 pub fn gather_check<S: Shelf>(
     alloc: Global,
     name: &[u8],

@@ -1,4 +1,5 @@
-//! The infos of one class or interface. Called by `tree`.
+//! The info of one class or interface: its flags, superclass, tables of methods and implemented interfaces
+//! (Java Card Virtual Machine Specification 2.2.2, section 6.8). Called by `tree`.
 
 ghost use Rattle.std.specs.Prelude.{◌≡◌, ◌++◌, map, option_to_list, slice_get, IfOk, OnOk};
 ghost use Rattle.cjc_world.specs.Classes.{all_classes};

@@ -1,4 +1,5 @@
-//! The class_refs of all classes.
+//! The class_ref of each class of the package and of its export files: the offset of its info, which is counted
+//! here, or tokens. Called by whoever writes a class_ref by the name of a class.
 
 ghost use Rattle.std.specs.Prelude.{◌≡◌, map, IfOk};
 ghost use Rattle.cjc_world.specs.Classes.{all_classes};

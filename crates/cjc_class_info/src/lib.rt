@@ -1,6 +1,6 @@
-//! Class of a package, and class_refs: what names a class in its components (Java Card Virtual Machine Specification
-//! 2.2.2, sections 6.1 and 6.8). The converter calls it, and whoever writes a class_ref by the name of a class. It knows
-//! no instruction and no rule.
+//! Class of a package, and class_refs: what names a class in its components (Java Card Virtual Machine
+//! Specification 2.2.2, sections 6.1 and 6.8). The converter calls it, and whoever writes a class_ref by the
+//! name of a class. It knows no instruction and no rule.
 #![tactic(auto)]
 
 mod entries;

@@ -1,4 +1,5 @@
-//! The class_refs of the classes of export files: the number of the file, and the class's token there. Called by `infos`.
+//! The class_refs of the classes of export files: the number of the file, and the class's token there. Called
+//! by `infos`.
 
 ghost use Rattle.std.specs.Prelude.{◌≡◌, ℕ, List, option_map, IfOk, OnOk};
 ghost use Rattle.cjc_capread.specs.declared.tree.ClassRef.TheVariants.{Outside};

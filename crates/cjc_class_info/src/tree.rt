@@ -1,4 +1,5 @@
-//! Class of a package.
+//! The component Class of a package, put together from the infos that `entries` makes: interfaces first, then
+//! classes, each behind its superclass.
 
 ghost use Rattle.std.specs.Prelude.{◌≡◌, ◌++◌, map, option_to_list, IfOk, OnOk};
 ghost use Rattle.cjc_world.specs.Classes.{all_classes};
@@ -91,8 +92,8 @@ fn class_entries(
     Ok(entries)
 }
 
-/// Class of a package: interfaces before classes, and a super before its subs. Offsets of methods stand by the number of
-/// the class and by the place of the method there.
+/// Class of a package: interfaces before classes, and a super before its subs. Offsets of methods stand by the
+/// number of the class and by the place of the method there.
 pub fn class_info(
     alloc: Global,
     world: &World<'_>,

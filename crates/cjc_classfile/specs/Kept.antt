@@ -1,4 +1,4 @@
--- An entry as the code keeps it.
+-- Entries of the constant pool as the code keeps them, and the entries of the definitions that these are.
 use Rattle.cjc_classfile.specs.declared.pool.EntryKind.{EntryKind}
 use Rattle.cjc_classfile.specs.declared.pool.EntryKind.TheVariants as kinds
 use Rattle.cjc_classfile.specs.Entry.{Entry, text, integer, float, wide, class, string, field, method, interface_method, name_and_type, other}

@@ -1,4 +1,5 @@
-//! Whole class files.
+//! A class file from its magic number to its last attribute, in the order of the ClassFile structure (Java
+//! Virtual Machine Specification, section 4.1). What the crate is called for.
 
 ghost use Rattle.std.specs.Prelude.{◌≡◌, ◌<◌, ◌^◌, ◌⊎◌, ℕ, List, length, IfOk, IfErr};
 ghost use Rattle.cjc_bytes.specs.Format.{repeated, FileSpells, FileBreaks};

@@ -1,4 +1,5 @@
-//! Methods (Java Virtual Machine Specification, section 4.6).
+//! The methods of a class file with their attributes, Code among them (Java Virtual Machine Specification,
+//! sections 4.6 and 4.7.3). Called by `class`.
 
 ghost use Rattle.std.specs.Prelude.{◌≡◌, None};
 ghost use Rattle.cjc_bytes.specs.Format.{iterated, repeated};

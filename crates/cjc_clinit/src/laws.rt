@@ -1,4 +1,5 @@
-//! What the definitions of this crate come to. Nothing here runs.
+//! Laws of initialisers and static images for other crates: what is an initialiser, what it puts, and where it
+//! is refused. Nothing here runs.
 
 ghost use Rattle.std.specs.Prelude.{◌≡◌, ◌⊎◌, ◌∷◌, ◌++◌, [], ℕ, List, pos, negsuc, codes, true, false};
 ghost use Rattle.cjc_classfile.specs.declared.tree.ClassTree.{ClassTree};

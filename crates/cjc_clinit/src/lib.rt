@@ -1,5 +1,5 @@
-//! What the initialisers of a package do: the static image, and rule 308 (Java Card Virtual Machine Specification 2.2.2,
-//! section 6.10). It knows no token and no machine.
+//! What the initialisers of a package do: the static image, and rule 308 (Java Card Virtual Machine
+//! Specification 2.2.2, section 6.10). It knows no token and no machine.
 #![tactic(auto)]
 
 mod breaks;

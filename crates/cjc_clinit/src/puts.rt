@@ -55,7 +55,8 @@ fn open_in(class: &ClassTree<'_>, fields: &[Held], place: u32) -> Option<u32>
     }
 }
 
-/// The place of the field that an instruction of a class names: one of its own that has a cell, into which nothing was put.
+/// The place of the field that an instruction of a class names: one of its own that has a cell, into which
+/// nothing was put.
 #[tactic(auto, unfolding(crate::specs::Initialiser::open_place))]
 fn open_place(
     world: &World<'_>,
@@ -168,8 +169,8 @@ fn is_ended(stage: &Stage) -> bool
     }
 }
 
-/// Reads an initialiser of a class. The offset of the first instruction with which it is none, or of its code where its return
-/// is missing.
+/// Reads an initialiser of a class. The offset of the first instruction with which it is none, or of its code
+/// where its return is missing.
 fn read(
     alloc: Global,
     world: &World<'_>,

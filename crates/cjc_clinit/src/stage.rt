@@ -1,4 +1,5 @@
-//! What an initialiser has put so far, and how far it is in a statement.
+//! The state of going through an initialiser: what it has put into each field, and how far it is in a
+//! statement, an array under way with its items so far.
 
 use cjc_bytes::{Kind, Row};
 

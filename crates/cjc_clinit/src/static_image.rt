@@ -1,4 +1,5 @@
-//! The static image of a package, and the test of rule 308.
+//! The static image of a package from what the initialisers of all its classes put, each field in its group, or
+//! the first of them that breaks rule 308. What the crate is called for.
 
 ghost use Rattle.std.specs.Prelude.{◌≡◌, [], map, slice_get, Some, Ok, IfErr, IfOk, OnOk, option_map};
 ghost use Rattle.cjc_bytes.specs.Breaks.{Break as Broken};
@@ -192,8 +193,8 @@ fn image_after(
 
 // ---- a package
 
-/// What of rule 308 a package breaks first, with its place in the order of refusals, for whoever tests further rules of the
-/// same hundred. `codes` has the instructions of the methods that have some.
+/// What of rule 308 a package breaks first, with its place in the order of refusals, for whoever tests further
+/// rules of the same hundred. `codes` has the instructions of the methods that have some.
 pub fn first_broken<'w>(
     alloc: Global,
     world: &'w World<'_>,
@@ -206,8 +207,8 @@ pub fn first_broken<'w>(
     image_break(alloc, world, codes.items(), &mut rows, &mut arrays)
 }
 
-/// What the static fields of a package hold after its initialisers. A refusal is the first of what is broken of rule 308.
-/// `codes` has the instructions of the methods that have some.
+/// What the static fields of a package hold after its initialisers. A refusal is the first of what is broken of
+/// rule 308. `codes` has the instructions of the methods that have some.
 pub fn image(alloc: Global, world: &World<'_>, codes: &Codes) -> Result<StaticImage, Fault>
     ensures made { IfOk result (IsImage world.now codes.now) }
     ensures unbroken { OnOk result ((b : Broken) → BreaksImage world.now codes.now b → ⊥) }

@@ -1,4 +1,4 @@
--- The numbers of an instruction.
+-- Operands of an instruction read as what they are: unsigned or signed, of one byte or two, a local.
 use Rattle.std.specs.Prelude.{ℕ, nat_lt, if◌then◌else◌, List, [], ◌∷◌, Option, Some, None, ℤ, pos, negsuc, ◌+ℤ◌}
 use Rattle.cjc_code.specs.declared.table.Family.{Family}
 use Rattle.cjc_code.specs.declared.table.Family.TheVariants as family

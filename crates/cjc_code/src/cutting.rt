@@ -1,4 +1,5 @@
-//! Cutting a code into its instructions.
+//! A code cut into opcodes with their operands as numbers, with the padding and the tails of switches, up to
+//! the first place where no instruction stands. No index and no jump is looked at yet.
 
 ghost use Rattle.std.specs.Prelude.{◌≡◌, ◌<◌, ◌≤◌, length, IfOk, pos, ◌+ℤ◌, ◌-ℤ◌};
 ghost use Rattle.std.specs.Int.{w8};

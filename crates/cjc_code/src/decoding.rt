@@ -1,4 +1,5 @@
-//! The instructions of a method.
+//! From the code of a method to its instructions, or the first place that breaks rule 103 or 303: cut, tested,
+//! then named. What the crate is called for.
 
 ghost use Rattle.std.specs.Prelude.{◌≡◌, ◌≤◌, ◌<◌, ◌^◌, List, length, IfOk, IfErr, Ok, Err};
 ghost use Rattle.cjc_bytes.specs.Refused.{IsUnlessNoMemory};

@@ -1,4 +1,5 @@
-//! Instructions by name.
+//! Instructions as the crates above see them: no constant pool index is left, a field, a method or a class
+//! stands by its name, and a jump by the offset of its target.
 
 use cjc_bytes::{Bytes, MemberId, Row};
 

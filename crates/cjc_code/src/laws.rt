@@ -1,4 +1,5 @@
-//! What the definitions of this crate come to.
+//! Laws of cutting and decoding for other crates: codes are cut in one way, refusals and instructions are what
+//! the definitions say, and samples. Nothing here runs.
 
 ghost use Rattle.std.specs.Prelude.{◌≡◌, ◌<◌, ◌↔◌, true, List, Some, None, Ok, Err, ℕ, map, slice_get};
 ghost use Rattle.cjc_code.specs.declared.raw.Cut.{Cut as Parts};

@@ -1,4 +1,5 @@
-//! The instructions of the methods of a package.
+//! `MethodCode`, the instructions of one method, and `Codes`, those of all methods of a package in one order.
+//! Rules, inference and writing all read these.
 
 use crate::insn::JInsn;
 use cjc_bytes::Row;

@@ -1,4 +1,5 @@
-//! The numbers of an instruction.
+//! The numbers that stand behind an opcode, read as what they are: unsigned or signed, of one byte or two, a
+//! local. It knows no constant pool.
 
 ghost use Rattle.std.specs.Prelude.{◌≡◌};
 ghost use Rattle.cjc_code.specs.Numbers.{first as first_lem, second as second_lem, u16_of as u16_of_lem, u8_of as u8_of_lem, i16_of as i16_of_lem, local as local_lem};

@@ -1,4 +1,5 @@
-//! Instructions as numbers, before their names are looked up.
+//! Instructions as an opcode and numbers, as cutting leaves them. Rule 103 is tested on these; names are looked
+//! up behind it.
 
 use crate::table::Family;
 use cjc_bytes::Row;

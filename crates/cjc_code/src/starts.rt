@@ -1,4 +1,4 @@
-//! Where the instructions of a code start.
+//! Whether the jumps and switches of a cut code lead to the starts of instructions, as rule 103 asks.
 
 ghost use Rattle.std.specs.Prelude.{◌≡◌, length, IfOk, nat_lt, if◌then◌else◌, slice_set, true};
 ghost use Rattle.std.specs.List.{list_all};

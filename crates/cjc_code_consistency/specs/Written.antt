@@ -1,4 +1,4 @@
--- Methods that bytes can say.
+-- Which laid out methods have numbers that the bytes of Method can say, wherever they stand.
 use Rattle.std.specs.Prelude.{◌≡◌, ℕ, List, slice_get, Some}
 use Rattle.cjc_lower.specs.Naming.{Naming}
 use Rattle.cjc_emit.specs.Emitted.{CanBeWritten, placed_at}

@@ -1,5 +1,6 @@
-//! What the instructions of a package's narrow code name, by the class file's instructions that they are written for. For
-//! whoever promises that what code names is there. It has definitions and laws alone; nothing here runs.
+//! What the instructions of a package's narrow code name, by the class file's instructions that they are
+//! written for. For whoever promises that what code names is there. It has definitions and laws alone; nothing
+//! here runs.
 #![tactic(auto)]
 
 ghost use Rattle.std.specs.Prelude.{◌≡◌, ℕ, List, Some, flat_map, slice_get};

@@ -63,9 +63,9 @@ pub fn made_methods_are_consistent()
     ensures kinds { (n : Naming) (files : Files) (ms : List LaidMethod) → AllAreMade n files ms → AllHaveKinds ms }
 {}
 
-/// What is written for a method comes to its code as a package's does: one that its class got, or that has no code in its
-/// class file, has none; of any other it is what is selected by its least type table, where a look-up of its own name
-/// finds it and bytes can say it.
+/// What is written for a method comes to its code as a package's does: one that its class got, or that has no
+/// code in its class file, has none; of any other it is what is selected by its least type table, where a
+/// look-up of its own name finds it and bytes can say it.
 pub fn written_methods_are_made()
     ensures added { (n : Naming) (files : Files) (near : List Member) (rows : Method → List (Option Before)) (m : LaidMethod) → IsWritten files near rows m → method_at files m.member ≡ None → IsMade n files m }
     ensures without_code { (n : Naming) (files : Files) (near : List Member) (rows : Method → List (Option Before)) (m : LaidMethod) → IsWritten files near rows m

@@ -1,4 +1,5 @@
-//! A method's layout with its bytes.
+//! What the rows of the tests compare: a method's layout and the bytes that are emitted at it, from a method
+//! that names nothing in the pool.
 
 ghost use Rattle.std.specs.Prelude.{IfOk};
 ghost use Rattle.cjc_layout.specs.Layouts.{IsLayout};

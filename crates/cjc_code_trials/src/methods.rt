@@ -1,4 +1,5 @@
-//! Methods made by hand.
+//! Narrow methods made by hand for the rows of the tests: long ones with far jumps, jumps at the edge of their
+//! forms, switches, handlers.
 
 #[cfg(test)]
 use cjc_bytes::Bytes;

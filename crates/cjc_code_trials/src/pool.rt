@@ -1,4 +1,5 @@
-//! A pool for methods that name nothing.
+//! A pool without entries: the look-ups of emitting answer nothing, for test methods that name no member and no
+//! class.
 
 ghost use Rattle.std.specs.Prelude.{[], None};
 

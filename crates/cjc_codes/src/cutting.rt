@@ -1,5 +1,5 @@
-//! The methods of Method, cut by the counts of Descriptor into headers and whole instructions (Java Card Virtual Machine Specification
-//! 2.2.2, section 6.9.2). Whoever tests code calls it once.
+//! The methods of Method, cut by the counts of Descriptor into headers and whole instructions (Java Card
+//! Virtual Machine Specification 2.2.2, section 6.9.2). Whoever tests code calls it once.
 
 ghost use Rattle.std.specs.Prelude.{◌≡◌, ℕ, ◌+◌, ◌-◌, ◌*◌, ◌<◌, ◌≤◌, ◌∷◌, ◌^◌, IfOk, List, Result, drop, length};
 ghost use Rattle.cjc_capread.specs.declared.tree.MethodDescriptor.{MethodDescriptor as Described};
@@ -25,7 +25,8 @@ use std::alloc::Global;
 /// The tag of Method.
 const METHOD: u8 = 7;
 
-/// The codes of methods, or the offset where a method does not stand, or is cut or no whole instructions, or is left over.
+/// The codes of methods, or the offset where a method does not stand, or is cut or no whole instructions, or is
+/// left over.
 #[derive(Drop)]
 pub enum Cutting<'a> {
     Whole(Row<Body<'a>>),

@@ -1,5 +1,5 @@
-//! The methods of Method as code: cut into headers and instructions by the counts of Descriptor, once, for the tests of sentences on
-//! code. It knows of other components only what Descriptor says of methods.
+//! The methods of Method as code: cut into headers and instructions by the counts of Descriptor, once, for the
+//! tests of sentences on code. It knows of other components only what Descriptor says of methods.
 #![tactic(auto)]
 
 mod code;

@@ -1,5 +1,5 @@
-//! What Descriptor says of the methods of classes, one behind the other (Java Card Virtual Machine Specification 2.2.2, section 6.13).
-//! Called by `cutting`.
+//! What Descriptor says of the methods of classes, one behind the other (Java Card Virtual Machine
+//! Specification 2.2.2, section 6.13). Called by `cutting`.
 
 ghost use Rattle.std.specs.Prelude.{◌≡◌, ◌++◌, IfOk, OnOk};
 ghost use Rattle.cjc_codes.specs.Working.Steps.{methods_of, methods_of_all};

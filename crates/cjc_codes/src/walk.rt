@@ -1,5 +1,5 @@
-//! The instructions at the front of bytes, one behind the other (Java Card Virtual Machine Specification 2.2.2, chapter 7). Called by
-//! `cut`.
+//! The instructions at the front of bytes, one behind the other (Java Card Virtual Machine Specification 2.2.2,
+//! chapter 7). Called by `cut`.
 
 ghost use Rattle.std.specs.Prelude.{◌≡◌, ◌+◌, ◌<◌, ◌≤◌, ◌^◌, IfOk, length};
 ghost use Rattle.cjc_codes.specs.Working.Steps.{IsWalk, walk_of};

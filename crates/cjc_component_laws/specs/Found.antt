@@ -1,4 +1,4 @@
--- Classes that some file has.
+-- Whether a class of a name is in some file, of the package or imported.
 use Rattle.std.specs.Prelude.{◌≡◌, ℕ, List, true, is_some, option_map}
 use Rattle.cjc_card.specs.Classes.{Own, foreign_from, or_else}
 use Rattle.cjc_components.specs.Package.{Package}

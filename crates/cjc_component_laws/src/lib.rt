@@ -1,5 +1,5 @@
-//! What is written for a package is consistent: which sentences on components hold of all that the definitions of components give,
-//! one law a sentence. The converter's promise rests on them. Nothing here runs.
+//! What is written for a package is consistent: which sentences on components hold of all that the definitions
+//! of components give, one law a sentence. The converter's promise rests on them. Nothing here runs.
 #![tactic(auto)]
 
 ghost use Rattle.std.specs.Prelude.{◌≡◌, ℕ, List, [], true};
@@ -34,13 +34,14 @@ pub fn imports_are_export_files()
     ensures { (p : Package) → import_spots (import p) (let files = p.files in files.exports) ≡ [] }
 {}
 
-/// The size of the static image is that of its cells, it has no more arrays than references, and arrays have whole elements.
+/// The size of the static image is that of its cells, it has no more arrays than references, and arrays have
+/// whole elements.
 pub fn static_image_adds_up()
     ensures { (image : Image) → image_spots (static_field image) ≡ [] }
 {}
 
-/// Descriptor has each class and interface once, in the order of Class, at the start of its info: where no two classes of the package
-/// have one name.
+/// Descriptor has each class and interface once, in the order of Class, at the start of its info: where no two
+/// classes of the package have one name.
 pub fn descriptor_classes_are_in_order()
     ensures { (p : Package) → HaveOwnNames (class_order (world p)) → (let d = descriptor p in classes_in_order d.classes (all_starts (class_info (class_ref p) p))) ≡ [] }
 {}

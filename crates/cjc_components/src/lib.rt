@@ -1,6 +1,7 @@
-//! The components and the export file of a package, each as it is written: trees over the list, the class files and export files,
-//! tokens, class tables, the static image, and narrow code with its layout. The converter says by them what it writes. They know
-//! no rule that a package breaks, and not how code is chosen. Nothing here runs.
+//! The components and the export file of a package, each as it is written: trees over the list, the class files
+//! and export files, tokens, class tables, the static image, and narrow code with its layout. The converter
+//! says by them what it writes. They know no rule that a package breaks, and not how code is chosen. Nothing
+//! here runs.
 #![tactic(auto)]
 
 ghost use Rattle.std.specs.Prelude.{◌≡◌, map, length};

@@ -1,6 +1,6 @@
-//! The conversion of a package: of its list and the files that it names into the bytes of its component files and of its export
-//! file, with what these promise, or the first broken rule. Called by the command `convert`; it knows no rule and no format, and
-//! how files are written is of the crates below.
+//! The conversion of a package: of its list and the files that it names into the bytes of its component files
+//! and of its export file, with what these promise, or the first broken rule. Called by the command `convert`;
+//! it knows no rule and no format, and how files are written is of the crates below.
 #![tactic(auto)]
 
 mod conversion;

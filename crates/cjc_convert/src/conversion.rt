@@ -1,5 +1,5 @@
-//! What is written for a package, or the first broken rule. The trees of the components are let go as soon as their files are
-//! made; what was read of the package's files stands until the end.
+//! What is written for a package, or the first broken rule. The trees of the components are let go as soon as
+//! their files are made; what was read of the package's files stands until the end.
 
 ghost use Rattle.std.specs.Prelude.{◌≡◌, ◌⊎◌, ◌≤◌, ◌^◌, ℕ, [], List as Items, length, All, IfOk, IfErr};
 ghost use Rattle.cjc_bytes.specs.Format.{FileSpells};
@@ -91,8 +91,8 @@ fn judged_files(alloc: Global, list: &List, judged: &Judged<'_>) -> Result<Conve
 ///
 /// # Errors
 ///
-/// The first rule that the files break: 101 to 104, else one of 201 to 208, 301 to 310, 401 to 409 and 413, 501 to 503, 601 to
-/// 609; where they break none, 417; else 311, 414 or 415; else 411 or 416.
+/// The first rule that the files break: 101 to 104, else one of 201 to 208, 301 to 310, 401 to 409 and 413, 501
+/// to 503, 601 to 609; where they break none, 417; else 311, 414 or 415; else 411 or 416.
 pub fn assemble(alloc: Global, list: &List, files: &Row<Bytes>) -> Result<Converted, Fault>
     requires read { IsRead list.now }
     requires count { length files.now ≡ length list.now.lines }

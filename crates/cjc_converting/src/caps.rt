@@ -1,4 +1,5 @@
-//! The components of a package that is laid out.
+//! All components from methods that are laid out: the pool, Method, ReferenceLocation and then the rest. Called
+//! by `conversion`.
 
 ghost use Rattle.std.specs.Prelude.{◌≡◌, ℕ, List as Items, length, map, IfOk};
 ghost use Rattle.cjc_components.specs.Components.{components_of, method, reference_location};

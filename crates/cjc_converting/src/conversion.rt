@@ -1,5 +1,5 @@
-//! What a package is made of on the way from its list and its files to its components, or the first broken rule: its files judged,
-//! and the components of a package that is laid out.
+//! What a package is made of on the way from its list and its files to its components, or the first broken
+//! rule: its files judged, and the components of a package that is laid out.
 
 ghost use Rattle.std.specs.Prelude.{◌≡◌, ◌≤◌, ◌^◌, ℕ, [], List as Items, length, All, IfOk, IfErr};
 ghost use Rattle.cjc_components.specs.Components.{components_of};
@@ -22,11 +22,13 @@ use cjc_writing_laws::aids_are_short;
 use cjc_written_laws::static_images_fit;
 use std::alloc::Global;
 
-/// What the files of a list say, which these are in list order and of 512 MiB at most, where they break no rule of files.
+/// What the files of a list say, which these are in list order and of 512 MiB at most, where they break no rule
+/// of files.
 ///
 /// # Errors
 ///
-/// The first rule that they break: 101 to 104, else one of 201 to 208, 301 to 310, 401 to 409 and 413, 501 to 503, 601 to 609.
+/// The first rule that they break: 101 to 104, else one of 201 to 208, 301 to 310, 401 to 409 and 413, 501 to
+/// 503, 601 to 609.
 pub fn judge_files<'a>(
     alloc: Global,
     list: &List,
@@ -93,8 +95,8 @@ fn judged_components(alloc: Global, list: &List, judged: &Judged<'_>) -> Result<
 ///
 /// # Errors
 ///
-/// The first rule that the files break: 101 to 104, else one of 201 to 208, 301 to 310, 401 to 409 and 413, 501 to 503, 601 to
-/// 609; where they break none, 417; else 311, 414 or 415; else 411 or 416.
+/// The first rule that the files break: 101 to 104, else one of 201 to 208, 301 to 310, 401 to 409 and 413, 501
+/// to 503, 601 to 609; where they break none, 417; else 311, 414 or 415; else 411 or 416.
 pub fn components_of_files(alloc: Global, list: &List, files: &Row<Bytes>) -> Result<CapTree, Fault>
     requires read { IsRead list.now }
     requires count { length files.now ≡ length list.now.lines }

@@ -1,4 +1,4 @@
-//! Rules 411 and 416, of a package whose components these are.
+//! Rules 411 and 416 on components that are made, before anything is written. Called by `conversion`.
 
 ghost use Rattle.std.specs.Prelude.{◌≡◌, [], sum_by, IfErr, OnOk};
 ghost use Rattle.cjc_bytes.specs.Breaks.{IsFirstRefusal};

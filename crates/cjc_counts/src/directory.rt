@@ -1,4 +1,5 @@
-//! Directory says the sizes of the components and counts what is in them (Java Card Virtual Machine Specification 2.2.2, section 6.4).
+//! Directory says the sizes of the components and counts what is in them (Java Card Virtual Machine
+//! Specification 2.2.2, section 6.4).
 
 ghost use Rattle.std.specs.Prelude.{◌≡◌, ◌+◌, ◌<◌, ◌^◌, Some};
 ghost use Rattle.cjc_sentences.specs.Complete.{IsSmall, size_items, size_of, statics_size};
@@ -121,8 +122,8 @@ fn applets_spot(tree: &CapTree) -> Option<Spot>
     )
 }
 
-/// Where 701 is broken first: the item of Directory that is not what the components have, or the size of one that may not be
-/// absent. A component with its tag and size has fewer than 2^32 bytes.
+/// Where 701 is broken first: the item of Directory that is not what the components have, or the size of one
+/// that may not be absent. A component with its tag and size has fewer than 2^32 bytes.
 #[tactic(auto, using(cjc_sentences::proofs::Firsts::first_append))]
 pub fn directory_spot(tree: &CapTree) -> Option<Spot>
     requires { IsSmall tree.now }

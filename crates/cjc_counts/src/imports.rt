@@ -1,4 +1,5 @@
-//! Import names the export files (Java Card Virtual Machine Specification 2.2.2, sections 4.5.2 and 6.6). It knows no other component.
+//! Import names the export files (Java Card Virtual Machine Specification 2.2.2, sections 4.5.2 and 6.6). It
+//! knows no other component.
 
 ghost use Rattle.std.specs.Prelude.{◌≡◌, ◌+◌, ◌<◌, ◌^◌};
 ghost use Rattle.cjc_sentences.specs.Complete.{import_size};

@@ -1,5 +1,6 @@
-//! The tests of sentences that look nothing up: sizes and counts of Directory, flags of Header, imported packages, stop bits, and the
-//! static field image. Whoever tests components calls them. It knows no class_ref and no code.
+//! The tests of sentences that look nothing up: sizes and counts of Directory, flags of Header, imported
+//! packages, stop bits, and the static field image. Whoever tests components calls them. It knows no class_ref
+//! and no code.
 #![tactic(auto)]
 
 mod directory;

@@ -1,5 +1,5 @@
-//! The flags of Header say which components are there (Java Card Virtual Machine Specification 2.2.2, section 6.3). It knows no
-//! other component.
+//! The flags of Header say which components are there (Java Card Virtual Machine Specification 2.2.2, section
+//! 6.3). It knows no other component.
 
 ghost use Rattle.std.specs.Prelude.{◌≡◌, ◌&&◌, is_some};
 ghost use Rattle.cjc_bytes.specs.AccessFlags.{has};

@@ -1,4 +1,5 @@
-//! The static field image adds up (Java Card Virtual Machine Specification 2.2.2, section 6.10). It knows StaticField alone.
+//! The static field image adds up (Java Card Virtual Machine Specification 2.2.2, section 6.10). It knows
+//! StaticField alone.
 
 ghost use Rattle.std.specs.Prelude.{◌≡◌, ◌+◌, ◌*◌, ◌<◌, ◌^◌, ◌==◌, nat_le, length, sum_by};
 ghost use Rattle.cjc_sentences.specs.Complete.{array_size, statics_size};

@@ -1,4 +1,4 @@
--- What a decoded instruction stands for.
+-- What decoded operands and tables are as numbers.
 use Rattle.std.specs.Prelude.{◌≡◌, ℕ, ◌+◌, ◌*◌, ◌≤◌, ◌^◌, List, [], ◌∷◌, length, Option, Some, None, if◌then◌else◌, ℤ}
 use Rattle.cjc_capread.specs.Opcodes.{Form, form, widths}
 use Rattle.cjc_capread.specs.Decode.{Instruction, Front, signed, in_table, is_whole, operands_of, size}

@@ -1,4 +1,5 @@
-//! The header of a method (Java Card Virtual Machine Specification 2.2.2, section 6.9.2). Whoever reads methods calls it.
+//! The header of a method (Java Card Virtual Machine Specification 2.2.2, section 6.9.2). Whoever reads methods
+//! calls it.
 
 ghost use Rattle.std.specs.Prelude.{◌≡◌, ◌≤◌, IfSome, length, option_map};
 ghost use Rattle.cjc_capread.specs.MethodHeader.{is_abstract, is_extended, method_header};

@@ -1,4 +1,5 @@
-//! An instruction at the front of bytes (Java Card Virtual Machine Specification 2.2.2, chapter 7). Whoever reads code calls it.
+//! An instruction at the front of bytes (Java Card Virtual Machine Specification 2.2.2, chapter 7). Whoever
+//! reads code calls it.
 
 ghost use Rattle.std.specs.Prelude.{◌≡◌, IfSome, option_map};
 ghost use Rattle.cjc_capread.specs.Decode.{decode};
@@ -20,8 +21,8 @@ pub struct Insn<'a> {
     pub size: usize,
 }
 
-/// The instruction at the front of bytes; `None` exactly where there is no such opcode, the bytes end in it, a low match is
-/// above the high one, or matches do not ascend.
+/// The instruction at the front of bytes; `None` exactly where there is no such opcode, the bytes end in it, a
+/// low match is above the high one, or matches do not ascend.
 pub fn decode(bytes: &[u8]) -> Option<Insn<'_>>
     ensures is { option_map instruction_of result ≡ decode bytes.now }
     ensures front { IfSome result (λ i. IsAtFront i bytes.now) }

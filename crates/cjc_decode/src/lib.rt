@@ -1,5 +1,5 @@
-//! The code of methods as the card reads it: the instruction at the front of bytes, with its operands and the table of a switch, and
-//! a method's header. Whoever reads the bytes of Method calls it. It knows no component.
+//! The code of methods as the card reads it: the instruction at the front of bytes, with its operands and the
+//! table of a switch, and a method's header. Whoever reads the bytes of Method calls it. It knows no component.
 #![tactic(auto)]
 
 mod header;

@@ -1,5 +1,5 @@
-//! Where the cells of static fields are in the static image (Java Card Virtual Machine Specification 2.2.2, section 6.10).
-//! Called by whoever names static fields. It knows no class and no token.
+//! Where the cells of static fields are in the static image (Java Card Virtual Machine Specification 2.2.2,
+//! section 6.10). Called by whoever names static fields. It knows no class and no token.
 
 ghost use Rattle.std.specs.Prelude.{◌≡◌, ◌+◌, [], map, IfOk, OnOk};
 ghost use Rattle.std.specs.Cmp.{partial_equiv_from_equiv};
@@ -198,8 +198,8 @@ fn offsets_in<'a>(
     Ok(row)
 }
 
-/// The offset of the cell of each static field by the number of its class and its own, in bytes; of a field without a cell,
-/// where the image ends.
+/// The offset of the cell of each static field by the number of its class and its own, in bytes; of a field
+/// without a cell, where the image ends.
 pub fn cell_offsets(
     alloc: Global,
     image: &StaticImage,
@@ -230,8 +230,8 @@ fn offsets_at<'a>(
     Ok(row)
 }
 
-/// The offset of the cell of the static field of each key, in bytes; of a field without a cell, where the image ends. 0 of a
-/// key of another kind.
+/// The offset of the cell of the static field of each key, in bytes; of a field without a cell, where the image
+/// ends. 0 of a key of another kind.
 pub fn key_cells(alloc: Global, image: &StaticImage, keys: &[PoolKey]) -> Result<Row<u64>, NoMemory>
     ensures { IfOk result (λ row. row ≡ map (key_cell (cell_offset image.now)) keys.now) }
 {

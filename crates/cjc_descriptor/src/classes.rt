@@ -1,5 +1,5 @@
-//! Descriptor: the classes of a package with their members, and types (Java Card Virtual Machine Specification 2.2.2, section
-//! 6.13). Called by whoever puts components together. It knows no code and no order of its own.
+//! Descriptor: the classes of a package with their members, and types (Java Card Virtual Machine Specification
+//! 2.2.2, section 6.13). Called by whoever puts components together. It knows no code and no order of its own.
 
 ghost use Rattle.std.specs.Prelude.{◌≡◌, ◌++◌, map, unwrap_or, IfOk, OnOk};
 ghost use Rattle.std.specs.List.{flat_map};

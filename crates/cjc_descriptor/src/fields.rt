@@ -1,4 +1,5 @@
-//! The fields of a class in Descriptor (Java Card Virtual Machine Specification 2.2.2, section 6.13.2). Called by `classes`.
+//! The fields of a class in Descriptor (Java Card Virtual Machine Specification 2.2.2, section 6.13.2). Called
+//! by `classes`.
 
 ghost use Rattle.std.specs.Prelude.{◌≡◌, ◌++◌, ◌<◌, ◌^◌, length, IfOk, OnOk};
 ghost use Rattle.cjc_script.specs.Sorts.{field_sort};

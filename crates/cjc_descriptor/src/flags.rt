@@ -1,5 +1,5 @@
-//! The flags of Descriptor (Java Card Virtual Machine Specification 2.2.2, sections 6.13.1 to 6.13.3) by those of class files.
-//! Called by `fields`, `methods` and `classes`.
+//! The flags of Descriptor (Java Card Virtual Machine Specification 2.2.2, sections 6.13.1 to 6.13.3) by those
+//! of class files. Called by `fields`, `methods` and `classes`.
 
 ghost use Rattle.std.specs.Prelude.{◌≡◌, ◌+◌, ◌≤◌, codes, if◌then◌else◌};
 ghost use Rattle.cjc_bytes.specs.AccessFlags.{acc_abstract};

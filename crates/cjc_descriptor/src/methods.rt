@@ -1,4 +1,5 @@
-//! The methods of a class in Descriptor (Java Card Virtual Machine Specification 2.2.2, section 6.13.3). Called by `classes`.
+//! The methods of a class in Descriptor (Java Card Virtual Machine Specification 2.2.2, section 6.13.3). Called
+//! by `classes`.
 
 ghost use Rattle.std.specs.Prelude.{◌≡◌, ◌+◌, ◌++◌, ◌<◌, ◌^◌, length, IfOk, OnOk};
 ghost use Rattle.cjc_descriptor.specs.Working.Described.{added_at, inputs_of, method_by, method_if, methods_at, own_methods_at};

@@ -36,8 +36,8 @@ pub struct Parts<'a> {
     pub keys: &'a [PoolKey],
     /// By the number of a class and of its field the offset of the field's cell.
     pub cells: &'a [Row<u64>],
-    /// By the number of a class and of its member where a method stands in Method. Fields are counted first, then methods, then
-    /// those that the class got.
+    /// By the number of a class and of its member where a method stands in Method. Fields are counted first,
+    /// then methods, then those that the class got.
     pub extents: &'a [Row<Extent>],
     pub types: &'a Types,
 }

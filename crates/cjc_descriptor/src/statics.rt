@@ -1,5 +1,5 @@
-//! StaticField: the static image as it is written (Java Card Virtual Machine Specification 2.2.2, section 6.10). Called by
-//! whoever puts components together. It knows no class and no token.
+//! StaticField: the static image as it is written (Java Card Virtual Machine Specification 2.2.2, section
+//! 6.10). Called by whoever puts components together. It knows no class and no token.
 
 ghost use Rattle.std.specs.Prelude.{◌≡◌, ◌+◌, ◌*◌, ◌++◌, [], true, map, length, sum_by, IfOk, OnOk, All};
 ghost use Rattle.std.specs.List.{flat_map};

@@ -1,4 +1,5 @@
-//! Applet: the applets of the list with their install methods.
+//! Applet: of each applet line its AID and the offset of its install method, found from the class that the line
+//! names (Java Card Virtual Machine Specification 2.2.2, section 6.5).
 
 ghost use Rattle.std.specs.Prelude.{◌≡◌, codes, map, IfOk};
 ghost use Rattle.cjc_world.specs.Classes.{all_classes};
@@ -76,8 +77,8 @@ fn applet_entries(
     Ok(entries)
 }
 
-/// Applet of a package, in the order of the list; None where the list has no applet line. Offsets of methods stand by the
-/// number of the class and by the place of the method there.
+/// Applet of a package, in the order of the list; None where the list has no applet line. Offsets of methods
+/// stand by the number of the class and by the place of the method there.
 pub fn applet(
     alloc: Global,
     world: &World<'_>,

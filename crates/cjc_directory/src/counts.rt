@@ -1,4 +1,5 @@
-//! Directory: sizes and counts.
+//! Directory: the size of each component, which its caller has, and the counts that are read off the components
+//! themselves (Java Card Virtual Machine Specification 2.2.2, section 6.4).
 
 ghost use Rattle.std.specs.Prelude.{◌≡◌, IfOk};
 ghost use Rattle.cjc_sentences.specs.Listed.{applet_count, array_bytes};

@@ -1,4 +1,5 @@
-//! Header: the package by its name, version and AID.
+//! Header: flags, version, AID and name of the package (Java Card Virtual Machine Specification 2.2.2, section
+//! 6.3).
 
 ghost use Rattle.std.specs.Prelude.{◌≡◌, ◌≤◌, if◌then◌else◌, nat_lt, length, IfOk};
 ghost use Rattle.cjc_components.specs.Package.{Package, world};

@@ -1,4 +1,5 @@
-//! Import: the packages of the export files.
+//! Import: of each export file of the list its package, by version and AID, in the order of the list (Java Card
+//! Virtual Machine Specification 2.2.2, section 6.6).
 
 ghost use Rattle.std.specs.Prelude.{◌≡◌, map, IfOk};
 ghost use Rattle.cjc_components.specs.Package.{Package};

@@ -1,5 +1,6 @@
-//! Header, Applet, Import and Directory of a package (Java Card Virtual Machine Specification 2.2.2, sections 6.3 to 6.6). The
-//! converter calls it. It knows no class but by its name, and no size: whoever calls it has them.
+//! Header, Applet, Import and Directory of a package (Java Card Virtual Machine Specification 2.2.2, sections
+//! 6.3 to 6.6). The converter calls it. It knows no class but by its name, and no size: whoever calls it has
+//! them.
 #![tactic(auto)]
 
 mod applets;

@@ -1,4 +1,4 @@
--- What private functions write.
+-- The bytes that the private functions of emitting write: numbers, operands, and instructions by their opcodes.
 use Rattle.std.specs.Prelude.{ℕ, ◌+◌, ◌-◌, ◌*◌, ◌/◌, ◌%◌, List, [], ◌∷◌, ◌++◌, length, position, slice_index, Option, Some, None, Bool, nat_lt, ◌==◌, if◌then◌else◌, ℤ}
 use Rattle.std.specs.Int.{w32, cast_unsigned}
 use Rattle.cjc_bytes.specs.declared.fault.MemberId.{MemberId}

@@ -1,4 +1,5 @@
-//! The header of a method. Called by whoever emits it.
+//! The header of a method with code, short or extended (Java Card Virtual Machine Specification 2.2.2, section
+//! 6.9.2). Called by whoever emits a method.
 
 ghost use Rattle.std.specs.Prelude.{◌≡◌, ◌<◌, IfOk};
 ghost use Rattle.cjc_lower.specs.Placed.{extended_header, short_header};

@@ -1,5 +1,5 @@
 //! The bytes of methods: headers, instructions, and the places of their indices into the constant pool (Java Card
-//! Virtual Machine Specification 2.2.2, sections 6.9.2 and 6.12). It knows no class file, and not how a layout was
+//! Virtual Machine Specification 2.2.2, sections 6.9.2 and 6.11). It knows no class file, and not how a layout was
 //! chosen.
 #![tactic(auto)]
 

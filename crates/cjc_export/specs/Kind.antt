@@ -1,4 +1,5 @@
--- An entry as the code keeps it.
+-- Entries of the constant pool as the code keeps them, the entries of the definitions that these are, and short
+-- texts.
 use Rattle.std.specs.Prelude.{◌<◌, ◌^◌, length}
 use Rattle.cjc_export.specs.declared.pool.Kind.{Kind}
 use Rattle.cjc_export.specs.declared.pool.Kind.TheVariants as kinds

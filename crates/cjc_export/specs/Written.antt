@@ -1,4 +1,5 @@
--- The bytes of a written export file.
+-- An export file as bytes, from its tree: the pool of the constants that writing needs, then the package and
+-- its classes.
 use Rattle.std.specs.Prelude.{ℕ, ℤ, Bool, List, [], ◌∷◌, ◌++◌, length, position, Option, Some, None, unwrap_or, if◌then◌else◌, codes}
 use Rattle.std.specs.List.{flat_map}
 use Rattle.std.specs.Int.{w8, w16, w32, to_be_bytes, cast_unsigned}

@@ -1,4 +1,5 @@
-//! Whole export files.
+//! An export file read from its magic number to its last class: header, pool, package, classes. What the crate
+//! is called for; the rules of members and of pool entries are in `members` and `pool`.
 
 ghost use Rattle.std.specs.Prelude.{◌≡◌, ◌<◌, ◌≤◌, ◌^◌, ◌⊎◌, ℕ, List, [], length, IfOk, IfErr};
 ghost use Rattle.std.specs.Option.{option_copied};
@@ -241,9 +242,9 @@ pub fn read(alloc: Global, file: &[u8], bytes: &[u8]) -> Result<ExportTree, Faul
     }
 }
 
-/// The bytes of a file spell one tree at most, or break at one place, and not both; and reading as a function of the bytes
-/// gives that tree or place. The trees that bytes spell are
-/// those that can be written, and no bytes that spell a tree are fewer than the written ones.
+/// The bytes of a file spell one tree at most, or break at one place, and not both; and reading as a function
+/// of the bytes gives that tree or place. The trees that bytes spell are those that can be written, and no
+/// bytes that spell a tree are fewer than the written ones.
 pub fn readings()
     ensures tree { (s t : Tree) (bytes : List ℕ) → FileSpells export_file s bytes → FileSpells export_file t bytes → s ≡ t }
     ensures place { (j k : ℕ) (bytes : List ℕ) → FileBreaks export_file bytes j → FileBreaks export_file bytes k → j ≡ k }

@@ -1,4 +1,5 @@
-//! Looking up classes and members of a tree. Nothing here takes memory.
+//! Look-up in an export file that is read: a class by name or token, a member by name and descriptor. Nothing
+//! here takes memory.
 
 ghost use Rattle.std.specs.Prelude.{◌≡◌, ◌↔◌, ℕ, List, true, Some, map};
 ghost use Rattle.std.specs.List.{AllByRecursion};
@@ -89,8 +90,8 @@ impl ExportTree {
     }
 }
 
-/// Going upwards over export files gives the classes of some names and all that stand above them by what is listed, each
-/// once, and nothing else.
+/// Going upwards over export files gives the classes of some names and all that stand above them by what is
+/// listed, each once, and nothing else.
 pub fn supers()
     ensures found { (classes : List Class) (names : List (List ℕ)) (name : List ℕ)
         → (is_one_of (map (λ c. c.name) (upwards classes names)) name ≡ true) ↔ (IsAtOrAbove classes names name × ((c : Class) × (class_named classes name ≡ Some c))) }

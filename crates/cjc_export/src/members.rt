@@ -1,4 +1,5 @@
-//! Fields and methods, and the indices that they hold.
+//! The fields and methods of a class in an export file, with the attributes of constants, and what breaks rule
+//! 104 among them. Called by `file`; it reads them one by one from left to right.
 
 ghost use Rattle.std.specs.Prelude.{◌≡◌, ◌<◌, ◌^◌, Bool, None, [], length};
 ghost use Rattle.std.specs.Option.{option_copied};

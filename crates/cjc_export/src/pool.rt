@@ -1,4 +1,5 @@
-//! The constant pool as it is read.
+//! The constant pool of an export file: its entries are read, and then looked up by the index that a field of
+//! the file holds. An index to an entry of another kind is refused at the place where it stands.
 
 ghost use Rattle.std.specs.Prelude.{◌≡◌, ◌<◌, ◌^◌, length, IfOk, IfSome};
 ghost use Rattle.std.specs.Option.{option_copied};

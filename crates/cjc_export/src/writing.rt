@@ -1,4 +1,5 @@
-//! Writing an export file over the pool of its constants.
+//! An export file written from its tree: magic, the constants of `pool`, and then the classes with indices into
+//! it. Whoever gives the tree has tested that it can be written.
 
 ghost use Rattle.std.specs.Prelude.{◌≡◌, ◌<◌, ◌^◌, ◌++◌, length, All, IfOk, OnOk};
 ghost use Rattle.std.specs.List.{flat_map};

@@ -1,4 +1,5 @@
-//! A class of an export file.
+//! One class of the export file: its token, its flags with ACC_SHAREABLE where it is shareable, its supers,
+//! fields and methods (Java Card Virtual Machine Specification 2.2.2, chapter 5). Called by `tree`.
 
 ghost use Rattle.std.specs.Prelude.{◌≡◌, ◌+◌, ◌-◌, ◌++◌, [], bit_and, false, if◌then◌else◌, length, map, IfOk};
 ghost use Rattle.std.specs.List.{list_any};

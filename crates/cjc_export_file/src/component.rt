@@ -1,5 +1,5 @@
-//! Export (Java Card Virtual Machine Specification 2.2.2, section 6.12): the classes that other packages can use, from the
-//! offsets of classes, of cells and of methods. It knows no token, since each stands at its own.
+//! Export (Java Card Virtual Machine Specification 2.2.2, section 6.12): the classes that other packages can
+//! use, from the offsets of classes, of cells and of methods. It knows no token, since each stands at its own.
 
 ghost use Rattle.std.specs.Prelude.{◌≡◌, ◌+◌, ◌≤◌, ◌<◌, ◌∷◌, ◌++◌, ℕ, [], filter, false, if◌then◌else◌, length, map, slice_get, unwrap_or, IfOk, OnOk, Some};
 ghost use Rattle.cjc_classfile.specs.declared.tree.FieldTree.{FieldTree as Field};
@@ -30,15 +30,16 @@ use std::alloc::Global;
 
 const CONSTRUCTOR: &[u8] = b"<init>";
 
-/// Where the classes and members of a package stand, by the number of a class and by the place of a member in it: the fields are
-/// counted first, then the methods.
+/// Where the classes and members of a package stand, by the number of a class and by the place of a member in
+/// it: the fields are counted first, then the methods.
 #[derive(Clone, Copy)]
 pub struct Offsets<'r> {
     /// Of each class.
     pub refs: &'r [ClassRef],
     /// Of each field the offset of its cell in the static field image.
     pub cells: &'r [Row<u64>],
-    /// Of each method the offset of its header in Method. A row begins with the fields of its class, where anything may stand.
+    /// Of each method the offset of its header in Method. A row begins with the fields of its class, where
+    /// anything may stand.
     pub methods: &'r [Row<u64>],
 }
 
@@ -217,7 +218,8 @@ fn exported(
     Ok(classes)
 }
 
-/// Export, where some class of the package is exported; the offsets are those of the package. Only want of memory is an error.
+/// Export, where some class of the package is exported; the offsets are those of the package. Only want of
+/// memory is an error.
 pub fn export(
     alloc: Global,
     list: &List,

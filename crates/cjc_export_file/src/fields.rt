@@ -1,4 +1,5 @@
-//! The fields of a class that others may name.
+//! The public and protected fields of a class as its export file lists them, with the values of constants.
+//! Called by `class`.
 
 ghost use Rattle.std.specs.Prelude.{◌≡◌, ◌++◌, ◌∷◌, [], if◌then◌else◌, IfOk, None, OnOk};
 ghost use Rattle.cjc_world.specs.Working.Known.{class_of};

@@ -1,5 +1,5 @@
-//! The methods that a class inherits, by token: of a class the public and protected ones of its superclasses, of an interface
-//! those of its superinterfaces.
+//! The methods that a class inherits, by token: of a class the public and protected ones of its superclasses,
+//! of an interface those of its superinterfaces.
 
 ghost use Rattle.std.specs.Prelude.{◌≡◌, ◌++◌, List, false, is_some, map, option_map, IfOk, OnOk, Some};
 ghost use Rattle.cjc_tokens.specs.Members.{Signature};

@@ -1,4 +1,5 @@
-//! What holds of an export file that is written, where the package keeps to the rules. Whoever writes it stands on this.
+//! What holds of an export file that is written, where the package keeps to the rules. Whoever writes it stands
+//! on this.
 
 ghost use Rattle.std.specs.Prelude.{◌≡◌, ◌<◌, ℕ, length, slice_get, Some};
 ghost use Rattle.cjc_export.specs.declared.tree.ExportClass.{ExportClass as Exported};

@@ -71,7 +71,8 @@ pub(crate) fn given(id: &MemberId) -> Method<'_>
     }
 }
 
-/// The method at a place among those that are added to a class; one without flags, name and descriptor where there is none.
+/// The method at a place among those that are added to a class; one without flags, name and descriptor where
+/// there is none.
 pub(crate) fn given_at(ids: &[MemberId], place: usize) -> Method<'_>
     ensures { method_of result ≡ unwrap_or (option_map given (slice_get ids.now place)) no_member }
 {

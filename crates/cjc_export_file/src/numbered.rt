@@ -1,4 +1,5 @@
-//! The classes of a world by their kinds, in order: each stands at its number.
+//! The classes of a package, or the imported ones, as a row where each stands at the number that look-ups
+//! answer.
 
 ghost use Rattle.std.specs.Prelude.{◌≡◌, ◌++◌, ◌∷◌, [], filter, map, if◌then◌else◌, IfOk, OnOk};
 ghost use Rattle.cjc_world.specs.Classes.{all_classes};

@@ -1,5 +1,5 @@
-//! What an export file is made from: the list, the world, the tokens, and the classes by their numbers. Its look-ups take no
-//! memory and walk over no list of classes.
+//! What an export file is made from: the list, the world, the tokens, and the classes by their numbers. Its
+//! look-ups take no memory and walk over no list of classes.
 
 ghost use Rattle.std.specs.Prelude.{◌≡◌, ◌+◌, length, map, nat_lt, option_map, slice_get, unwrap_or, IfOk, Some};
 ghost use Rattle.cjc_world.specs.Added.{added, named_by};

@@ -1,4 +1,5 @@
-//! The whole export file.
+//! The export file of the package as a tree: of all its classes those that others may name, by token. `class`
+//! and `fields` say what stands there of each; nothing here writes bytes.
 
 ghost use Rattle.std.specs.Prelude.{◌≡◌, ◌++◌, ◌∷◌, [], false, if◌then◌else◌, length, map, nat_lt, IfOk, OnOk};
 ghost use Rattle.cjc_world.specs.Exported.{is_exported};
@@ -68,8 +69,8 @@ fn tree(alloc: Global, source: &Source<'_, '_>) -> Result<ExportTree, NoMemory>
     })
 }
 
-/// The export file of a package, whose tokens these are: the classes that others may name, by token, with their members. Only
-/// want of memory is an error.
+/// The export file of a package, whose tokens these are: the classes that others may name, by token, with their
+/// members. Only want of memory is an error.
 pub fn export_of(
     alloc: Global,
     list: &List,

@@ -1,6 +1,6 @@
-//! Export names what Descriptor gives its tokens (Java Card Virtual Machine Specification 2.2.2, section 6.12): what is exported is not
-//! sought in Descriptor, but each class, field and method of Descriptor goes to the place of its token. It knows classes and methods
-//! by `cjc_lookup`.
+//! Export names what Descriptor gives its tokens (Java Card Virtual Machine Specification 2.2.2, section 6.12):
+//! what is exported is not sought in Descriptor, but each class, field and method of Descriptor goes to the
+//! place of its token. It knows classes and methods by `cjc_lookup`.
 
 ghost use Rattle.std.specs.Prelude.{◌≡◌, ℕ, ◌+◌, ◌*◌, ◌<◌, ◌^◌, ◌==◌, ◌&&◌, ◌||◌, Bool, IfOk, None, Some, false, get_or, length, sum_by};
 ghost use Rattle.std.specs.List.{list_any};

@@ -1,4 +1,5 @@
-//! Offsets of methods alone.
+//! The offset of each method's header without the rest of its extent, for the components that name methods by
+//! offset alone.
 
 ghost use Rattle.std.specs.Prelude.{◌≡◌, map, IfOk};
 

@@ -1,4 +1,5 @@
-//! Where methods stand.
+//! Where each method of the package stands in Method as their layouts and offsets say. What the crate is called
+//! for.
 
 ghost use Rattle.std.specs.Prelude.{◌≡◌, ◌+◌, length, map, IfOk};
 ghost use Rattle.cjc_world.specs.Files.{Files};

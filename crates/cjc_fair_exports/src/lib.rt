@@ -1,6 +1,6 @@
-//! What the premise on export files, said of them alone, gives in the world of any package that breaks no rule of classes and
-//! names. For whoever promises that what was converted behaves as its class files. It has a definition and laws alone; nothing
-//! here runs.
+//! What the premise on export files, said of them alone, gives in the world of any package that breaks no rule
+//! of classes and names. For whoever promises that what was converted behaves as its class files. It has a
+//! definition and laws alone; nothing here runs.
 #![tactic(auto)]
 
 ghost use Rattle.std.specs.Prelude.{ℕ, List, [], ◌∷◌};
@@ -14,8 +14,8 @@ ghost use Rattle.cjc_world.specs.Files.{Files};
 ghost use Rattle.cjc_written_laws.specs.Converted.{ExportsArePlain};
 ghost use Rattle.cjc_written_sends.specs.Sends.{ExportsImplement, ExportsSend};
 
-/// Where a package of read files breaks none of 201 to 204, 207 and 208, and its export files are fair, they say of their
-/// classes and methods all that is asked of them where they stand among the files of the package.
+/// Where a package of read files breaks none of 201 to 204, 207 and 208, and its export files are fair, they
+/// say of their classes and methods all that is asked of them where they stand among the files of the package.
 pub fn fair_exports_are_sound()
     ensures sound { (list : List ℕ) (files : Files) → IsSound list files → ExportsAreFair files.exports → ExportsAreSound files }
     ensures plain { (files : Files) → ExportsAreFair files.exports → ExportsArePlain files }
@@ -24,8 +24,8 @@ pub fn fair_exports_are_sound()
     ensures send { (list : List ℕ) (p : Package) → IsSound list p.files → (let files = p.files in ExportsAreFair files.exports) → ExportsSend p }
 {}
 
-/// Export files made by hand are fair: java/lang by itself, and with a package and javacard/framework beside it, which has an
-/// interface whose first method has token 0, and a class that implements it.
+/// Export files made by hand are fair: java/lang by itself, and with a package and javacard/framework beside
+/// it, which has an interface whose first method has token 0, and a class that implements it.
 pub fn worked_export_files_are_fair()
     ensures alone { ExportsAreFair (lang ∷ []) }
     ensures together { ExportsAreFair (lang ∷ q ∷ framework ∷ []) }

@@ -1,6 +1,6 @@
-//! The export file that a package writes over fair export files is fair with them, so that whatever is promised of packages
-//! over fair export files is promised of packages over converted ones. For whoever converts a package over others. It has a
-//! definition and laws alone; nothing here runs.
+//! The export file that a package writes over fair export files is fair with them, so that whatever is promised
+//! of packages over fair export files is promised of packages over converted ones. For whoever converts a
+//! package over others. It has a definition and laws alone; nothing here runs.
 #![tactic(auto)]
 
 ghost use Rattle.std.specs.Prelude.{◌≡◌, ℕ, List, [], ◌∷◌, ◌++◌};

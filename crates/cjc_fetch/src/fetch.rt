@@ -1,4 +1,5 @@
-//! The instruction at an offset (Java Card Virtual Machine Specification 2.2.2, section 6.9).
+//! The instruction at an offset of Method, decoded from its bytes (Java Card Virtual Machine Specification
+//! 2.2.2, section 6.9), as the machine by token takes it before each step.
 
 ghost use Rattle.std.specs.Prelude.{◌≡◌, ◌≤◌, ◌+◌, ◌<◌, ◌^◌, ℕ, List, option_map, slice_get, IfSome, Some};
 ghost use Rattle.cjc_bytecode.specs.Machine.{Fetched};

@@ -1,4 +1,4 @@
-//! The offsets to which jumps lead.
+//! The offset to which a jump of so many bytes leads in Method, as the machine by token jumps.
 
 ghost use Rattle.std.specs.Prelude.{◌≡◌, ◌<◌, ◌^◌};
 ghost use Rattle.cjc_card.specs.Operations.{moved};

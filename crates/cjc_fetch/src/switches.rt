@@ -1,4 +1,5 @@
-//! The offsets to which switches lead.
+//! The offset to which a switch leads for a number, read from the bytes of its table: over a range of numbers,
+//! or over matches of two bytes or four.
 
 ghost use Rattle.std.specs.Prelude.{◌≡◌, ◌<◌, ◌≤◌, ◌^◌, ◌∷◌, ◌&&◌, ◌+ℤ◌, ◌<ℤ◌, drop, length, pos, slice_get, IfSome};
 ghost use Rattle.std.specs.Prelude.{MatchOption};

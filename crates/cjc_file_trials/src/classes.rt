@@ -1,4 +1,5 @@
-//! Class files from outside, and what reading them gives.
+//! Class files written down byte by byte, and what reading gives: the tree, and the refusal of each prefix and
+//! each changed field.
 
 use cjc_bytes::{BadDesc, Desc, Fault, Rule};
 use cjc_classfile::{ClassTree, MethodTree, read};

@@ -1,4 +1,5 @@
-//! What a place hands on to the next.
+//! One step of a flow: what the edges of a place give to the next one, and what a place has when it is handed
+//! more. It keeps no table.
 
 ghost use Rattle.std.specs.Prelude.{◌≡◌, ◌<◌, ◌==◌, if◌then◌else◌, None, Some, Contains, IfOk};
 ghost use Rattle.cjc_fixpoint.specs.declared.flow.Edge.{Edge as Leads};

@@ -1,4 +1,4 @@
-//! Marked places, in ascending order.
+//! Which places have a row of their own in a table: their numbers in ascending order, found by halving.
 
 ghost use Rattle.std.specs.Prelude.{◌≡◌, ◌<◌, ◌^◌, ◌↔◌, IsTrue, Some, [], ◌∷◌, ◌++◌, if◌then◌else◌, is_some, length, slice_get, IfOk, OnOk};
 ghost use Rattle.std.specs.List.{range_with_len};

@@ -1,4 +1,5 @@
-//! Going through the rows that a table stands for.
+//! Place after place with its row, where a table keeps rows at marks alone: the row between marks is what the
+//! place before hands on. For whoever reads a solved table once from front to back.
 
 ghost use Rattle.std.specs.Prelude.{◌≡◌, ◌+◌, ◌<◌, None, Some, MatchOption, length, slice_get, OnErr, OnOk, IfOk};
 ghost use Rattle.cjc_fixpoint.specs.Working.HandedLaws.{OwnMaybe};

@@ -1,4 +1,4 @@
--- The constants that instructions get.
+-- The constants of fields that instructions get: of types whose values are numbers, and which instruction gets which.
 use Rattle.std.specs.Prelude.{◌≡◌, true, List, map, Option, Some, None, ℤ}
 use Rattle.cjc_bytes.specs.declared.fault.MemberId.{MemberId}
 use Rattle.cjc_code.specs.declared.insn.JInsn.{JInsn}

@@ -409,8 +409,8 @@ impl Flow for Ranging<'_> {
     }
 }
 
-/// A walk asks for what a place hands to the next one alone; which places repeat what the place before hands on is asked of
-/// `Bounded`.
+/// A walk asks for what a place hands to the next one alone; which places repeat what the place before hands on
+/// is asked of `Bounded`.
 impl Repeating for Ranging<'_> {
     ghost use Rattle.std.specs.Prelude.{false};
     ghost use Rattle.cjc_flow.specs.Working.Kept.{kept_flow};

@@ -1,5 +1,5 @@
-//! A method with its types and with the places at which ranges of its handlers begin or end, so that a place which hands its
-//! handlers nothing new is not asked for it again. Called by ranging.rt. Knows no instruction.
+//! A method with its types and with the places at which ranges of its handlers begin or end, so that a place
+//! which hands its handlers nothing new is not asked for it again. Called by ranging.rt. Knows no instruction.
 
 ghost use Rattle.cjc_types.specs.Repeats.{CoverAlike};
 

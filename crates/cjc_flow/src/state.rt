@@ -1,4 +1,5 @@
-//! What is known of the numbers of a frame.
+//! States of range inference: an interval for each word of a frame, ordered and joined as the solver asks. A
+//! word that holds no number has the full interval.
 
 ghost use Rattle.std.specs.Prelude.{◌≡◌, ◌≤◌, ◌+◌, ◌*◌, ◌^◌, IfOk, IsTrue};
 ghost use Rattle.cjc_range_flow.specs.Frames.{IsStack, joined_stack, spans, spans_of, stack_of as stack_of_cells, stack_rank, states};

@@ -1,5 +1,6 @@
-//! The files that a list and a folder of components name together: which are read, in which order, and what they spell. Called by
-//! every command that looks at components. It knows no class file, and not what components say of each other.
+//! The files that a list and a folder of components name together: which are read, in which order, and what
+//! they spell. Called by every command that looks at components. It knows no class file, and not what
+//! components say of each other.
 #![tactic(auto)]
 
 mod folder;

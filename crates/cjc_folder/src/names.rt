@@ -90,8 +90,8 @@ fn tags_with_size(alloc: Global, sizes: &[u64]) -> Result<Row<u8>, NoMemory>
     Ok(tags)
 }
 
-/// The tags of the components other than Header and Directory that the bytes of a Directory say are there; none where they spell
-/// no Directory.
+/// The tags of the components other than Header and Directory that the bytes of a Directory say are there; none
+/// where they spell no Directory.
 pub(crate) fn tags_of(alloc: Global, bytes: &[u8]) -> Result<Row<u8>, NoMemory>
     requires { length bytes.now < 2 ^ 32 }
     ensures { IfOk result (λ tags. tags ≡ tags_of_lem bytes.now) }

@@ -62,8 +62,8 @@ fn fetch_component<S: Shelf>(
     }
 }
 
-/// Reads the components of a folder: Header, Directory, and those whose size in Directory is not 0, by their tags. Where the bytes
-/// of Directory spell none the reads end there.
+/// Reads the components of a folder: Header, Directory, and those whose size in Directory is not 0, by their
+/// tags. Where the bytes of Directory spell none the reads end there.
 ///
 /// # Errors
 ///
@@ -122,12 +122,13 @@ fn gather_text<S: Shelf>(
     }
 }
 
-/// Reads a list, its export files, and the components of a folder: Header, Directory, and those whose size in Directory is not 0,
-/// by their tags. Where the bytes of Directory spell none the reads end there.
+/// Reads a list, its export files, and the components of a folder: Header, Directory, and those whose size in
+/// Directory is not 0, by their tags. Where the bytes of Directory spell none the reads end there.
 ///
 /// # Errors
 ///
-/// A list that is refused, before the next file is read; the first file that is absent, too long or can't be read; want of memory.
+/// A list that is refused, before the next file is read; the first file that is absent, too long or can't be
+/// read; want of memory.
 pub fn gather_folder<S: Shelf>(
     alloc: Global,
     name: &[u8],

@@ -145,7 +145,8 @@ pub fn cap_of(alloc: Global, parts: &Parts) -> Result<CapTree, Fault>
 ///
 /// # Errors
 ///
-/// The first of the files that breaks its format, in the order of refusals: an export file by rule 104, a component by 106.
+/// The first of the files that breaks its format, in the order of refusals: an export file by rule 104, a
+/// component by 106.
 pub fn folder_trees(alloc: Global, folder: &Folder) -> Result<FolderTrees, Fault>
     requires short { AreShort folder.now }
     requires read { AreRead folder.now }

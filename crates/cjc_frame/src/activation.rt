@@ -12,8 +12,8 @@ use cjc_bytes::NoMemory;
 use cjc_script::Value;
 use std::marker::Model;
 
-/// A frame: the method, which has fewer than 2^32 instructions, the place of the one that is next or under way, operands
-/// and locals.
+/// A frame: the method, which has fewer than 2^32 instructions, the place of the one that is next or under way,
+/// operands and locals.
 #[derive(Drop)]
 pub struct Activation<'a> {
     pub(crate) method: &'a Method<'a>,

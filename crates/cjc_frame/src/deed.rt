@@ -1,4 +1,5 @@
-//! What an instruction asks of the machine.
+//! What an instruction by name leaves to others, beside what it has changed in its frame: go on, raise, throw,
+//! call or return. Whoever runs instructions does it.
 
 use cjc_bytes::MemberId;
 use cjc_script::Value;

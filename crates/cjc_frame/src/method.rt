@@ -1,4 +1,5 @@
-//! A method of a class file, as the machine runs it.
+//! A method as the machine by name runs it: its class, name and descriptor, its limits, its instructions with
+//! their index by offset, and its handlers, all lent.
 
 ghost use Rattle.std.specs.Prelude.{◌≡◌, ◌<◌, ◌^◌, length};
 ghost use Rattle.cjc_by_name.specs.Effects.{place};

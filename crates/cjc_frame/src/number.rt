@@ -1,4 +1,5 @@
-//! Numbers of 32 bits with a sign: what arithmetic gives and what conditions hold (Java Virtual Machine Specification, 6.5).
+//! Numbers of 32 bits with a sign: what arithmetic gives and what conditions hold (Java Virtual Machine
+//! Specification, 6.5).
 
 ghost use Rattle.std.specs.Prelude.{◌≡◌, ◌≢◌, ◌^◌, pos, ◌+ℤ◌, ◌-ℤ◌, ◌*ℤ◌};
 ghost use Rattle.std.specs.Int.{w32, int_shr, int_bit_and, int_bit_or, int_bit_xor};

@@ -1,4 +1,5 @@
-//! Lists that grow and shrink at their head: operand stacks.
+//! `Pile`, a list that grows and shrinks at its head: operand stacks and the callers of a run. It knows nothing
+//! of what is piled.
 
 ghost use Rattle.std.specs.Prelude.{◌≡◌, ◌≤◌, [], ◌∷◌, ◌++◌, length, take, drop, reverse, slice_get, IfSome, IfNone, OnOk};
 

@@ -1,4 +1,4 @@
--- The bytes of a type's name.
+-- A type's name as the code keeps it, lent or made, and the bytes that it is.
 use Rattle.std.specs.Prelude.{ℕ, List}
 use Rattle.cjc_heap.specs.declared.type_name.Text.{Text}
 use Rattle.cjc_heap.specs.declared.type_name.Text.TheVariants.{Told, Made}

@@ -1,4 +1,5 @@
-//! What stops an instruction that looks into the heap.
+//! Why a look into the heap gives nothing: an exception of the machine's own, or that nothing applies.
+//! Instructions make a deed of it.
 
 use cjc_frame::Exception;
 

@@ -1,4 +1,5 @@
-//! The arrays and objects, in order of creation.
+//! The heap by name: each array or object has its number from the order of creation, and none is ever taken
+//! away. Items and fields are found by reference, or it is told which exception stops the instruction.
 
 ghost use Rattle.std.specs.Prelude.{◌≡◌, ◌<◌, ◌^◌, ◌++◌, ◌∷◌, [], ℕ, List, length, slice_get, slice_set, option_map, MatchOption, MatchResult, IfOk, IfSome, OnOk, OnErr};
 ghost use Rattle.cjc_script.specs.declared.report.Thing.{Thing};

@@ -1,4 +1,5 @@
-//! What arrays hold, and what array instructions move.
+//! What the items of an array are by its descriptor, and which array instructions serve it. A boolean array is
+//! served as a byte array is.
 
 ghost use Rattle.std.specs.Prelude.{◌≡◌, ◌<◌, ◌^◌, ◌∷◌, ◌-◌, ℕ, List, [], length, take};
 ghost use Rattle.cjc_bytes.specs.Spots.{part_of};

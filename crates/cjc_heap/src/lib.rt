@@ -1,5 +1,6 @@
-//! The heap of class files' machine: arrays and objects in order of creation, and what instructions read and write of them,
-//! against the definition that cjc_by_name gives. Of cjc_frame it has the exceptions. Knows no classes and no look-ups.
+//! The heap of class files' machine: arrays and objects in order of creation, and what instructions read and
+//! write of them, against the definition that cjc_by_name gives. Of cjc_frame it has the exceptions. Knows no
+//! classes and no look-ups.
 #![tactic(auto)]
 
 mod halt;

@@ -1,4 +1,5 @@
-//! One array or object of the heap.
+//! One array or object: its class, or its descriptor and items, or the fields that it holds by class, name and
+//! descriptor. It has no number; the heap gives it one.
 
 ghost use Rattle.std.specs.Prelude.{◌≡◌, ◌<◌, ◌^◌, ℕ, List, length, slice_get, slice_set, Some, None, true, false, IfOk, IfSome, MatchOption, MatchBool, if◌then◌else◌, map, replicate};
 ghost use Rattle.cjc_script.specs.declared.report.Thing.{Thing};

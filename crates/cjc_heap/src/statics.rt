@@ -1,4 +1,5 @@
-//! Static cells.
+//! The static fields of a package while it runs: what each holds, found by class, name and descriptor. Look-ups
+//! decide which field an instruction means; nothing here does.
 
 ghost use Rattle.std.specs.Prelude.{◌≡◌, length, Some, None, false, IfOk, if◌then◌else◌};
 ghost use Rattle.cjc_by_name.specs.Effects.{value_in};

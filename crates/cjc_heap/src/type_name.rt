@@ -1,4 +1,5 @@
-//! Names of the types of heap objects.
+//! The name of an object's type, lent where a class file or the code has it, and owned where it is made, as
+//! anewarray makes it.
 
 ghost use Rattle.std.specs.Prelude.{◌≡◌};
 

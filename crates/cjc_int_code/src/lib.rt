@@ -1,6 +1,7 @@
-//! Narrow code of methods in int mode, in which every number is two words: what is written for each instruction, for calls that
-//! take or give values of one word, and before the first instruction. It has definitions and computed methods alone, for whoever
-//! selects such code; it knows no table, no token and no offset.
+//! Narrow code of methods in int mode, in which every number is two words: what is written for each
+//! instruction, for calls that take or give values of one word, and before the first instruction. It has
+//! definitions and computed methods alone, for whoever selects such code; it knows no table, no token and no
+//! offset.
 #![tactic(auto)]
 
 ghost use Rattle.std.specs.Prelude.{◌≡◌, ◌++◌, codes, pos, negsuc, false, true, [], ◌∷◌};
@@ -10,16 +11,16 @@ ghost use Rattle.cjc_ncode.specs.WorkedCode.{id, resolution};
 ghost use Rattle.cjc_int_code.specs.IntCode.{element_written as stored, on_stack, pushed, written, scratch_pairs, int_method};
 ghost use Rattle.cjc_int_code.specs.Worked.{code, reached, is_less_frame, is_less, is_less_written, element_frame, element, element_written, loop_frame, loop, loop_written, call, call_frame};
 
-/// What is written for three methods made by hand: a comparison of a short, an element of a byte array at an int, whose index has its
-/// guard, and a loop over such an array.
+/// What is written for three methods made by hand: a comparison of a short, an element of a byte array at an
+/// int, whose index has its guard, and a loop over such an array.
 pub fn methods_are_written()
     ensures compares { int_method is_less_frame resolution (code 2 1) is_less (0 ∷ 1 ∷ 2 ∷ 3 ∷ 4 ∷ 5 ∷ 6 ∷ 7 ∷ 8 ∷ []) ≡ record { insns = is_less_written; from = 0 ∷ 0 ∷ 0 ∷ 0 ∷ 1 ∷ 2 ∷ 3 ∷ 4 ∷ 4 ∷ 5 ∷ 6 ∷ 6 ∷ 7 ∷ 8 ∷ 8 ∷ []; catches = []; max_stack = 8; nargs = 1; max_locals = 2; widest = 36 } }
     ensures reads { (int_method element_frame resolution (code 2 2) element []).insns ≡ element_written }
     ensures loops { (int_method loop_frame resolution (code 2 3) loop []).insns ≡ loop_written }
 {}
 
-/// What is written for stores of elements, for cells of one and two words on the stack, for numbers, and for calls with values of one
-/// word: the last parameter is cut where it is; others go by scratch pairs.
+/// What is written for stores of elements, for cells of one and two words on the stack, for numbers, and for
+/// calls with values of one word: the last parameter is cut where it is; others go by scratch pairs.
 pub fn instructions_are_written()
     ensures elements { stored 0x53 true 0 ≡ insns.Words 0x40 1 2 ∷ insns.Op 0x5E ∷ insns.Words 0x40 1 1 ∷ insns.Op 0x37 ∷ [] }
     ensures ints { stored 0x4F true 0 ≡ insns.Words 0x40 2 2 ∷ insns.Op 0x5E ∷ insns.Words 0x40 1 2 ∷ insns.Op 0x3A ∷ [] }

@@ -1,4 +1,4 @@
--- What the files of a list spell.
+-- Which class files and export files the bytes of a list's files spell, in the order of its lines.
 use Rattle.std.specs.Prelude.{◌≡◌, ℕ, ◌<◌, List, [], ◌∷◌, length, All, true, false}
 use Rattle.cjc_bytes.specs.Format.{FileSpells}
 use Rattle.cjc_bytes.specs.declared.settings.FileLine.{FileLine}
@@ -40,7 +40,7 @@ exports_of (of_export tree ∷ trees) = tree ∷ exports_of trees
 
 -- ---- what is given
 
--- Some text of fewer than 2 ^ 32 bytes spells this list.
+-- Some text of fewer than 2^32 bytes spells this list.
 abbrev pub IsRead : ListTree → Type 0
 IsRead list = (text : List ℕ) × (length text < 4294967296) × IsListSpelt list.name list text
 

@@ -1,5 +1,5 @@
-//! The groups of rules that a command may name beyond those that every package is tested for. Called by judging; it knows
-//! no rule.
+//! The groups of rules that a command may name beyond those that every package is tested for. Called by
+//! judging; it knows no rule.
 
 /// A group of rules of the third hundred or a later one. Those of single files, of the classes together and of what
 /// instructions name are tested always.

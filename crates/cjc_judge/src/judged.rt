@@ -1,4 +1,5 @@
-//! The package of a list and its files, judged by groups of rules. Called by every command that starts from class files.
+//! The package of a list and its files, judged by groups of rules. Called by every command that starts from
+//! class files.
 
 ghost use Rattle.std.specs.Prelude.{◌≡◌, [], length, All, IfOk, IfErr, OnOk};
 ghost use Rattle.cjc_types.specs.Tables.{IsOfPackage};

@@ -1,5 +1,5 @@
-//! The groups of rules that are tested over the world of a package, behind those of names: what the language of the card
-//! leaves out, limits, tokens, types, and ranges. Called by judged.rt.
+//! The groups of rules that are tested over the world of a package, behind those of names: what the language of
+//! the card leaves out, limits, tokens, types, and ranges. Called by judged.rt.
 
 ghost use Rattle.std.specs.Prelude.{◌≡◌, ◌≤◌, All, IfOk, IfErr, IfNone, OnOk, [], List as Items, length, nat_lt, option_map};
 ghost use Rattle.cjc_bytes.specs.Told.{break_of};
@@ -211,8 +211,8 @@ fn of_third_hundred<'w>(broken: Option<Break<'w>>) -> Option<Break<'w>>
     }
 }
 
-// What of a group is broken first. Types and ranges are left to `named_types` and `test_ranges`: every rule of another group
-// stands before theirs.
+// What of a group is broken first. Types and ranges are left to `named_types` and `test_ranges`: every rule of
+// another group stands before theirs.
 fn group_break<'w>(
     alloc: Global,
     list: &'w List,
@@ -343,10 +343,10 @@ fn test_ranges(
     answer(alloc, broken)
 }
 
-/// Tests a world, whose methods have these codes and break 303 at these places, for groups of rules. A refusal is the first of
-/// what is broken; else these are the types of all methods, where a group asks for them. They are inferred only where no
-/// other rule is broken, so that what inference costs is bounded by the limits of methods; and ranges are found over types
-/// that break no rule.
+/// Tests a world, whose methods have these codes and break 303 at these places, for groups of rules. A refusal
+/// is the first of what is broken; else these are the types of all methods, where a group asks for them. They
+/// are inferred only where no other rule is broken, so that what inference costs is bounded by the limits of
+/// methods; and ranges are found over types that break no rule.
 pub(crate) fn test(
     alloc: Global,
     list: &List,

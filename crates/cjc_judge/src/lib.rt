@@ -1,5 +1,5 @@
-//! What the files of a list spell, and the first rule that they break, in the order of refusals. Called by every command that
-//! starts from class files; it knows nothing of what is written or run.
+//! What the files of a list spell, and the first rule that they break, in the order of refusals. Called by
+//! every command that starts from class files; it knows nothing of what is written or run.
 #![tactic(auto)]
 
 mod groups;

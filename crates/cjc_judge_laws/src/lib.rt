@@ -27,9 +27,9 @@ ghost use Rattle.cjc_judge_laws.specs.Tested.{IsOne, IsTested, states};
 
 use cjc_emit_laws::layouts_can_be_said;
 
-/// Each method of a package that breaks no rule of limits and types, and may not name int, can be selected, of the
-/// instructions that its table reaches; and what is selected can be laid out, whichever field instructions have an index of
-/// one byte.
+/// Each method of a package that breaks no rule of limits and types, and may not name int, can be selected, of
+/// the instructions that its table reaches; and what is selected can be laid out, whichever field instructions
+/// have an index of one byte.
 pub fn judged_methods_are_selected()
     ensures selectable { (list : ListTree) (files : List (List ℕ)) (judged : Judged) → IsTested list files judged
         → (code : MethodCode) (class : ClassTree) (method : MethodTree) (tree : CodeTree) (table : TypeTable) → IsOne judged code class method tree table
@@ -39,9 +39,9 @@ pub fn judged_methods_are_selected()
         → (near : List Member) → IsWhole (selected_code judged.world near class method tree code.insns (rows_by (has_rows (states code class method tree table)))) }
 {}
 
-/// Each method of an interface that code of such a package calls has a token. A method that is selected by the indices of the
-/// package's pool, and laid out, can be emitted: by every naming whose indices and tokens are those of the pool, whatever else
-/// it says of names.
+/// Each method of an interface that code of such a package calls has a token. A method that is selected by the
+/// indices of the package's pool, and laid out, can be emitted: by every naming whose indices and tokens are
+/// those of the pool, whatever else it says of names.
 pub fn pooled_methods_are_emittable()
     ensures tokens { (list : ListTree) (files : List (List ℕ)) (judged : Judged) → IsTested list files judged
         → (applets : Bool) (methods : List Narrow) (pool : PoolView) → ArePooled judged applets methods pool

@@ -1,4 +1,5 @@
-//! What an instruction does that the heap has stopped.
+//! What an instruction asks of the machine when the heap has stopped it: to raise an exception, or that nothing
+//! applies.
 
 ghost use Rattle.std.specs.Prelude.{◌≡◌};
 ghost use Rattle.cjc_by_name.specs.Machine.{Frame};

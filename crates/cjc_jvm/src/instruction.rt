@@ -1,5 +1,5 @@
-//! One instruction of a class file (Java Virtual Machine Specification, 6.5), by its kind. Called for each instruction of a
-//! frame under way.
+//! One instruction of a class file (Java Virtual Machine Specification, 6.5), by its kind. Called for each
+//! instruction of a frame under way.
 
 ghost use Rattle.std.specs.Prelude.{◌≡◌, ◌<◌, ◌≤◌, ◌+◌, ◌^◌, length, IfOk, OnOk};
 ghost use Rattle.cjc_by_name.specs.Effects.{effect};

@@ -1,4 +1,5 @@
-//! new, newarray and anewarray (Java Virtual Machine Specification, 6.5).
+//! new, newarray and anewarray (Java Virtual Machine Specification, 6.5): what is made on the heap, and a
+//! reference to it. Called by `instruction`, and by `types` for anewarray.
 
 ghost use Rattle.std.specs.Prelude.{◌≡◌, ◌<◌, ◌≤◌, ◌+◌, ◌^◌, List, length, drop, replicate, IfOk, OnOk};
 ghost use Rattle.cjc_script.specs.declared.value.Value.{Value};

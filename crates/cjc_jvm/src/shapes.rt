@@ -1,4 +1,5 @@
-//! What the names of classes and the descriptors of arrays stand for.
+//! What a name in code stands for: a class, or an array by its descriptor; and the descriptor of an array of a
+//! class. No class is looked up.
 
 ghost use Rattle.std.specs.Prelude.{◌≡◌, ◌∷◌, ◌++◌, [], ℕ, List, codes, option_map, IfOk};
 ghost use Rattle.cjc_script.specs.Sorts.{shape_named, shape_name, OfReferences};

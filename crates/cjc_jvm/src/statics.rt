@@ -1,4 +1,5 @@
-//! getstatic and putstatic (Java Virtual Machine Specification, 6.5).
+//! getstatic and putstatic (Java Virtual Machine Specification, 6.5): the field is looked up, and its cell is
+//! read or written. Called by `instruction`.
 
 ghost use Rattle.std.specs.Prelude.{◌≡◌, ◌<◌, length, List, Some, IfOk, option_map};
 ghost use Rattle.cjc_code.specs.declared.insn.JOp.TheVariants as jop;

@@ -1,4 +1,5 @@
-//! Stores of array elements (Java Virtual Machine Specification, 6.5).
+//! Stores of array elements (Java Virtual Machine Specification, 6.5), with the test that an array of
+//! references may hold what is put. Called by `instruction`.
 
 ghost use Rattle.std.specs.Prelude.{◌≡◌, ◌<◌, List, length, MatchResult};
 ghost use Rattle.cjc_script.specs.declared.value.Value.{Value};

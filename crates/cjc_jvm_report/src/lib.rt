@@ -1,5 +1,5 @@
-//! What `jvm LIST SCRIPT N` makes of what it reads: the report of the run by name of the class files that a list names. The program's
-//! top call calls it; it knows no token and no component.
+//! What `jvm LIST SCRIPT N` makes of what it reads: the report of the run by name of the class files that a
+//! list names. The program's top call calls it; it knows no token and no component.
 #![tactic(auto)]
 
 mod reporting;

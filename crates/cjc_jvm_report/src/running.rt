@@ -53,8 +53,9 @@ fn judge(alloc: Global, script: &[u8], input: &Input, n: u32) -> Result<Todo, St
 ///
 /// # Errors
 ///
-/// A list that is refused; the first file that is absent, too long or can't be read; where all are read the first broken rule of the
-/// first three hundreds, 105 of the script behind those of single files; want of memory.
+/// A list that is refused; the first file that is absent, too long or can't be read; where all are read the
+/// first broken rule of the first three hundreds, 105 of the script behind those of single files; want of
+/// memory.
 pub fn gather_run<S: Shelf>(
     alloc: Global,
     name: &[u8],

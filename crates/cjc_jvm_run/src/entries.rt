@@ -1,4 +1,5 @@
-//! Entries of a script.
+//! How an entry of a script begins by name: its acts are done, its method is found, its arguments are tested by
+//! its descriptor, and a frame is made of these.
 
 ghost use Rattle.std.specs.Prelude.{◌≡◌, ◌≤◌, [], option_map, IfOk, OnOk};
 ghost use Rattle.cjc_script.specs.Sorts.{signature_of};

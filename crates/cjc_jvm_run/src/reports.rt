@@ -1,4 +1,5 @@
-//! What a run makes known in the end.
+//! The report of a state by name: its notes, static fields, heap, outcome and count of instructions, with
+//! copies of what they tell.
 
 ghost use Rattle.std.specs.Prelude.{◌≡◌, length, IfOk};
 ghost use Rattle.cjc_by_name.specs.Machine.{report};

@@ -1,4 +1,5 @@
-//! Whole runs.
+//! The run of a script by name: its start, then entry after entry, instruction after instruction, up to so
+//! many, and the report of where it is then. What the crate is called for.
 
 ghost use Rattle.std.specs.Prelude.{◌≡◌, ◌<◌, ◌≤◌, ◌+◌, ◌^◌, length, IfOk, OnOk};
 ghost use Rattle.cjc_bytecode.specs.Runs;

@@ -1,4 +1,5 @@
-//! One instruction of the frame under way.
+//! One instruction by name, counted, and what follows it: go on, raise, throw, call or return. Called by
+//! `runs`, which does not look into instructions.
 
 ghost use Rattle.std.specs.Prelude.{◌≡◌, ◌<◌, ◌≤◌, ◌+◌, ◌^◌, ◌∷◌, List, length, slice_get, IfOk, OnOk, if◌then◌else◌};
 ghost use Rattle.cjc_script.specs.declared.report.Report.{Report};

@@ -1,4 +1,4 @@
-//! What stands above a class of the package.
+//! The superclass of a class of the package, for the walks upwards that look for a slot.
 
 ghost use Rattle.std.specs.Prelude.{◌≡◌, ◌<◌, Some, length, option_map, slice_get};
 ghost use Rattle.cjc_classfile.specs.declared.tree.ClassTree.{ClassTree as Tree};

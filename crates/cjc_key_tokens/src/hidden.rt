@@ -14,8 +14,9 @@ use cjc_bytes::NoMemory;
 use cjc_tokens::Tokens;
 use cjc_world::{Known, World, lookup_laws};
 
-/// What the first method says that a class declares and that is called so: None where there is none, Some(None) of one that is not
-/// package-visible, else its token. An interface has no package-visible method, which 304 refuses.
+/// What the first method says that a class declares and that is called so: None where there is none, Some(None)
+/// of one that is not package-visible, else its token. An interface has no package-visible method, which 304
+/// refuses.
 fn hidden_here(
     world: &World<'_>,
     tokens: &Tokens,
@@ -40,8 +41,8 @@ fn hidden_here(
     Ok(Some(None))
 }
 
-/// The token of the package-visible method of the package that a look-up finds in a class or its superclasses; None where it
-/// finds none, or another method.
+/// The token of the package-visible method of the package that a look-up finds in a class or its superclasses;
+/// None where it finds none, or another method.
 pub(crate) fn hidden_token(
     world: &World<'_>,
     tokens: &Tokens,

@@ -1,4 +1,5 @@
-//! The tokens of keys.
+//! Of each key of the pool the token of its virtual method, looked up in the class that the key names. What the
+//! crate is called for.
 
 ghost use Rattle.std.specs.Prelude.{◌≡◌, ◌<◌, Bool, Some, length, map, slice_get, IfOk};
 ghost use Rattle.cjc_classfile.specs.declared.tree.ClassTree.{ClassTree as Tree};
@@ -81,9 +82,9 @@ fn key_token(
     }
 }
 
-/// By the number of a key the token of its virtual method in the class that it names: of a public or protected one, or one that
-/// the class got from its interfaces; or of a package-visible one of the package, with the high bit. 0 of a key that is of no
-/// virtual method.
+/// By the number of a key the token of its virtual method in the class that it names: of a public or protected
+/// one, or one that the class got from its interfaces; or of a package-visible one of the package, with the
+/// high bit. 0 of a key that is of no virtual method.
 pub fn key_tokens(
     alloc: Global,
     world: &World<'_>,

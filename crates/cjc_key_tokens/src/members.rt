@@ -1,4 +1,5 @@
-//! Tokens of members of the package's classes by their places.
+//! The token of a member that a look-up tells by its place, behind fields and own methods where the class got
+//! it. Called by `hidden` and `shown`.
 
 ghost use Rattle.std.specs.Prelude.{◌≡◌, ◌+◌, Some, false, length, IfOk};
 ghost use Rattle.cjc_bytes.specs.AccessFlags.{is_interface};
@@ -22,7 +23,8 @@ fn behind(fields: usize, methods: usize, place: usize) -> Result<u32, NoMemory>
     Ok((fields + methods + place) as u32)
 }
 
-/// The token of the member of a class of the package that stands behind its fields and so many methods; no interface has slots.
+/// The token of the member of a class of the package that stands behind its fields and so many methods; no
+/// interface has slots.
 pub(crate) fn own_token(
     tokens: &Tokens,
     number: u32,

@@ -1,4 +1,5 @@
-//! The methods of one class by name and descriptor. Called by whoever walks up a class and its superclasses. It knows no token.
+//! The methods of one class by name and descriptor. Called by whoever walks up a class and its superclasses. It
+//! knows no token.
 
 ghost use Rattle.std.specs.Prelude.{◌≡◌, ◌<◌, ◌&&◌, length, map, not, position, IfSome};
 ghost use Rattle.std.specs.Str.{bytes_eq};

@@ -1,4 +1,5 @@
-//! Public and protected methods. Called by `keys`.
+//! The slot that a class has for a public or protected method, by the nearest of it and its superclasses that
+//! declares it, got it or is imported. Called by `keys`.
 
 ghost use Rattle.std.specs.Prelude.{◌≡◌, ◌<◌, ◌&&◌, Bool, None, Some, length, map, position, slice_get, IfOk};
 ghost use Rattle.cjc_classfile.specs.declared.tree.ClassTree.{ClassTree as Tree};
@@ -19,7 +20,8 @@ use cjc_tokens::Tokens;
 use cjc_world::{Known, World, lookup_laws};
 use std::alloc::Global;
 
-/// The token of a method that a class got from its interfaces, if it got one of this name and descriptor and declares none.
+/// The token of a method that a class got from its interfaces, if it got one of this name and descriptor and
+/// declares none.
 fn got_here(
     world: &World<'_>,
     tokens: &Tokens,

@@ -1,4 +1,5 @@
-//! Laws of indices. Whoever emits code cites them.
+//! Laws of the numbers that keys have: an index names its key, each key that is needed has one, and forms of
+//! indices change nothing. Whoever emits code cites them.
 
 ghost use Rattle.std.specs.Prelude.{◌≡◌, ◌∷◌, ℕ, List, Some, true, slice_get, map, IsSome};
 ghost use Rattle.std.specs.List.{flat_map, list_any};

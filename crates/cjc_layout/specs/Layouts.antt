@@ -1,4 +1,4 @@
--- A method's layout.
+-- What a layout of a method is, and which methods can be laid out: what `layout` answers and asks.
 use Rattle.std.specs.Prelude.{◌≡◌, ℕ, ◌<◌, ◌≤◌, List, length, slice_index}
 use Rattle.cjc_ncode.specs.declared.narrow.NInsn.{NInsn}
 use Rattle.cjc_ncode.specs.declared.narrow.NMethod.{NMethod}

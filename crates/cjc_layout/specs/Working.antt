@@ -1,4 +1,4 @@
--- What private functions of the layout give.
+-- Sizes, offsets and the choice of wide jumps as the private functions of the layout give them.
 use Rattle.std.specs.Prelude.{◌≡◌, ℕ, zero, suc, ◌+◌, ◌*◌, ◌<◌, ◌≤◌, List, [], ◌∷◌, length, Option, Some, None, Bool, true, false, not, nat_le, nat_lt, ◌==◌, if◌then◌else◌, slice_get, slice_index}
 use Rattle.cjc_capread.specs.declared.opcode.OpInfo.{OpInfo}
 use Rattle.cjc_ncode.specs.declared.narrow.NInsn.{NInsn}

@@ -1,4 +1,4 @@
--- Fields as the keys of a map.
+-- Fields as the keys of a map: the test of equality decides it, and equal fields hash alike.
 use Rattle.std.specs.Prelude.{◌≡◌, Bool, true, false, ◌&&◌, refl}
 use Rattle.std.specs.Bool.{IsTrue}
 use Rattle.std.specs.Str.{bytes_eq}

@@ -1,4 +1,5 @@
--- What look-ups are made over.
+-- What the look-ups of the machine by name rest on: the files of a package, and what its static cells hold at
+-- first.
 use Rattle.cjc_world.specs.declared.image.StaticImage.{StaticImage}
 use Rattle.cjc_world.specs.Files.{Files}
 use Rattle.cjc_by_name.specs.Linked.{Linked}

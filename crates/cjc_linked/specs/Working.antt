@@ -1,4 +1,5 @@
--- What is kept for look-ups.
+-- The tables that are made once for the machine by name, methods, new objects and static cells, and that they
+-- are those of the files.
 use Rattle.std.specs.Prelude.{◌≡◌, List, map}
 use Rattle.cjc_script.specs.declared.report.FieldValue.{FieldValue}
 use Rattle.cjc_world.specs.declared.image.StaticImage.{StaticImage}

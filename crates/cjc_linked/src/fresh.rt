@@ -1,4 +1,5 @@
-//! What the fields of new objects hold at first, made once for each class.
+//! What the fields of a new object hold at first, those of superclasses before its own, made once for each
+//! class before the first instruction.
 
 ghost use Rattle.std.specs.Prelude.{◌≡◌, ◌++◌, ◌∷◌, [], ℕ, List, map, slice_get, option_map, OnOk, IfOk, cond, Some, None, if◌then◌else◌};
 ghost use Rattle.std.specs.Str.{bytes_eq};

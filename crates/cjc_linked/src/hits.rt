@@ -1,4 +1,5 @@
-//! What a look-up found: its class, its flags, and of a constant its value.
+//! What a look-up tells of a member: the class that declares it, its flags, and the value of a constant, from a
+//! class file or an export file.
 
 ghost use Rattle.std.specs.Prelude.{◌≡◌, ◌-◌, length, option_map, slice_get, if◌then◌else◌};
 ghost use Rattle.std.specs.List.{flat_map};

@@ -1,5 +1,5 @@
-//! Look-ups by name over the world of a package: what code and scripts name, for the machine by name. Called by who runs
-//! class files by name; it knows no frame that runs, no tokens and no components.
+//! Look-ups by name over the world of a package: what code and scripts name, for the machine by name. Called by
+//! who runs class files by name; it knows no frame that runs, no tokens and no components.
 #![tactic(auto)]
 
 mod calls;

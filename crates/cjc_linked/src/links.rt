@@ -1,4 +1,5 @@
-//! The look-ups of the machine by name over a world, and what is kept for them.
+//! `Links`, the look-ups that the machine by name asks, over a world and what is kept for them. What the crate
+//! is called for.
 
 ghost use Rattle.std.specs.Prelude.{◌≡◌, ◌&&◌, option_map, option_and_then, map, IfOk};
 ghost use Rattle.cjc_code.specs.PackageCodes.{all_codes};

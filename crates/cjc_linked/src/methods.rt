@@ -1,4 +1,5 @@
-//! The methods of a package as the machine runs them, made once.
+//! The methods of the package's classes as the machine by name runs them, class by class, made once before the
+//! first instruction.
 
 ghost use Rattle.std.specs.Prelude.{◌≡◌, ◌<◌, ◌+◌, ◌++◌, ◌^◌, length, map, IfOk};
 ghost use Rattle.cjc_code.specs.PackageCodes.{all_codes, of_methods, of_classes, code_with};

@@ -1,4 +1,4 @@
-//! What fields hold at first, by their descriptors.
+//! The zero, false or null that a field of a descriptor holds before anything is put there.
 
 ghost use Rattle.std.specs.Prelude.{◌≡◌, IfOk};
 ghost use Rattle.cjc_bytes.specs.Descriptor.{part_at};

@@ -1,4 +1,4 @@
--- The parts of a type, one by one.
+-- A type descriptor gone through nibble by nibble, and where a class in it breaks a sentence.
 use Rattle.std.specs.Prelude.{ℕ, ◌+◌, ◌*◌, List, Bool, ◌==◌, ◌||◌, not, if◌then◌else◌, get_or}
 use Rattle.cjc_capread.specs.declared.tree.ClassRef.{ClassRef}
 use Rattle.cjc_capread.specs.Parts.{class_of}

@@ -1,5 +1,5 @@
-//! Descriptor describes what is there: classes, methods and types (Java Card Virtual Machine Specification 2.2.2, section 6.13). It
-//! knows the classes by `names`.
+//! Descriptor describes what is there: classes, methods and types (Java Card Virtual Machine Specification
+//! 2.2.2, section 6.13). It knows the classes by `names`.
 
 ghost use Rattle.std.specs.Prelude.{◌≡◌, ◌+◌, ◌*◌, ◌<◌, ◌^◌, ◌++◌, IfOk, None, length, nat_le, slice_get, Some, sum_by, ◌==◌};
 ghost use Rattle.cjc_sentences.specs.ClassRefs.{fields_begin, pool_count_at};
@@ -125,7 +125,8 @@ fn last_offset(before: Option<u64>, methods: &[MethodDescriptor]) -> Option<u64>
     last
 }
 
-/// The first method of a class, which begins at an offset, whose offset is not after the one before; interfaces are left out.
+/// The first method of a class, which begins at an offset, whose offset is not after the one before; interfaces
+/// are left out.
 #[tactic(auto, unfolding(cjc_sentences::specs::Spots::first))]
 fn methods_in_class(
     names: &Names<'_>,
@@ -319,8 +320,8 @@ fn described_spot(names: &Names<'_>, offsets: &[u64]) -> Option<Spot>
     )
 }
 
-/// Where 718 is broken first: a class_ref, the number of classes, the offset of a method, the offset of a type, or the number
-/// of pool entries.
+/// Where 718 is broken first: a class_ref, the number of classes, the offset of a method, the offset of a type,
+/// or the number of pool entries.
 pub fn descriptor_spot(alloc: Global, names: &Names<'_>) -> Result<Option<Spot>, NoMemory>
     requires ready { IsIndexed names.now }
     requires small { AreSmall (complete_of names.now.parts.now) }

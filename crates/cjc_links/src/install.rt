@@ -1,5 +1,5 @@
-//! Install methods are static methods of classes (Java Card Virtual Machine Specification 2.2.2, section 6.5). It knows methods by
-//! `methods`.
+//! Install methods are static methods of classes (Java Card Virtual Machine Specification 2.2.2, section 6.5).
+//! It knows methods by `methods`.
 
 ghost use Rattle.std.specs.Prelude.{◌≡◌};
 ghost use Rattle.cjc_sentences.specs.Complete.{AreSmall};

@@ -1,5 +1,6 @@
-//! The tests of sentences on class_refs and offsets: that each class_ref names a class, superclasses stand earlier, table entries and
-//! install methods are methods, and Descriptor describes what is there. Whoever tests components calls them. It knows no code.
+//! The tests of sentences on class_refs and offsets: that each class_ref names a class, superclasses stand
+//! earlier, table entries and install methods are methods, and Descriptor describes what is there. Whoever
+//! tests components calls them. It knows no code.
 #![tactic(auto)]
 
 mod described;

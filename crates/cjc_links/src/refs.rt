@@ -1,5 +1,5 @@
-//! Each class_ref of the components names a class or interface (Java Card Virtual Machine Specification 2.2.2, sections 6.1, 6.7, 6.8
-//! and 6.13). It knows the classes by `names`.
+//! Each class_ref of the components names a class or interface (Java Card Virtual Machine Specification 2.2.2,
+//! sections 6.1, 6.7, 6.8 and 6.13). It knows the classes by `names`.
 
 ghost use Rattle.std.specs.Prelude.{◌≡◌, ◌+◌, ◌*◌, ◌/◌, ◌<◌, ◌≤◌, ◌^◌, length};
 ghost use Rattle.cjc_sentences.specs.ClassRefs.{class_ref_spots, each_ref, in_class, in_described, in_entry, in_field, in_interface, in_map, in_maps, in_nibbles, in_type, one_ref, types_begin};

@@ -1,5 +1,5 @@
-//! Each superclass is a class that stands earlier, and each interface an interface (Java Card Virtual Machine Specification 2.2.2,
-//! sections 6.8 and 6.13). It knows the classes by `names`.
+//! Each superclass is a class that stands earlier, and each interface an interface (Java Card Virtual Machine
+//! Specification 2.2.2, sections 6.8 and 6.13). It knows the classes by `names`.
 
 ghost use Rattle.std.specs.Prelude.{◌≡◌, ◌+◌, ◌<◌, ◌^◌};
 ghost use Rattle.cjc_sentences.specs.Classes.{first_class, first_interface, names_interface};

@@ -1,5 +1,5 @@
-//! The method tables of classes (Java Card Virtual Machine Specification 2.2.2, section 6.8.2). It knows classes by `names` and methods
-//! by `methods`.
+//! The method tables of classes (Java Card Virtual Machine Specification 2.2.2, section 6.8.2). It knows
+//! classes by `names` and methods by `methods`.
 
 ghost use Rattle.std.specs.Prelude.{◌≡◌, ◌+◌, ◌*◌, ◌<◌, ◌≤◌, ◌^◌, IfOk, length, reverse};
 ghost use Rattle.cjc_lookup.specs.Indexed.{IsIndexed};

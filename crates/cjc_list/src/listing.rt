@@ -1,4 +1,5 @@
-//! What a list says.
+//! `List`: a package with its AID, its version, its applets and the names of its class files and export files,
+//! as a list gives them. Every command starts from it.
 
 use cjc_bytes::{AppletLine, Bytes, FileLine, Row};
 

@@ -1,4 +1,5 @@
-//! The whole list.
+//! From the text of a list to a `List`, or rule 107 at the first malformed line. What the crate is called for;
+//! what a single line says is known to `line`.
 
 ghost use Rattle.std.specs.Prelude.{◌≡◌, ◌<◌, ◌^◌, ◌⊎◌, ◌↔◌, length, IfOk, IfErr};
 ghost use Rattle.cjc_bytes.specs.Found.{Finds};

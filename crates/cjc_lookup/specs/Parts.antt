@@ -1,4 +1,4 @@
--- Components that code holds one by one.
+-- The components as code holds them, one by one, and the complete package that they are.
 use Rattle.cjc_lookup.specs.declared.parts.Parts.{Parts}
 use Rattle.cjc_sentences.specs.Complete.{Complete}
 

@@ -1,5 +1,5 @@
-//! Items that stand one behind the other in a component: their bytes in all, and the first place where a test of them fails. The
-//! test of each sentence uses it. It knows no sentence.
+//! Items that stand one behind the other in a component: their bytes in all, and the first place where a test
+//! of them fails. The test of each sentence uses it. It knows no sentence.
 
 ghost use Rattle.std.specs.Prelude.{◌≡◌, ℕ, ◌+◌, ◌<◌, ◌^◌, ◌==◌, List, IfOk, sum_by};
 ghost use Rattle.std.specs.List.{list_any};
@@ -111,7 +111,8 @@ pub trait Numbered<T: Item> {
         ensures { result ≡ first (broken self.now number at item.now) };
 }
 
-/// The first place where one of several items fails, which have the numbers from 0 on and the first of which begins at an offset.
+/// The first place where one of several items fails, which have the numbers from 0 on and the first of which
+/// begins at an offset.
 pub fn first_numbered<T: Item, C: Numbered<T>>(test: &C, from: u32, items: &[T]) -> Option<Spot>
     requires ready { C.fits test.now }
     requires small { 3 + from + sum_by T.bytes items.now < 2 ^ 32 }

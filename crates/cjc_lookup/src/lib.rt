@@ -1,5 +1,6 @@
-//! What the tests of sentences on components share: items that stand one behind the other and a test of each, the first of two broken
-//! places, and classes, methods and components, each found at once. The tests of sentences call it. It knows no sentence.
+//! What the tests of sentences on components share: items that stand one behind the other and a test of each,
+//! the first of two broken places, and classes, methods and components, each found at once. The tests of
+//! sentences call it. It knows no sentence.
 #![tactic(auto)]
 
 mod along;

@@ -1,5 +1,5 @@
-//! Where the methods of classes stand by Descriptor, each found at once (Java Card Virtual Machine Specification 2.2.2, section 6.13).
-//! The tests of offsets of methods use it. It knows no sentence.
+//! Where the methods of classes stand by Descriptor, each found at once (Java Card Virtual Machine
+//! Specification 2.2.2, section 6.13). The tests of offsets of methods use it. It knows no sentence.
 
 ghost use Rattle.std.specs.Prelude.{◌≡◌, ℕ, ◌==◌, ◌&&◌, ◌++◌, IfOk, OnOk};
 ghost use Rattle.std.specs.List.{list_any};

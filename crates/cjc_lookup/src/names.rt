@@ -1,5 +1,6 @@
-//! The classes and interfaces that a class_ref can name, each found at once (Java Card Virtual Machine Specification 2.2.2, sections
-//! 6.1 and 6.8, and chapter 5). The tests of class_refs and of members use it. It knows no sentence.
+//! The classes and interfaces that a class_ref can name, each found at once (Java Card Virtual Machine
+//! Specification 2.2.2, sections 6.1 and 6.8, and chapter 5). The tests of class_refs and of members use it. It
+//! knows no sentence.
 
 ghost use Rattle.std.specs.Prelude.{◌≡◌, ◌==◌};
 ghost use Rattle.std.specs.List.{find};

@@ -1,5 +1,5 @@
-//! The bytes of items, and of whole components, from what they say (Java Card Virtual Machine Specification 2.2.2, chapter 6). The
-//! tests of all sentences use it. It knows no sentence.
+//! The bytes of items, and of whole components, from what they say (Java Card Virtual Machine Specification
+//! 2.2.2, chapter 6). The tests of all sentences use it. It knows no sentence.
 
 ghost use Rattle.std.specs.Prelude.{◌≡◌, ◌+◌, ◌*◌, ◌<◌, ◌^◌, length, sum_by};
 ghost use Rattle.cjc_sentences.specs.Classes.{first_class};

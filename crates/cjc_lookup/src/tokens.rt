@@ -1,5 +1,5 @@
-//! The classes of export files by token, each found at once (Java Card Virtual Machine Specification 2.2.2, chapter 5). It knows no
-//! component.
+//! The classes of export files by token, each found at once (Java Card Virtual Machine Specification 2.2.2,
+//! chapter 5). It knows no component.
 
 ghost use Rattle.std.specs.Prelude.{◌≡◌, IfOk, None, Some, get_or, length, map, set};
 ghost use Rattle.cjc_lookup.specs.Indexed.{places_of};

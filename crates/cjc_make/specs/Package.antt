@@ -1,4 +1,4 @@
--- The package that is made.
+-- The package that is made from a number and a size, whole: list, files and script.
 use Rattle.std.specs.Prelude.{ℕ, ◌∷◌, map}
 use Rattle.cjc_make.specs.declared.made.Made.{Made}
 use Rattle.cjc_make.specs.Classes.{class_file}

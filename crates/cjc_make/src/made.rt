@@ -1,4 +1,5 @@
-//! The package that is made, as a whole.
+//! A made package in one piece: its list, the export file of java/lang and its class files, and a script. What
+//! the crate is called for.
 
 ghost use Rattle.std.specs.Prelude.{◌≡◌, ◌≤◌, ◌++◌, ◌∷◌, [], map, OnOk, IfOk};
 ghost use Rattle.cjc_make.specs.ClassFile.{file_bytes};

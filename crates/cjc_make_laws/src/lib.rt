@@ -1,6 +1,6 @@
-//! That the class files of a made package are class files by the definition of their reader, with the trees that they
-//! are meant to have, and its export file an export file; and the first numbers and texts of package 7. Laws alone: no code
-//! calls them.
+//! That the class files of a made package are class files by the definition of their reader, with the trees
+//! that they are meant to have, and its export file an export file; and the first numbers and texts of package
+//! 7. Laws alone: no code calls them.
 #![tactic(auto)]
 
 ghost use Rattle.std.specs.Prelude.{◌≡◌, ◌++◌, ◌∷◌, [], ℕ, codes};

@@ -1,4 +1,5 @@
-//! Both components.
+//! Method and ReferenceLocation made together: where indices stand is seen while the bytes of the methods are
+//! put one behind the other. What the crate is called for.
 
 ghost use Rattle.std.specs.Prelude.{◌≡◌, ◌++◌, length, map, IfOk, OnOk};
 ghost use Rattle.std.specs.List.{flat_map};

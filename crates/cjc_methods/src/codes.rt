@@ -20,9 +20,9 @@ use cjc_types::TypeTable;
 use cjc_world::{Found, World};
 use std::alloc::Global;
 
-/// The narrow code of these members of the package, which are its methods in the order of Method: each with the short
-/// form of a field instruction exactly where the field has an index of one byte in the pool of all. Abstract methods and
-/// those that a class gets from its interfaces have no instructions.
+/// The narrow code of these members of the package, which are its methods in the order of Method: each with the
+/// short form of a field instruction exactly where the field has an index of one byte in the pool of all.
+/// Abstract methods and those that a class gets from its interfaces have no instructions.
 pub fn narrow_codes(
     alloc: Global,
     world: &World<'_>,

@@ -1,5 +1,5 @@
-//! Narrow code of class files: what its names stand for by the class files and export files of a package, and the look-ups
-//! of the machine that runs it. It knows no token and no offset of the components.
+//! Narrow code of class files: what its names stand for by the class files and export files of a package, and
+//! the look-ups of the machine that runs it. It knows no token and no offset of the components.
 #![tactic(auto)]
 
 ghost use Rattle.std.specs.Prelude.{◌≡◌, Bool, List};
@@ -25,9 +25,9 @@ pub fn forms_change_no_key()
     ensures { (r : Resolution) (near : MemberId → Bool) (insns : List JInsn) → FormsOnly r near insns }
 {}
 
-/// What the machine by name finds for a field that code names is what is written for it: a constant's value, or the field
-/// with the class that declares it. The words of an interface's method are those of its parameters, and one for the
-/// receiver.
+/// What the machine by name finds for a field that code names is what is written for it: a constant's value, or
+/// the field with the class that declares it. The words of an interface's method are those of its parameters,
+/// and one for the receiver.
 pub fn names_are_found_alike()
     ensures fields { (files : Files) (image : StaticImage) (near : List MemberId) → FieldsAgreeIn files image near }
     ensures words { (m : MemberId) → IsCounted m }

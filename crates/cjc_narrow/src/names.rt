@@ -35,8 +35,8 @@ fn by_owner(alloc: Global, id: &MemberId, hit: Option<Hit<'_, '_>>) -> Result<Me
     }
 }
 
-/// A field with the class in which it is found (Java Virtual Machine Specification, section 5.4.3.2); one that is nowhere as
-/// it is named.
+/// A field with the class in which it is found (Java Virtual Machine Specification, section 5.4.3.2); one that
+/// is nowhere as it is named.
 pub fn resolved_field(alloc: Global, world: &World<'_>, id: &MemberId) -> Result<MemberId, NoMemory>
     ensures { IfOk result (λ member. member ≡ resolved_field (all_classes world.now) id.now) }
 {
@@ -70,8 +70,8 @@ pub fn virtual_method(alloc: Global, world: &World<'_>, id: &MemberId) -> Result
     }
 }
 
-/// The key of a method that invokespecial names in the code of a class: a constructor or private method is itself; any other
-/// is sought above the class that holds the code.
+/// The key of a method that invokespecial names in the code of a class: a constructor or private method is
+/// itself; any other is sought above the class that holds the code.
 pub fn special_key(
     alloc: Global,
     world: &World<'_>,

@@ -1,5 +1,6 @@
-//! What calls name is found and reaches code with tables, and the machine's own exceptions are imported, in a package that breaks no
-//! rule over sound export files, as whole runs ask it. Definitions and laws alone: nothing here runs.
+//! What calls name is found and reaches code with tables, and the machine's own exceptions are imported, in a
+//! package that breaks no rule over sound export files, as whole runs ask it. Definitions and laws alone:
+//! nothing here runs.
 #![tactic(auto)]
 
 ghost use Rattle.std.specs.Prelude.{◌≡◌, ℕ, Bool, List};
@@ -34,8 +35,8 @@ pub fn static_calls_reach_methods()
         → (class : ClassTree) (id : MemberId) → IsInsnOf files codes class (jop.Call 0xB8 id) → IsStaticOn files tables id }
 {}
 
-/// A call on a receiver in the package's code reaches a method with tables, or an imported one, on every object or array that may be its
-/// receiver by a type table that breaks no rule there.
+/// A call on a receiver in the package's code reaches a method with tables, or an imported one, on every object
+/// or array that may be its receiver by a type table that breaks no rule there.
 pub fn receivers_have_their_methods()
     ensures virtually { (list : List ℕ) (files : Files) (codes : List MethodCode) (settings : Settings) (tables : Tables) → IsWhole list files codes settings tables
         → (image : StaticImage) (near : List MemberId) (b : Body) (stack : List Cell) (class : ClassTree) (id : MemberId) → IsInsnOf files codes class (jop.Call 0xB6 id) → Accepts files b 0xB6 id stack
@@ -48,22 +49,23 @@ pub fn receivers_have_their_methods()
         → IsReceiverOn files (look_ups files image near tables) tables class.name stack 0xB9 id }
 {}
 
-/// For what a script names no method is found, or what the package declares: its types are one word each and name what is there, and the
-/// methods that begin have tables, on objects of the classes that declare them.
+/// For what a script names no method is found, or what the package declares: its types are one word each and
+/// name what is there, and the methods that begin have tables, on objects of the classes that declare them.
 pub fn script_members_are_found()
     ensures { (list : List ℕ) (files : Files) (codes : List MethodCode) (settings : Settings) (tables : Tables) → IsWhole list files codes settings tables
         → (image : StaticImage) (near : List MemberId) (id : MemberId) → IsFound files (look_ups files image near tables) tables id }
 {}
 
-/// A field of objects that the package's code names is found, and what may be its receiver by a type table that breaks no rule there has it.
+/// A field of objects that the package's code names is found, and what may be its receiver by a type table that
+/// breaks no rule there has it.
 pub fn receivers_have_their_fields()
     ensures { (list : List ℕ) (files : Files) (codes : List MethodCode) (settings : Settings) (tables : Tables) → IsWhole list files codes settings tables
         → (image : StaticImage) (near : List MemberId) (class : ClassTree) (put : Bool) (id : MemberId) → IsInsnOf files codes class (jop.Field put id) → (cell : Cell) → HoldsFor files id.class cell
         → (m : Method) → (f : MemberId) × IsFieldOf files image near tables m id f cell }
 {}
 
-/// So the package is one whose narrow code runs as its class files, for every script, where what the instructions of its methods name fits
-/// their types, and what the image says is of sound types.
+/// So the package is one whose narrow code runs as its class files, for every script, where what the
+/// instructions of its methods name fits their types, and what the image says is of sound types.
 pub fn whole_packages_are_converted()
     ensures { (list : List ℕ) (files : Files) (codes : List MethodCode) (settings : Settings) (tables : Tables) → IsWhole list files codes settings tables
         → (image : StaticImage) (near : List MemberId) → ((m : Method) → HasTables files tables m → AreNamed files image near tables m) → IsFirst (look_ups files image near tables) files image

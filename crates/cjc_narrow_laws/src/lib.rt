@@ -1,6 +1,6 @@
-//! What a package keeps that breaks no rule of names, types and limits, as far as narrow code rests on it: what code and class
-//! files name is found. Definitions and laws alone, for whoever promises that what was converted behaves as its class files. It
-//! knows no token and no component.
+//! What a package keeps that breaks no rule of names, types and limits, as far as narrow code rests on it: what
+//! code and class files name is found. Definitions and laws alone, for whoever promises that what was converted
+//! behaves as its class files. It knows no token and no component.
 #![tactic(auto)]
 
 ghost use Rattle.std.specs.List.{Contains};
@@ -44,8 +44,8 @@ pub fn own_names_are_found()
         → flags_of (method_found (all_classes files) (record { class = class.name; name = method.name; desc = method.desc })) ≡ method.flags }
 {}
 
-/// The name of each class of the package, and with it each name that a look-up finds, is one of a class, where those of the package and of
-/// the classes in export files are.
+/// The name of each class of the package, and with it each name that a look-up finds, is one of a class, where
+/// those of the package and of the classes in export files are.
 pub fn class_names_are_spelt()
     ensures own { (list : List ℕ) (files : Files) (codes : List MethodCode) (settings : Settings) → IsUnbroken list files codes settings → AreSpelt files
         → (n : ℕ) (class : ClassTree) → slice_get files.classes n ≡ Some class → IsClassName class.name }
@@ -66,8 +66,8 @@ pub fn parameters_have_locals()
         → length (arguments (body_of class method tree code.insns)) ≤ tree.max_locals }
 {}
 
-/// What instructions name is there: the class of an anewarray; the class of a new, of which objects are made; and the class of a field
-/// or method, from which a look-up finds it.
+/// What instructions name is there: the class of an anewarray; the class of a new, of which objects are made;
+/// and the class of a field or method, from which a look-up finds it.
 pub fn instructions_name_what_is_there()
     ensures arrays { (list : List ℕ) (files : Files) (codes : List MethodCode) (settings : Settings) → IsUnbroken list files codes settings → (class : ClassTree) (name : List ℕ) → IsInsnOf files codes class (jop.ANewArray name) → (c : Class) × (class_named (all_classes files) name ≡ Some c) }
     ensures objects { (list : List ℕ) (files : Files) (codes : List MethodCode) (settings : Settings) → IsUnbroken list files codes settings → (class : ClassTree) (name : List ℕ) → IsInsnOf files codes class (jop.New name) → made_of (all_classes files) name ≡ Some (object_fields (all_classes files) name) }
@@ -84,9 +84,10 @@ pub fn methods_have_word_types()
         → (d : Parts) → length id.desc < 2 ^ 32 → desc_of id.desc ≡ Some d → d.is_method ≡ true → IsWordDesc id.desc }
 {}
 
-/// A method of a package that breaks no rule has, with its least tables, all that whole runs ask of a method. So such a package is one
-/// whose narrow code runs as its class files, where the machine's own exceptions are imported, what instructions and scripts name is in
-/// the class files and export files, and what the image says is of sound types.
+/// A method of a package that breaks no rule has, with its least tables, all that whole runs ask of a method.
+/// So such a package is one whose narrow code runs as its class files, where the machine's own exceptions are
+/// imported, what instructions and scripts name is in the class files and export files, and what the image says
+/// is of sound types.
 pub fn unbroken_packages_are_converted()
     ensures methods { (list : List ℕ) (files : Files) (codes : List MethodCode) (settings : Settings) → IsUnbroken list files codes settings → AreSpelt files
         → (tables : Tables) (m : Method) → HasLeast files codes tables m → HasTables files tables m }
@@ -94,15 +95,16 @@ pub fn unbroken_packages_are_converted()
         → (image : StaticImage) (near : List Member) (tables : Tables) → IsLeft files image near codes tables → IsConverted files image near tables }
 {}
 
-/// A method that a look-up finds is a class's, and a call fits the method that it names: by its name, and by whether that is static and
-/// can be selected.
+/// A method that a look-up finds is a class's, and a call fits the method that it names: by its name, and by
+/// whether that is static and can be selected.
 pub fn calls_fit_their_methods()
     ensures found { (list : List ℕ) (files : Files) (codes : List MethodCode) (settings : Settings) → IsUnbroken list files codes settings → (class name desc : List ℕ) (f : Found) → find_method (all_classes files) class name desc ≡ Some f → (h : Hit) × (method_hit (all_classes files) f ≡ Some h) }
     ensures calls { (list : List ℕ) (files : Files) (codes : List MethodCode) (settings : Settings) → IsUnbroken list files codes settings → (class : ClassTree) (op : ℕ) (id : Member) → IsInsnOf files codes class (jop.Call op id)
         → (f : Found) (h : Hit) → find_method (all_classes files) id.class id.name id.desc ≡ Some f → method_hit (all_classes files) f ≡ Some h → CallFits op id.name h.flags }
 {}
 
-/// What a checkcast or an instanceof names is a class or an array of one dimension, and the class that it names is there.
+/// What a checkcast or an instanceof names is a class or an array of one dimension, and the class that it names
+/// is there.
 pub fn casts_name_types()
     ensures casts { (list : List ℕ) (files : Files) (codes : List MethodCode) (settings : Settings) → IsUnbroken list files codes settings → AreSpelt files → (class : ClassTree) (name : List ℕ) → IsInsnOf files codes class (jop.CheckCast name) → (kind : Shape (List ℕ)) × (shape_named name ≡ Some kind) × IsThere (all_classes files) kind }
     ensures tests { (list : List ℕ) (files : Files) (codes : List MethodCode) (settings : Settings) → IsUnbroken list files codes settings → AreSpelt files → (class : ClassTree) (name : List ℕ) → IsInsnOf files codes class (jop.InstanceOf name) → (kind : Shape (List ℕ)) × (shape_named name ≡ Some kind) × IsThere (all_classes files) kind }

@@ -1,6 +1,6 @@
-//! Components together with the class files that they are run with: which numbers of classes, methods and static cells must be the same in both,
-//! and the names by which a run by token is reported. Whoever runs components goes by them. They know no rule that class files
-//! break, and not how components are made.
+//! Components together with the class files that they are run with: which numbers of classes, methods and
+//! static cells must be the same in both, and the names by which a run by token is reported. Whoever runs
+//! components goes by them. They know no rule that class files break, and not how components are made.
 #![tactic(auto)]
 
 ghost use Rattle.std.specs.Prelude.{◌≡◌, List, length, true};

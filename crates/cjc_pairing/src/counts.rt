@@ -1,5 +1,5 @@
-//! How many methods the classes of a package have, those that they got counted, in the order of Descriptor (Java Card Virtual
-//! Machine Specification 2.2.2, section 6.13).
+//! How many methods the classes of a package have, those that they got counted, in the order of Descriptor
+//! (Java Card Virtual Machine Specification 2.2.2, section 6.13).
 
 ghost use Rattle.std.specs.Prelude.{◌≡◌, ◌+◌, ◌++◌, ◌<◌, length, map, count_by, IfOk, OnOk};
 ghost use Rattle.std.specs.List.{flat_map};

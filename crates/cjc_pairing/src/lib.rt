@@ -1,5 +1,6 @@
-//! The test whether components are of a package: as many classes, methods and static cells as its class files say. Whoever
-//! runs components beside class files calls it, after the components were found consistent. It knows no name of a member.
+//! The test whether components are of a package: as many classes, methods and static cells as its class files
+//! say. Whoever runs components beside class files calls it, after the components were found consistent. It
+//! knows no name of a member.
 #![tactic(auto)]
 
 mod breaks;

@@ -77,9 +77,10 @@ fn pair_break(
 ///
 /// # Errors
 ///
-/// Sentence 719: Class has not an info for each class of the package; a class of Descriptor has not as many methods as the
-/// package gives it; or the static cells have other sizes. The place is the number of classes in Descriptor, the number of the
-/// first such class's methods there, or the size of the image in StaticField, whichever is the first in this order.
+/// Sentence 719: Class has not an info for each class of the package; a class of Descriptor has not as many
+/// methods as the package gives it; or the static cells have other sizes. The place is the number of classes in
+/// Descriptor, the number of the first such class's methods there, or the size of the image in StaticField,
+/// whichever is the first in this order.
 pub fn test_pair(
     alloc: Global,
     parts: &Parts<'_>,

@@ -1,4 +1,4 @@
-//! Look-ups of a constant pool, for whoever emits code.
+//! `Pool` as emitting asks it: the index of what an instruction or a handler names, by the keys of the pool.
 
 ghost use Rattle.std.specs.Prelude.{◌≡◌, position};
 ghost use Rattle.cjc_ncode.specs.PoolOrder.{same_key};

@@ -1,4 +1,5 @@
-//! One entry for each key.
+//! From keys to the entries of ConstantPool, one for each, in the same order, so that an index means the same
+//! before and after. What the crate is called for.
 
 ghost use Rattle.std.specs.Prelude.{◌≡◌, ◌<◌, length, map, IfOk};
 ghost use Rattle.cjc_world.specs.Classes.{all_classes};
@@ -94,8 +95,8 @@ fn entry(
     }
 }
 
-/// The entries of ConstantPool, one for each key. The token of the virtual method of a key and the offset of the cell of its
-/// static field stand by the number of the key, 0 where it is of none.
+/// The entries of ConstantPool, one for each key. The token of the virtual method of a key and the offset of
+/// the cell of its static field stand by the number of the key, 0 where it is of none.
 pub fn pool_entries(
     alloc: Global,
     world: &World<'_>,

@@ -1,5 +1,6 @@
-//! The pool that is made of a package's narrow code is what emitting asks and what components hold: laws over the pool that
-//! cjc_pool promises and the definition of ConstantPool. For whoever converts a package. Nothing here runs.
+//! The pool that is made of a package's narrow code is what emitting asks and what components hold: laws over
+//! the pool that cjc_pool promises and the definition of ConstantPool. For whoever converts a package. Nothing
+//! here runs.
 #![tactic(auto)]
 
 ghost use Rattle.std.specs.Prelude.{◌≡◌, ℕ, List, Some, true, map, position};
@@ -19,15 +20,15 @@ ghost use Rattle.cjc_components.specs.Package.{Package, codes, tokens};
 ghost use Rattle.cjc_components.specs.Names.{names, naming_over, pool_entries};
 ghost use Rattle.cjc_pool_laws.specs.Named.{CallsHaveTokens, IsAmong};
 
-/// The pool that methods need has an index for each key that one of their instructions names, and a token for each method
-/// of an interface that one calls, where each of these has one.
+/// The pool that methods need has an index for each key that one of their instructions names, and a token for
+/// each method of an interface that one calls, where each of these has one.
 pub fn pools_have_what_code_names()
     ensures { (files : Files) (tokens : Assigned) (methods : List Method) (pool : PoolView) → IsPool files tokens methods pool → CallsHaveTokens files tokens methods
         → (insn : Insn) → IsAmong methods insn → HasNames pool.keys (token_in pool) insn }
 {}
 
-/// The entries of ConstantPool are those of the pool's keys, in its order, and its indices those by which components name
-/// the keys, whoever loads them. Each key that a method needs has its entry there.
+/// The entries of ConstantPool are those of the pool's keys, in its order, and its indices those by which
+/// components name the keys, whoever loads them. Each key that a method needs has its entry there.
 pub fn pool_entries_are_those_of_components()
     ensures entries { (p : Package) (pool : PoolView) → IsPool p.files (tokens p) (codes p) pool → map (entry_of (names p)) pool.keys ≡ pool_entries p }
     ensures indices { (p : Package) (pool : PoolView) → IsPool p.files (tokens p) (codes p) pool → (loaded : Loaded) (entries : List Entry) (key : Key) (i : ℕ)

@@ -10,9 +10,9 @@ ghost use Rattle.cjc_narrow_laws.specs.Unbroken.{IsUnbroken};
 ghost use Rattle.cjc_tokens.specs.Rules.{FewCells, FewExported, token_breaks};
 ghost use Rattle.cjc_prepared.specs.Prepared.{IsSound};
 
-/// A package that breaks no rule was tested for limits and types, and breaks nothing of names and limits: so its methods are
-/// decoded and can be selected and laid out, few classes are exported and few cells declared (401 and 406), and all have
-/// tokens (413).
+/// A package that breaks no rule was tested for limits and types, and breaks nothing of names and limits: so
+/// its methods are decoded and can be selected and laid out, few classes are exported and few cells declared
+/// (401 and 406), and all have tokens (413).
 pub fn sound_packages_are_ready()
     ensures tested { (list : ListTree) (files : List (List ℕ)) (judged : Judged) → IsSound list files judged → IsTested list files judged }
     ensures unbroken { (list : ListTree) (files : List (List ℕ)) (judged : Judged) → IsSound list files judged → IsUnbroken list.name judged.world judged.codes (settings_of list) }

@@ -1,4 +1,5 @@
-//! The intervals of a method's numbers over a type table have a least table, whichever those are. Laws alone: nothing here runs.
+//! The intervals of a method's numbers over a type table have a least table, whichever those are. Laws alone:
+//! nothing here runs.
 #![tactic(auto)]
 
 ghost use Rattle.std.specs.Prelude.{List, Option, ℤ};
@@ -8,7 +9,8 @@ ghost use Rattle.cjc_range_flow.specs.Tables.{IsLeastRanges};
 ghost use Rattle.cjc_types.specs.declared.state.State.{State as Typed};
 ghost use Rattle.cjc_types.specs.Flow.{Body};
 
-/// There is a least range table of each method over each type table: a table that is closed and lies below every closed one.
+/// There is a least range table of each method over each type table: a table that is closed and lies below
+/// every closed one.
 pub fn least_ranges_exist()
     ensures { (b : Body) (constant : MemberId → Option ℤ) (types : List (Option Typed)) → (ranges : List (Option RangeState)) × IsLeastRanges b constant types ranges }
 {}

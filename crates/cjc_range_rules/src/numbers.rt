@@ -41,8 +41,9 @@ fn first_by(
     passes(alloc, world, code, types, ranging, &table)
 }
 
-/// The first number of a method that may lie outside of what its instruction allows, by the instructions' order and then
-/// by the rule: 601 to 609, with the offset of the instruction in bytes. Nothing where each lies inside.
+/// The first number of a method that may lie outside of what its instruction allows, by the instructions' order
+/// and then by the rule: 601 to 609, with the offset of the instruction in bytes. Nothing where each lies
+/// inside.
 ///
 /// The code is that of a method of the world, and the types are those that `infer` gave for it.
 pub fn first_out_of_range(

@@ -1,5 +1,6 @@
-//! What class files that are read keep: their descriptors are descriptors, their numbers have so many bits, and the instructions
-//! of their methods have the opcodes of their kinds. Definitions and laws alone: nothing here runs.
+//! What class files that are read keep: their descriptors are descriptors, their numbers have so many bits, and
+//! the instructions of their methods have the opcodes of their kinds. Definitions and laws alone: nothing here
+//! runs.
 #![tactic(auto)]
 
 ghost use Rattle.std.specs.Prelude.{◌≡◌, ◌<◌, ℕ, List, Some, slice_get};
@@ -14,8 +15,9 @@ ghost use Rattle.cjc_code.specs.declared.insn.JInsn.{JInsn};
 ghost use Rattle.cjc_read_laws.specs.Instructions.{IsInstruction};
 ghost use Rattle.cjc_read_laws.specs.Members.{AreWords, IsReadClass};
 
-/// Each instruction that a method was decoded to has an opcode of its kind, and numbers of so many bits: one that is pushed has 32, one
-/// that is added to a local 16, and the number of a newarray's type is one of 4 to 11.
+/// Each instruction that a method was decoded to has an opcode of its kind, and numbers of so many bits: one
+/// that is pushed has 32, one that is added to a local 16, and the number of a newarray's type is one of 4 to
+/// 11.
 pub fn decoded_instructions_fit()
     ensures { (class : ClassTree) (method : MethodTree) (tree : CodeTree) (insns : List JInsn) → IsDecoded class method tree insns → AreWords class.pool → AllByRecursion (λ b. b < 256) tree.bytes → (k : ℕ) (i : JInsn) → slice_get insns k ≡ Some i → IsInstruction i.op }
 {}

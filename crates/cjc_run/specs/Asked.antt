@@ -1,4 +1,4 @@
--- What a value of the program stands for.
+-- From a request of the program's code to the request of the definitions.
 use Rattle.cjc_run.specs.declared.command.Asked.{Asked}
 use Rattle.cjc_run.specs.declared.command.Asked.TheVariants as asks
 use Rattle.cjc_run.specs.Request.{Request, card, check, convert, jvm}

@@ -1,4 +1,4 @@
--- The command that a request stands for.
+-- From a request to the command that does it: what it reads, and what is made of that.
 use Rattle.cjc_command.specs.Answer.{Command}
 use Rattle.cjc_card_report.specs.Runs as by_token
 use Rattle.cjc_checking.specs.Check.{Checks, plan_of_check}

@@ -1,4 +1,4 @@
--- The forms of the words.
+-- What the words of a command line ask for, or that they are of no form.
 use Rattle.std.specs.Prelude.{ℕ, List, [], ◌∷◌, codes, bytes_eq, if◌then◌else◌, Option, Some, None, option_map}
 use Rattle.cjc_bytes.specs.Text.{short_decimal}
 

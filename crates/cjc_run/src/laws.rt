@@ -11,8 +11,8 @@ ghost use Rattle.cjc_run.specs.Command.{command_of};
 use cjc_card_report::one_answer as one_report;
 use cjc_convert::one_answer;
 
-/// The words and the told files decide one answer: two runs in which no fault count rises and memory is there end the same
-/// way, and of all refusals that a run may answer for them there is one.
+/// The words and the told files decide one answer: two runs in which no fault count rises and memory is there
+/// end the same way, and of all refusals that a run may answer for them there is one.
 pub fn one_status()
     ensures one { (asked : Request) (files : Files) (a b : Answer) → IsEndOver (command_of asked) files a → IsEndOver (command_of asked) files b → a ≡ b }
     ensures refused { (asked : Request) (files : Files) (r s : Refusal) → IsRefused (command_of asked) (Some files) r → IsRefused (command_of asked) (Some files) s → r ≡ s }

@@ -61,17 +61,19 @@ pub fn run<S: Shelf, O: Sink>(alloc: Global, words: &[Bytes], shelf: &mut S, out
     ensures cause { Cause (S.shelved shelf.old) (S.shelved shelf.new) (O.sunk out.old) (O.sunk out.new) result }
     ensures quiet { Quiet (O.sunk out.old) (O.sunk out.new) result }
 
-    // What each answer says of what was read, made, written and printed: by the told files, or else by some answers to the reads.
+    // What each answer says of what was read, made, written and printed: by the told files, or else by some
+    // answers to the reads.
     ensures answers { IfSome (request words.now) (λ asked. Answers (command_of asked) (S.shelved shelf.old) (S.shelved shelf.new) (O.sunk out.old) (O.sunk out.new) result) }
 
-    // Where no fault count rises, and files are told or none is read, words and files decide the answer, want of memory aside.
+    // Where no fault count rises, and files are told or none is read, words and files decide the answer, want
+    // of memory aside.
     ensures decided { IfSome (request words.now) (λ asked. IsDecided (command_of asked) (S.shelved shelf.old) (S.shelved shelf.new) (O.sunk out.old) (O.sunk out.new) result) }
 
     // Where moreover all files are read and no rule is broken, all is done.
     ensures complete { IfSome (request words.now) (λ asked. IsComplete (command_of asked) (S.shelved shelf.old) (S.shelved shelf.new) (O.sunk out.old) (O.sunk out.new) result) }
 
-    // What was asked for is done as promised: over fair export files the class files before and the components after behave
-    // alike, and the components are consistent.
+    // What was asked for is done as promised: over fair export files the class files before and the components
+    // after behave alike, and the components are consistent.
     ensures alike { result ≡ Status.Done → IfSome (request words.now) (λ asked. Promised asked (S.shelved shelf.old) (S.shelved shelf.new) (O.sunk out.old) (O.sunk out.new)) }
 {
     match asked_by(words) {

@@ -1,6 +1,6 @@
 //! Whole runs of `jvm list script N` over files in memory. A case is a class file with some bytes changed, as
-//! packages.rt says, then N, the lines of the script, and the lines that are printed or the line at the end, with ` : ` between and
-//! `, ` between lines.
+//! packages.rt says, then N, the lines of the script, and the lines that are printed or the line at the end,
+//! with ` : ` between and `, ` between lines.
 
 use crate::packages::bytes_of;
 use crate::words::cut;

@@ -1,4 +1,5 @@
-//! Lists from outside, and what becomes of each.
+//! Texts of lists, well formed and malformed, and for each what reading it answers: the rule with its offset,
+//! or that all is well.
 
 use crate::words::{cut, is_number, number, question_and_answer};
 use cjc_bytes::{AppletLine, Fault, FileLine, NoMemory};

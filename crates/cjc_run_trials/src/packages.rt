@@ -38,8 +38,9 @@ const INITIALISER: [u8; 107] = [
 ];
 
 /// A public class p/T with a static field c:S and a field v:S, whose code runs through much of what a run by name does:
-/// - static f(S)S raises one of the machine's own exceptions for 0 to 5: null.length, an index behind an array, a negative length, 1 / 0,
-///   an Object stored among Ts, an Object cast to T; else it adds to c what it takes and returns it.
+/// - static f(S)S raises one of the machine's own exceptions for 0 to 5: null.length, an index behind an array,
+///   a negative length, 1 / 0, an Object stored among Ts, an Object cast to T; else it adds to c what it takes
+///   and returns it.
 /// - g(S)V sets v and calls this.equals(this), and sets v to -1 where that throws a RuntimeException.
 /// - static n()Lp/T; makes a T.
 /// - static h([BS)B is b[o + 1], static d(SS)S is a / b, static r(S)S is a >>> 20 and static l(S)S is a << 16.
@@ -157,8 +158,9 @@ fn of_methods(alloc: Global, count: u8, first: &str) -> Result<Vec<u8>, NoMemory
     Ok(class)
 }
 
-/// A class p/T up to the descriptor of its f, and from there on to the code of f. Its constant pool has the Integer 65535 at 8, the
-/// static fields s:S, b:B and z:Z at 12, 16 and 20, the static g(SBZ)V at 24, and k:S, which is the constant 5, at 28.
+/// A class p/T up to the descriptor of its f, and from there on to the code of f. Its constant pool has the
+/// Integer 65535 at 8, the static fields s:S, b:B and z:Z at 12, 16 and 20, the static g(SBZ)V at 24, and k:S,
+/// which is the constant 5, at 28.
 const UP_TO_DESC: &[u8] = b"\
     \xCA\xFE\xBA\xBE\x00\x00\x004\x00\x1E\
     \x01\x00\x03p/T\x07\x00\x01\x01\x00\x10java/lang/Object\
@@ -319,8 +321,8 @@ fn many(alloc: Global, words: &str) -> Result<Vec<u8>, NoMemory> {
     }
 }
 
-/// The bytes of a file by its name and what is changed in it. `of-methods COUNT FIRST` is the class with so many methods, and
-/// `of-code DESC CODE` the one whose f has this code, in hexadecimal words.
+/// The bytes of a file by its name and what is changed in it. `of-methods COUNT FIRST` is the class with so
+/// many methods, and `of-code DESC CODE` the one whose f has this code, in hexadecimal words.
 pub(crate) fn bytes_of(alloc: Global, words: &str) -> Result<Vec<u8>, NoMemory> {
     let (name, changes) = cut(words, " ");
     if name == "of-methods" {

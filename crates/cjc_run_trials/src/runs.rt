@@ -5,8 +5,9 @@
 //! - `shelf NUMBER` is the call of the shelf that fails, `put NUMBER` the one of the sink;
 //! - `words WORD WORD ..` are the words of the command, and `-` is none.
 //!
-//! Wanted are how many calls of the shelf are over when the run ends, how many bytes are printed, and the line at the
-//! end, without its line feed, or `-` where there is none; or `done` alone, where all that is wanted is that it converts.
+//! Wanted are how many calls of the shelf are over when the run ends, how many bytes are printed, and the line
+//! at the end, without its line feed, or `-` where there is none; or `done` alone, where all that is wanted is
+//! that it converts.
 
 use crate::packages::bytes_of;
 use crate::words::{cut, number, question_and_answer};

@@ -70,7 +70,8 @@ fn gather_text<S: Shelf>(
 ///
 /// # Errors
 ///
-/// A list that is refused, before the next file is read; the first file that is absent, too long or can't be read; want of memory.
+/// A list that is refused, before the next file is read; the first file that is absent, too long or can't be
+/// read; want of memory.
 pub fn gather_input<S: Shelf>(
     alloc: Global,
     name: &[u8],

@@ -1,4 +1,5 @@
-//! A package and a script, tested in the order of refusals: a rule of a single file of the list, then the script, then all others.
+//! A package and a script, tested in the order of refusals: a rule of a single file of the list, then the
+//! script, then all others.
 
 ghost use Rattle.std.specs.Prelude.{◌≡◌, ◌<◌, ◌^◌, length, IfOk, IfErr};
 ghost use Rattle.cjc_judge.specs.Rules.{IsFirstFault};
@@ -21,12 +22,13 @@ pub struct Ready<'a> {
     pub script: Script,
 }
 
-/// The package of a list, whose files these are in list order, with the script of this name and text, where neither breaks a rule
-/// of the first three hundreds.
+/// The package of a list, whose files these are in list order, with the script of this name and text, where
+/// neither breaks a rule of the first three hundreds.
 ///
 /// # Errors
 ///
-/// The first broken rule of all these, in the order of refusals: 105 stands behind the rules of single files, and before all others.
+/// The first broken rule of all these, in the order of refusals: 105 stands behind the rules of single files,
+/// and before all others.
 pub fn make_ready<'a>(
     alloc: Global,
     list: &List,

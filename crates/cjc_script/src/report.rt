@@ -1,4 +1,5 @@
-//! Reports: what a run makes known.
+//! `Report`: the notes of a run in order, its static fields and heap at the end, and how it ended. Both
+//! machines make one, and it is by reports that they are said to behave alike.
 
 use crate::value::Value;
 use cjc_bytes::{Bytes, MemberId, Row};

@@ -1,4 +1,5 @@
-//! Scripts: the calls that a run is to make, and what imported calls are to answer.
+//! `Script`: the entries that a run is to make, each with acts before it, and what imported calls are to
+//! answer. Both machines are given it; nothing here reads text.
 
 use crate::value::Value;
 use cjc_bytes::{Bytes, MemberId, Row};

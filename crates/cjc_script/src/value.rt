@@ -1,4 +1,5 @@
-//! Values of scripts and reports.
+//! `Value`: a number, null, or an object by its number. Scripts give it, both machines hold it, and reports
+//! tell it.
 
 /// A number, null, or an object by its number.
 #[derive(Clone, Copy)]

@@ -1,4 +1,5 @@
--- The lines of a report.
+-- The text of a report, line by line: the notes, the static fields, the heap, and how the run ended. Printing
+-- is proved to give it.
 use Rattle.std.specs.Prelude.{ℕ, ◌+◌, List, [], ◌∷◌, ◌++◌, codes, Some, None, decimal}
 use Rattle.std.specs.List.{flat_map}
 use Rattle.std.specs.Fmt.{signed_decimal}

@@ -1,4 +1,5 @@
-//! A script as far as its lines are read.
+//! What the lines of a script add up to: calls and answers, and acts that wait for the call or answer they
+//! stand before. Called by `reading`.
 
 ghost use Rattle.std.specs.Prelude.{◌≡◌, ◌+◌, ◌<◌, ◌^◌, length, IfOk};
 ghost use Rattle.cjc_bytes.specs.Found.{Finds};

@@ -1,4 +1,5 @@
-//! Reports as lines.
+//! A report printed line by line, as users and golden files see it. The only place that knows how values, notes
+//! and heap objects look as text.
 
 ghost use Rattle.std.specs.Prelude.{◌≡◌, ℕ, ◌++◌, ◌∷◌, [], map, codes, decimal, OnOk, IfOk, ◌<◌, ◌^◌, length};
 ghost use Rattle.std.specs.List.{flat_map};

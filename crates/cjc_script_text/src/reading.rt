@@ -1,4 +1,5 @@
-//! The whole script.
+//! From the text of a script to a `Script`, or rule 105 at the first line that says nothing there. What the
+//! lines add up to is kept in a `Draft`.
 
 ghost use Rattle.std.specs.Prelude.{◌≡◌, ◌<◌, ◌≤◌, ◌^◌, ◌⊎◌, ◌↔◌, length, IfOk, IfErr};
 ghost use Rattle.cjc_bytes.specs.Found.{Finds};

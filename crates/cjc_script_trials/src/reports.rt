@@ -1,4 +1,4 @@
-//! Reports with every kind of line.
+//! A report with every kind of note, thing and outcome, and the text that is printed of it.
 
 use cjc_bytes::{Bytes, MemberId, NoMemory, Row};
 use cjc_script::{FieldValue, Note, Outcome, Report, Thing, Value};

@@ -1,4 +1,4 @@
-//! Scripts from outside, and what becomes of each.
+//! Texts of scripts, and for each whether it is a script or where it breaks rule 105.
 
 use cjc_bytes::{Fault, Rule};
 use cjc_script::{Act, Reply, Script, Value};

@@ -1,11 +1,11 @@
 //! Calls of `select` on methods of p/T that stand as text, and what is written for them, worked out by hand.
 //!
-//! A method is `FLAGS DESCRIPTOR CODE REACHED MAX_STACK MAX_LOCALS`, maybe with ` catch START END TARGET CLASS` for each
-//! handler; which instructions are reached is a digit for each, or `all`. Behind ` = ` stand the words of arguments, the
-//! further locals, the stack and the widest size; behind ` : ` the opcodes and the operands of what is written, one after the
-//! other, where a label is a place among the instructions and a name its index into the method's own pool; and behind another
-//! ` : ` the places of handlers, where in the class file each is, and the index of its class or -1. All is hexadecimal but the
-//! numbers of the class file.
+//! A method is `FLAGS DESCRIPTOR CODE REACHED MAX_STACK MAX_LOCALS`, maybe with ` catch START END TARGET CLASS`
+//! for each handler; which instructions are reached is a digit for each, or `all`. Behind ` = ` stand the words
+//! of arguments, the further locals, the stack and the widest size; behind ` : ` the opcodes and the operands
+//! of what is written, one after the other, where a label is a place among the instructions and a name its
+//! index into the method's own pool; and behind another ` : ` the places of handlers, where in the class file
+//! each is, and the index of its class or -1. All is hexadecimal but the numbers of the class file.
 
 use crate::fits::can_be_selected;
 use cjc_bytes::{Bytes, NoMemory, Row};

@@ -1,5 +1,5 @@
-//! What is selected for packages made by hand, byte for byte, and calls of `select` on them. It shows on examples that the
-//! definition of selected code means what it is to.
+//! What is selected for packages made by hand, byte for byte, and calls of `select` on them. It shows on
+//! examples that the definition of selected code means what it is to.
 #![tactic(auto)]
 
 ghost use Rattle.std.specs.Prelude.{◌≡◌, ◌∷◌, [], Some, None, codes};
@@ -16,8 +16,9 @@ mod fits;
 
 pub use fits::can_be_selected;
 
-/// Array elements on either side of an index, divisions, shifts past a word, a mask of 16 bits, switches with cases outside
-/// 16 bits, handlers of which one covers nothing, and calls: what is selected has the bytes that were worked out by hand.
+/// Array elements on either side of an index, divisions, shifts past a word, a mask of 16 bits, switches with
+/// cases outside 16 bits, handlers of which one covers nothing, and calls: what is selected has the bytes that
+/// were worked out by hand.
 pub fn rows_are_selected()
     ensures calculating { Selected.bytes Calculating.files Calculating.components 17 ≡ (let m = Calculating.part.method in m.methods) }
     ensures handlers { Selected.handlers Calculating.files Calculating.components 17 ≡ (let m = Calculating.part.method in m.handlers) }
@@ -25,8 +26,8 @@ pub fn rows_are_selected()
     ensures sharing { Selected.bytes Sharing.files Sharing.components 1 ≡ (let m = Sharing.part.method in m.methods) }
 {}
 
-/// A field is read by an index of one byte: the first of the pool, or the second where a catch type is written, since the
-/// class of any exception stands before.
+/// A field is read by an index of one byte: the first of the pool, or the second where a catch type is written,
+/// since the class of any exception stands before.
 pub fn fields_are_selected()
     ensures argument { Selected.bytes (with_method of_argument) Calculating.components 1 ≡ 0x01 ∷ 0x20 ∷ 0x19 ∷ 0x85 ∷ 0x00 ∷ 0x78 ∷ [] }
     ensures any { Selected.bytes (with_method (or_zero None)) Calculating.components 1 ≡ 0x01 ∷ 0x10 ∷ 0x18 ∷ 0x85 ∷ 0x00 ∷ 0x78 ∷ 0x3B ∷ 0x03 ∷ 0x78 ∷ [] }

@@ -1,5 +1,6 @@
-//! What consistent components are: the sentences that the components of a package and the export files that it imports make true
-//! together, each as the list of the places where it is broken, and their laws. Nothing here runs.
+//! What consistent components are: the sentences that the components of a package and the export files that it
+//! imports make true together, each as the list of the places where it is broken, and their laws. Nothing here
+//! runs.
 #![tactic(auto)]
 
 mod laws;

@@ -1,4 +1,5 @@
-//! Places in components. It knows no sentence.
+//! `Spot`, a place in a component by tag and offset: where a sentence is said to be broken. It knows no
+//! sentence.
 
 /// A place in a component.
 #[derive(Clone, Copy)]

@@ -17,8 +17,9 @@ pub fn example_is_consistent()
     ensures changed { map (λ cap. broken cap (lang ∷ [])) changed ≡ changed_at }
 {}
 
-/// Places 10 and 310, and 10 and 265, as distances. The instructions and jumps of a lookup switch that gives 1, 2 or 0; one
-/// whose matches do not ascend is no instruction, and neither is a table whose high match is below its low one.
+/// Places 10 and 310, and 10 and 265, as distances. The instructions and jumps of a lookup switch that gives 1,
+/// 2 or 0; one whose matches do not ascend is no instruction, and neither is a table whose high match is below
+/// its low one.
 #[tactic(auto, unfolding(crate::specs::Spots::along, crate::specs::Spots::beside, crate::specs::Spots::numbered, crate::specs::Spots::placed, crate::specs::ClassRefs::in_nibbles, crate::specs::Tables::leaves, crate::specs::Members::has_token, crate::specs::Codes::instructions, crate::specs::Codes::codes_from, crate::specs::Instructions::in_code, crate::specs::Handlers::targets_from, crate::specs::Handlers::stops_from, crate::specs::Locations::catch_places, crate::specs::Locations::distances, crate::specs::Described::methods_ascend, crate::specs::Described::all_ascend, cjc_export::specs::Supers::upwards_from, cjc_capread::specs::Opcodes::form, cjc_capread::specs::Opcodes::forms))]
 pub fn worked_codes_are_cut()
     ensures far { distances 0 (10 ∷ 310 ∷ []) ≡ 0x0A ∷ 0xFF ∷ 0x2D ∷ [] }
@@ -31,8 +32,8 @@ pub fn worked_codes_are_cut()
     ensures cut_short { starts_of (0x8B ∷ 0 ∷ []) ≡ [] }
 {}
 
-/// Tokens are found upwards, an imported implementation counted; a token of the package table has its high bit set. Two handlers whose
-/// ranges meet: the stop bit of the first is 0, and only its catch index has a place.
+/// Tokens are found upwards, an imported implementation counted; a token of the package table has its high bit
+/// set. Two handlers whose ranges meet: the stop bit of the first is 0, and only its catch index has a place.
 #[tactic(auto, unfolding(crate::specs::Spots::along, crate::specs::Spots::beside, crate::specs::Spots::numbered, crate::specs::Spots::placed, crate::specs::ClassRefs::in_nibbles, crate::specs::Tables::leaves, crate::specs::Members::has_token, crate::specs::Codes::instructions, crate::specs::Codes::codes_from, crate::specs::Instructions::in_code, crate::specs::Handlers::targets_from, crate::specs::Handlers::stops_from, crate::specs::Locations::catch_places, crate::specs::Locations::distances, crate::specs::Described::methods_ascend, crate::specs::Described::all_ascend, cjc_export::specs::Supers::upwards_from, cjc_capread::specs::Opcodes::form, cjc_capread::specs::Opcodes::forms))]
 pub fn worked_items_are_found()
     ensures class { tokens_at 2 (0 ∷ 1 ∷ 2 ∷ 3 ∷ 0x80 ∷ 0x81 ∷ []) ≡ true ∷ true ∷ true ∷ false ∷ true ∷ false ∷ [] }

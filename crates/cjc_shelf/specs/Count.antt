@@ -1,4 +1,4 @@
--- Counts that never fall.
+-- Counts that shelves and sinks keep of what was asked: they rise, or stand at the greatest value of 64 bits.
 use Rattle.std.specs.Prelude.{ℕ, ◌+◌, ◌-◌, ◌^◌, ◌≤◌, min}
 
 -- The count rose, or stands at its last value.

@@ -1,4 +1,5 @@
-//! What a shelf of files is, whatever keeps them.
+//! `Shelf`, files by name as commands read and write them: what a call may end with and what it leaves of other
+//! files. Commands are proved over any shelf.
 
 ghost use Rattle.std.specs.Prelude.{◌≡◌};
 ghost use Rattle.cjc_shelf.specs.Shelf.{Shelved, Reads, Writes, longest_file};

@@ -1,4 +1,5 @@
-//! What a sink of printed bytes is, whatever takes them.
+//! `Sink`, a place that takes printed bytes in order and may fail after some of them. Commands are proved over
+//! any sink.
 
 ghost use Rattle.cjc_shelf.specs.Sink.{Sunk, Puts};
 

@@ -1,4 +1,5 @@
-//! A stream of the system as a sink.
+//! Standard output or any stream of the system as a sink. What it got is not known afterwards, so its contracts
+//! tell faults only.
 
 ghost use Rattle.std.specs.Prelude.{◌≡◌, None};
 

@@ -9,9 +9,9 @@ ghost use Rattle.cjc_slot_laws.specs.Meant.{AreNumbered, AskedHaveTokens, HaveOn
 
 use cjc_world::lookup_laws;
 
-/// Each token of a class that is no interface means a method, by dispatch on the objects of the class: one that the class
-/// or the nearest superclass declares or got, with the name and the descriptor that have the token. So does each
-/// package-visible one.
+/// Each token of a class that is no interface means a method, by dispatch on the objects of the class: one that
+/// the class or the nearest superclass declares or got, with the name and the descriptor that have the token.
+/// So does each package-visible one.
 pub fn tokens_mean_methods()
     ensures public { (w : List Class) → KeepsRules w → AreNumbered w → TokensMean w }
     ensures package_visible { (w : List Class) → KeepsRules w → PackageTokensMean w }

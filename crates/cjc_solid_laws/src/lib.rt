@@ -1,5 +1,5 @@
-//! A package that breaks no rule has code for what its classes declare and inherit, where its export files are sound. Definitions
-//! and laws alone: nothing here runs.
+//! A package that breaks no rule has code for what its classes declare and inherit, where its export files are
+//! sound. Definitions and laws alone: nothing here runs.
 #![tactic(auto)]
 
 ghost use Rattle.std.specs.Prelude.{◌≡◌, ℕ, List, [], Some, false, true};
@@ -14,8 +14,8 @@ ghost use Rattle.cjc_world.specs.Files.{Files};
 ghost use Rattle.cjc_world.specs.Rules.{breaks, throwable};
 ghost use Rattle.cjc_world.specs.Subtype.{is_subtype, starts};
 
-/// A package that breaks no rule of names and types, of files that were read, over sound export files: its classes have code for
-/// what they declare and inherit, wherever objects may be of them.
+/// A package that breaks no rule of names and types, of files that were read, over sound export files: its
+/// classes have code for what they declare and inherit, wherever objects may be of them.
 pub fn clean_packages_are_solid()
     ensures { (list : List ℕ) (files : Files) (codes : List MethodCode) (settings : Settings) → IsClean list files codes settings → ((x : List ℕ) (c : Class) → class_named (all_classes files) x ≡ Some c → starts 91 x ≡ false) → IsSolid files }
 {}

@@ -1,5 +1,6 @@
-//! A package whose files break no rule that is tested before it is written, over sound export files, has narrow code that runs as its
-//! class files. Laws alone, for whoever promises that what was converted behaves as its class files. Nothing here runs.
+//! A package whose files break no rule that is tested before it is written, over sound export files, has narrow
+//! code that runs as its class files. Laws alone, for whoever promises that what was converted behaves as its
+//! class files. Nothing here runs.
 #![tactic(auto)]
 
 ghost use Rattle.std.specs.Prelude.{◌≡◌, ℕ, List, Option, Some, slice_get};
@@ -35,7 +36,8 @@ ghost use Rattle.cjc_written_calls.specs.Standing.{laid_code};
 use cjc_range_laws::least_ranges_exist;
 use cjc_whole_runs::whole_packages_run_alike;
 
-/// Each number that an instruction takes lies where its rules say, by the least intervals of each method of a package that breaks no rule.
+/// Each number that an instruction takes lies where its rules say, by the least intervals of each method of a
+/// package that breaks no rule.
 pub fn numbers_of_sound_packages_fit()
     ensures { (list : ListTree) (files : List (List ℕ)) (judged : Judged) → IsSound list files judged
         → (k : ℕ) (code : MethodCode) → slice_get judged.codes k ≡ Some code → (class : ClassTree) (method : MethodTree) (tree : CodeTree) → IsMethodOf judged.world code class method tree
@@ -44,11 +46,13 @@ pub fn numbers_of_sound_packages_fit()
         → Passes (body_of class method tree code.insns) (rows_of (body_of class method tree code.insns) table) ranges }
 {}
 
-/// Of a list that was read and files that break no rule, over sound export files, each method has its least tables. So the run of the
-/// package's class files by name and the run of its narrow code agree, for every script: of the notes of any two runs one begins with the
-/// other; where the run by name of n instructions is not Running, the narrow run of at least 2n ends alike; where the narrow run of n is not
-/// Running, the run by name of at least 65,536 (n + 1) ends alike, each with the same outcome, heap and static cells; and neither is ever
-/// stuck. It is so of the package before its methods are laid out, whatever static image its initialisers make, and of the package that is written.
+/// Of a list that was read and files that break no rule, over sound export files, each method has its least
+/// tables. So the run of the package's class files by name and the run of its narrow code agree, for every
+/// script: of the notes of any two runs one begins with the other; where the run by name of n instructions is
+/// not Running, the narrow run of at least 2n ends alike; where the narrow run of n is not Running, the run by
+/// name of at least 65,536 (n + 1) ends alike, each with the same outcome, heap and static cells; and neither
+/// is ever stuck. It is so of the package before its methods are laid out, whatever static image its
+/// initialisers make, and of the package that is written.
 pub fn sound_packages_run_alike()
     ensures tabled { (list : ListTree) (files : List (List ℕ)) (judged : Judged) → IsRead list → IsSound list files judged → ExportsAreSound judged.world
         → (tables : Tables) × IsWhole list.name judged.world judged.codes (settings_of list) tables }

@@ -1,4 +1,5 @@
-//! Rule 309: the applet lines of the list.
+//! Rule 309: each applet line names a class that can be an applet's, and no AID twice. `checking` knows its
+//! place among the rules.
 
 ghost use Rattle.std.specs.Prelude.{◌≡◌, Some};
 ghost use Rattle.std.specs.List.{list_any};

@@ -269,7 +269,8 @@ fn own_break<'w>(
     Ok(first(first(first(types, unfit), interfaces), cells))
 }
 
-/// The first rule that the class of this number or its members break, whose place this is. The kinds are those of all classes.
+/// The first rule that the class of this number or its members break, whose place this is. The kinds are those
+/// of all classes.
 fn class_break<'w>(
     alloc: Global,
     world: &World<'_>,

@@ -1,5 +1,6 @@
-//! Which kinds of methods a class of the package has, told by flags alone. Called by checking.rt, once for all classes, and by
-//! overriding.rt, which passes by the pairs of classes whose kinds can't break anything. Knows no rule.
+//! Which kinds of methods a class of the package has, told by flags alone. Called by checking.rt, once for all
+//! classes, and by overriding.rt, which passes by the pairs of classes whose kinds can't break anything. Knows
+//! no rule.
 
 ghost use Rattle.std.specs.Prelude.{◌≡◌, map, IfOk};
 ghost use Rattle.cjc_subset.specs.Overriding.{is_open, is_package_visible};

@@ -1,4 +1,5 @@
-//! Rules 401 to 409: limits of a package.
+//! Rules 401 and 404 to 407, each as one test of a method, a class or the package. `checking` knows their
+//! places and their order, and tests 402, 408 and 409 by a length alone.
 
 ghost use Rattle.std.specs.Prelude.{◌≡◌, sum_by};
 ghost use Rattle.cjc_subset.specs.Limits.{cells, handlers, handlers_of_class, has_deep_stack, has_many_cells, has_many_exported, has_many_handlers, has_many_locals};

@@ -1,4 +1,5 @@
-//! What look-ups find, and the types that names and descriptors mean.
+//! Shared by the rules of the subset: a found member with its class and flags, and the classes and the kinds
+//! that names and descriptors mean. It tests no rule.
 
 ghost use Rattle.std.specs.Prelude.{◌≡◌, ◌&&◌, ◌||◌, ◌∷◌, ◌++◌, option_map, slice_get, []};
 ghost use Rattle.std.specs.List.{list_any};

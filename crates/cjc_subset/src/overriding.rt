@@ -1,4 +1,5 @@
-//! Rules 305, 306 and 307: methods and the methods that they inherit.
+//! Rules 305, 306 and 307: visibility and kind that change on the way down, and methods without code, told by a
+//! method beside those of its name and descriptor above it.
 
 ghost use Rattle.std.specs.Prelude.{◌≡◌, ◌&&◌, ◌<◌, false, length, get_or, map, not, option_map, IfOk};
 ghost use Rattle.cjc_world.specs.Classes.{Member, all_classes, declared, imported};
@@ -68,7 +69,8 @@ fn is_called(known: Known<'_, '_>, place: usize, name: &[u8], desc: &[u8]) -> bo
     other_name == name && other_desc == desc
 }
 
-/// Whether a method can't override the one at a place of a class that is inherited from, since one of them is out of the other's sight.
+/// Whether a method can't override the one at a place of a class that is inherited from, since one of them is
+/// out of the other's sight.
 fn hides_at(known: Known<'_, '_>, place: usize, flags: u16, name: &[u8], desc: &[u8]) -> bool
     requires { place < length (class_of known).methods }
     ensures { (d : Member) → result ≡ (is_called name.now desc.now (get_or (class_of known.entry).methods place d) && is_out_of_sight (class_of known.entry).is_imported flags (get_or (class_of known.entry).methods place d).flags) }
@@ -282,7 +284,8 @@ fn kin_break<'w>(
     }
 }
 
-/// The same of another class of the package. Nothing is looked up where the kinds of methods of both say that there is none.
+/// The same of another class of the package. Nothing is looked up where the kinds of methods of both say that
+/// there is none.
 fn package_break<'w>(
     alloc: Global,
     world: &World<'_>,
@@ -360,8 +363,8 @@ fn imports_break<'w>(
     Ok(least)
 }
 
-/// The first of rules 305, 306 and 307 that a class of the package breaks, whose place this is. The kinds are those of each
-/// class of the package.
+/// The first of rules 305, 306 and 307 that a class of the package breaks, whose place this is. The kinds are
+/// those of each class of the package.
 pub(crate) fn overriding_break<'w>(
     alloc: Global,
     world: &World<'_>,

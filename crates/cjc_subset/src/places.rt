@@ -1,4 +1,5 @@
-//! The places that rules speak of.
+//! The places at which the rules of the subset are broken: a class, a field of it, a method of it with an
+//! offset. It tests nothing.
 
 ghost use Rattle.std.specs.Prelude.{◌≡◌, ◌<◌, length};
 ghost use Rattle.cjc_bytes.specs.Order.{FilePlace};

@@ -80,8 +80,8 @@ fn put_interfaces<'w>(
     Ok(())
 }
 
-/// The names of the superclasses of a class going upwards, of an imported class the supers that its file lists in the order of
-/// the file, each followed by its own, and each once. One that no file has is among them.
+/// The names of the superclasses of a class going upwards, of an imported class the supers that its file lists
+/// in the order of the file, each followed by its own, and each once. One that no file has is among them.
 pub fn superclasses<'w>(
     alloc: Global,
     world: &'w World<'_>,
@@ -95,8 +95,8 @@ pub fn superclasses<'w>(
     seen.copies(alloc)
 }
 
-/// The names of the interfaces of a class: those of its supers, then each listed one preceded by its superinterfaces, each once.
-/// One that no file has is among them.
+/// The names of the interfaces of a class: those of its supers, then each listed one preceded by its
+/// superinterfaces, each once. One that no file has is among them.
 pub fn interfaces<'w>(
     alloc: Global,
     world: &'w World<'_>,

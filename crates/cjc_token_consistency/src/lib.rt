@@ -1,6 +1,7 @@
-//! Tokens of virtual methods that are written for a package are there: the indices of interface maps, and the entries of
-//! the constant pool that virtual calls and calls of a superclass's methods name. With the parts that other crates have of
-//! these sentences no place of them is broken. The converter's promise rests on it. Nothing here runs.
+//! Tokens of virtual methods that are written for a package are there: the indices of interface maps, and the
+//! entries of the constant pool that virtual calls and calls of a superclass's methods name. With the parts
+//! that other crates have of these sentences no place of them is broken. The converter's promise rests on it.
+//! Nothing here runs.
 #![tactic(auto)]
 
 ghost use Rattle.std.specs.Prelude.{◌≡◌, ℕ, List, []};

@@ -1,4 +1,5 @@
-//! The tokens of a package.
+//! Tokens for a whole package, or rule 413 at the first class that breaks it; the slots of a superclass are
+//! made before those of its subclasses. The only call that makes `Tokens`.
 
 ghost use Rattle.std.specs.Prelude.{◌≡◌, ◌⊎◌, ◌≤◌, ◌<◌, [], length, nat_lt, slice_get, All, true, false, None, Some, IfOk, IfErr, OnOk};
 ghost use Rattle.cjc_bytes.specs.declared.fault.Fault.TheVariants as faults;

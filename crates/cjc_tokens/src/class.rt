@@ -1,4 +1,5 @@
-//! The tokens of one class.
+//! The tokens of one class or interface and of its members, from the rows of slots that it has, or that it
+//! breaks rule 413. Called by `assigning`.
 
 ghost use Rattle.std.specs.Prelude.{◌≡◌, ◌≤◌, ◌<◌, ◌^◌, ◌+◌, ◌++◌, ◌||◌, ◌&&◌, List, map, length, nat_lt, count_by, if◌then◌else◌, true, false, option_map, IfOk, OnOk, Some, None};
 ghost use Rattle.cjc_world.specs.Classes.{all_classes, declared, method_of_class};

@@ -1,4 +1,5 @@
-//! Tokens of the fields of a class.
+//! Tokens of fields: static ones are counted as they stand; instance ones by cells, exposed numbers first, then
+//! exposed references, the other references, the other numbers. Called by `class` and `assigning`.
 
 ghost use Rattle.std.specs.Prelude.{◌≡◌, ◌≤◌, ◌+◌, ◌==◌, ◌&&◌, ◌<◌, nat_le, nat_lt, length, take, true, count_by, IfOk};
 ghost use Rattle.cjc_tokens.specs.Fields.{cells, cells_of, field_token, field_tokens, group, instance_cells, instance_field_token, instance_token, instance_tokens, is_constant, is_instance, is_open_static, is_reference};

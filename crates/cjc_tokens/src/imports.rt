@@ -1,4 +1,4 @@
-//! The tokens of the members of imported classes.
+//! The tokens of members of imported classes, as their export files list them; none is assigned here.
 
 ghost use Rattle.std.specs.Prelude.{◌≡◌, ◌++◌, map, IfOk, OnOk};
 ghost use Rattle.cjc_tokens.specs.Tokens.{imports_of, listed_field_token, listed_method_token, of_import};

@@ -1,4 +1,5 @@
-//! The interfaces of a class, and the methods of an interface by token.
+//! The interfaces that a class implements, and the tokens of an interface's methods: those of its
+//! superinterfaces first, each signature once.
 
 ghost use Rattle.std.specs.Prelude.{◌≡◌, ◌+◌, ◌<◌, ◌++◌, ◌==◌, [], ◌∷◌, map, length, position, if◌then◌else◌, false, true, IfOk, IfSome, OnOk, Some};
 ghost use Rattle.cjc_world.specs.Classes.{all_classes, method_of_class, method_of_export};

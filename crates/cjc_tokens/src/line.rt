@@ -1,4 +1,5 @@
-//! The rows of a class from those of its superclass.
+//! Slots handed down: the rows of a class are those of its superclass with its own methods in them or behind
+//! them. Superclasses have theirs first.
 
 ghost use Rattle.std.specs.Prelude.{◌≡◌, ◌+◌, ◌<◌, ◌^◌, [], ◌∷◌, List, Option, map, length, slice_get, get_or, All, IfOk, IfSome, OnOk, Some, true};
 ghost use Rattle.cjc_world.specs.Classes.{Class, Member, all_classes, declared};

@@ -1,4 +1,5 @@
-//! Tokens of the methods of a class.
+//! Tokens of methods: static ones and constructors are counted as they stand, virtual ones have the place of
+//! their slot, with the high bit set where they are package-visible. Called by `class`.
 
 ghost use Rattle.std.specs.Prelude.{◌≡◌, ◌≤◌, ◌<◌, ◌+◌, ◌++◌, map, take, true, false, count_by, option_map, OnOk};
 ghost use Rattle.std.specs.List.{list_any};

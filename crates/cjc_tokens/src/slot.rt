@@ -1,4 +1,5 @@
-//! Rows of slots: the virtual methods of a class by their tokens.
+//! Slots, the virtual methods of a class by token: a name, a descriptor and the method of the nearest class. It
+//! says how a method gets an old slot or a new one, and what is package-visible.
 
 ghost use Rattle.std.specs.Prelude.{◌≡◌, ◌++◌, ◌∷◌, [], ◌+◌, ◌<◌, ◌^◌, ℕ, List, Option, true, false, map, length, position, IfOk, IfSome, OnOk, option_map, ◌&&◌, ◌||◌};
 ghost use Rattle.std.specs.Str.{bytes_eq};

@@ -1,4 +1,5 @@
-//! The tokens of a package, and look-up in them.
+//! `Tokens`: what `assigning` has found, kept for look-up in both directions, from a member to its token and
+//! from a virtual token to its method. It assigns none.
 
 ghost use Rattle.std.specs.Prelude.{◌≡◌, ◌<◌, length, position, IfSome};
 ghost use Rattle.cjc_tokens.specs.Tokens.{field_of_token, has_token, method_of_token, package_methods_of, public_methods_of, token_of_class, token_of_member};
@@ -112,8 +113,8 @@ impl Tokens {
         }
     }
 
-    /// The methods that the tokens of public and protected virtual methods mean in a class of the package, or the tokens
-    /// of an interface, by token. None at a token that no method has.
+    /// The methods that the tokens of public and protected virtual methods mean in a class of the package, or
+    /// the tokens of an interface, by token. None at a token that no method has.
     pub fn public_methods(&self, class: u32) -> &[Option<Found>]
         ensures { result.now ≡ public_methods_of self.now class }
     {

@@ -1,4 +1,4 @@
-//! Instructions, written down as a name and an operand.
+//! Instructions of test cases, written down as a name and an operand, so that a case is one line of text.
 
 use crate::drafts::{member_id, text, token};
 use cjc_bytes::NoMemory;

@@ -1,4 +1,5 @@
-//! What a move leaves.
+//! What a call, a return or a throw leaves: the frame that goes on, or the end of the run. Whoever makes one
+//! instruction after the other reads it.
 
 use cjc_frame::Activation;
 use cjc_script::Outcome;

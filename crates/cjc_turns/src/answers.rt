@@ -1,4 +1,5 @@
-//! Results, imported calls and what answers them.
+//! What a result is to whoever waits for it, and calls that leave the class files: the event is noted, and the
+//! next answer of the script is done and given back.
 
 ghost use Rattle.std.specs.Prelude.{◌≡◌, ◌<◌, ◌≤◌, ◌+◌, ◌^◌, ◌++◌, ◌&&◌, nat_le, None, codes, List, length, option_map, IfOk, OnOk};
 ghost use Rattle.cjc_by_name.specs.Linked.{Linked};

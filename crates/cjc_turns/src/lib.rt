@@ -1,6 +1,7 @@
-//! What follows an instruction of class files by name: exceptions and their handlers, results, calls, and imported calls
-//! with their answers, over the state of a run and any look-ups, against the definition that cjc_by_name gives. Knows no
-//! instruction, no class files and how names are looked up, no tokens and no components.
+//! What follows an instruction of class files by name: exceptions and their handlers, results, calls, and
+//! imported calls with their answers, over the state of a run and any look-ups, against the definition that
+//! cjc_by_name gives. Knows no instruction, no class files and how names are looked up, no tokens and no
+//! components.
 #![tactic(auto)]
 
 mod after;

@@ -1,4 +1,5 @@
-//! All of a run but the frame under way.
+//! The state of a run by name beside the frame under way: callers, heap, static cells, what is left of the
+//! script, notes and the count of instructions.
 
 ghost use Rattle.std.specs.Prelude.{◌≡◌, ◌∷◌, [], length, ◌<◌, IfSome, IfNone};
 
@@ -8,7 +9,8 @@ use cjc_heap::{Heap, Statics};
 use cjc_script::{Answer, Entry, Note};
 use std::marker::Model;
 
-/// The callers, the heap and the static cells, what is left of the script, the notes, and how many instructions were run.
+/// The callers, the heap and the static cells, what is left of the script, the notes, and how many instructions
+/// were run.
 pub struct Machine<'a> {
     pub callers: Pile<Caller<'a>>,
     pub heap: Heap<'a>,

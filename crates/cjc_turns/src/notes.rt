@@ -1,4 +1,5 @@
-//! What a run makes known as it goes.
+//! The notes of imported calls and of entries that end by an exception, with copies of what they tell. Notes
+//! are what a report tells of the time before its end.
 
 ghost use Rattle.std.specs.Prelude.{◌≡◌, IfOk};
 ghost use Rattle.cjc_by_name.specs.OnePackage.{of_class};

@@ -1,6 +1,6 @@
-//! The types of values as descriptors say them. Called by whoever writes types and by whoever lays out the cells of static
-//! fields. Nothing here takes memory; a descriptor whose length 32 bits don't count, which no class file has, is taken for
-//! want of it.
+//! The types of values as descriptors say them. Called by whoever writes types and by whoever lays out the
+//! cells of static fields. Nothing here takes memory; a descriptor whose length 32 bits don't count, which no
+//! class file has, is taken for want of it.
 
 ghost use Rattle.std.specs.Prelude.{◌≡◌, ◌≤◌, length, IfOk};
 ghost use Rattle.cjc_bytes.specs.Descriptor.{part_at};

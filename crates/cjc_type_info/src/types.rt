@@ -1,5 +1,5 @@
-//! The type descriptors of a package, each once, and where they begin (Java Card Virtual Machine Specification 2.2.2, section
-//! 6.13.4). Whoever writes Descriptor calls it. It knows no token and no code.
+//! The type descriptors of a package, each once, and where they begin (Java Card Virtual Machine Specification
+//! 2.2.2, section 6.13.4). Whoever writes Descriptor calls it. It knows no token and no code.
 
 ghost use Rattle.std.specs.Prelude.{◌≡◌, ◌+◌, ◌*◌, ◌/◌, ◌<◌, suc, length, map, option_and_then, position, slice_get, unwrap_or, Some, IfOk, OnOk};
 ghost use Rattle.std.specs.List.{flat_map};
@@ -320,8 +320,8 @@ fn first_start(keys: &[PoolKey]) -> Result<u64, NoMemory>
     Ok(2 + 2 * count)
 }
 
-/// The type descriptors of a package and the offset of each, in bytes from the number of pool entries on. Contracts see the
-/// lists of both.
+/// The type descriptors of a package and the offset of each, in bytes from the number of pool entries on.
+/// Contracts see the lists of both.
 #[derive(Drop)]
 pub struct Types {
     met: Met,

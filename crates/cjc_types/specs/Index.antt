@@ -1,4 +1,4 @@
--- The places of instructions by their offsets.
+-- That instructions stand in the order of their offsets, so that one is found by its offset by halving.
 use Rattle.std.specs.Prelude.{◌≡◌, ℕ, ◌<◌, List, slice_get, Some}
 use Rattle.cjc_code.specs.declared.insn.JInsn.{JInsn}
 

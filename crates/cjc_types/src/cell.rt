@@ -1,4 +1,5 @@
-//! What is known of the words of a frame.
+//! Cells, the values of type inference for one word: what is known of it, their order and their join. They know
+//! no instruction.
 
 ghost use Rattle.std.specs.Prelude.{◌≡◌, ◌≤◌, ◌^◌, IfOk, IsTrue};
 ghost use Rattle.cjc_types.specs.Cells.{IsCell, cell_rank, joined_cell, refs as refs_cell};

@@ -1,4 +1,5 @@
-//! The places of instructions by their offsets.
+//! From the offset of an instruction to its number in the method, by halving. Jumps name offsets; the solver's
+//! places are numbers.
 
 ghost use Rattle.std.specs.Prelude.{◌≡◌, ◌<◌, ◌^◌, length};
 ghost use Rattle.cjc_types.specs.Flow.{place_at as place_by};

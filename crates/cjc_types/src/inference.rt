@@ -1,4 +1,5 @@
-//! Inference: the least table of a method, or the first rule that it breaks.
+//! `infer`, from a method to its type table, or the first instruction where rule 501, 502 or 503 is broken.
+//! What the crate is called for.
 
 ghost use Rattle.std.specs.Prelude.{◌≡◌, ◌<◌, ◌^◌, length, IfOk, IfErr, IfSome, Ok, Err};
 ghost use Rattle.cjc_world.specs.Classes.{all_classes};
@@ -188,9 +189,9 @@ fn types_of(alloc: Global, world: &World<'_>, method: &Method<'_>) -> Result<Typ
 ///
 /// # Errors
 ///
-/// The first broken rule of the method, in the order of its instructions: 501 where two ways to an instruction have
-/// stacks of different heights, 502 where an operand is of the wrong kind or class, 503 where the stack goes below empty
-/// or above `max_stack`; with the offset of the instruction in bytes.
+/// The first broken rule of the method, in the order of its instructions: 501 where two ways to an instruction
+/// have stacks of different heights, 502 where an operand is of the wrong kind or class, 503 where the stack
+/// goes below empty or above `max_stack`; with the offset of the instruction in bytes.
 pub fn infer_method(
     alloc: Global,
     world: &World<'_>,
@@ -233,8 +234,8 @@ fn told(
     }
 }
 
-/// As `infer_method`, with a broken rule as a refusal. Its place has the file, the class, the method's name and descriptor,
-/// and the offset of the instruction in bytes.
+/// As `infer_method`, with a broken rule as a refusal. Its place has the file, the class, the method's name and
+/// descriptor, and the offset of the instruction in bytes.
 pub fn infer(
     alloc: Global,
     file: &[u8],

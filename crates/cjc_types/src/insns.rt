@@ -1,6 +1,6 @@
-//! What is known of an instruction by itself: how many operands it takes, which of them a stack instruction puts back, and
-//! where it may go. Called by steps.rt, method.rt, marks.rt, repeats.rt and rules.rt, and by the flows of crates above whose
-//! places are instructions too. Knows no cell and no state.
+//! What is known of an instruction by itself: how many operands it takes, which of them a stack instruction
+//! puts back, and where it may go. Called by steps.rt, method.rt, marks.rt, repeats.rt and rules.rt, and by the
+//! flows of crates above whose places are instructions too. Knows no cell and no state.
 
 ghost use Rattle.std.specs.Prelude.{◌≡◌, ◌+◌, ◌≤◌, ◌∷◌, map, length, if◌then◌else◌, IfOk};
 ghost use Rattle.cjc_types.specs.Repeats.{jumps as is_jump};

@@ -37,27 +37,29 @@ pub fn flow_laws()
     ensures stays { (b : Body) → StaysWithin (type_flow b) (length b.insns) }
 {}
 
-/// The first instruction, and each place to which a jump, a switch or a handler leads, are the marked places of a method: every
-/// edge of its flow goes to one of them or to the place behind. A place that is not marked, where no range of a handler begins
-/// or ends, which does not jump and stands behind an instruction that keeps the locals, hands its handlers nothing that the
-/// place before does not hand them.
+/// The first instruction, and each place to which a jump, a switch or a handler leads, are the marked places of
+/// a method: every edge of its flow goes to one of them or to the place behind. A place that is not marked,
+/// where no range of a handler begins or ends, which does not jump and stands behind an instruction that keeps
+/// the locals, hands its handlers nothing that the place before does not hand them.
 pub fn mark_laws()
     ensures marks { (b : Body) → AreMarks (length b.insns) (marks_of b) }
     ensures meet { (b : Body) → MeetsAt (type_flow b) (length b.insns) (marks_of b) }
     ensures repeats { (b : Body) (bounds : List Bool) → CoverAlike b.insns bounds b.catches → AreRepeats (type_flow b) (λ at. repeats_at b bounds at) }
 {}
 
-/// A method has at most 65,535 instructions, in ascending order of their offsets: the first by place is the first by offset.
+/// A method has at most 65,535 instructions, in ascending order of their offsets: the first by place is the
+/// first by offset.
 pub fn code_laws()
     ensures few { (files : Files) (code : Instructions) (c : ClassFile) (m : ClassMethod) (t : CodeTree) → IsMethodOf files code c m t → length code.insns ≤ 65535 }
     ensures ascending { (files : Files) (code : Instructions) (c : ClassFile) (m : ClassMethod) (t : CodeTree) → IsMethodOf files code c m t
         → (j k : ℕ) (x y : Insn) → slice_get code.insns j ≡ Some x → slice_get code.insns k ≡ Some y → j < k → x.at < y.at }
 {}
 
-/// A method has one least table. No stack of it is cut off for its height. A rule is broken at an instruction of it only
-/// where each closed table breaks a rule there. In a table without a broken rule the entry leads to the first instruction, and each
-/// instruction that is reached has a frame, with the operands that it takes, each of its kind and class, and leads to what
-/// follows. So it is of all instructions, also where the table has no frame of its own.
+/// A method has one least table. No stack of it is cut off for its height. A rule is broken at an instruction
+/// of it only where each closed table breaks a rule there. In a table without a broken rule the entry leads to
+/// the first instruction, and each instruction that is reached has a frame, with the operands that it takes,
+/// each of its kind and class, and leads to what follows. So it is of all instructions, also where the table
+/// has no frame of its own.
 pub fn table_laws()
     ensures one { (b : Body) (xs ys : List (Option Before)) → IsLeastTable b xs → IsLeastTable b ys → xs ≡ ys }
     ensures first { (w : List Class) (b : Body) (table : Types) → IsTypeTable w b table → 0 < length b.insns → Leads b (rows_of b table) 0 (entry b) }

@@ -1,4 +1,5 @@
-//! A method as a dataflow problem, whose places are its instructions.
+//! A method as the solver has it: places are instructions, states are what is known before them, and edges go
+//! along jumps, switches and handlers.
 
 ghost use Rattle.std.specs.Prelude.{◌≡◌, ◌<◌, ◌≤◌, ◌+◌, ◌^◌, [], ◌∷◌, ◌++◌, map, filter_map, length, slice_get, option_map, IfOk, OnOk};
 ghost use Rattle.cjc_types.specs.Flow.{Body, body_of, arguments as arguments_of, entry as entry_of, place_at as place_by, next_place as next_by, successors as successors_of, edge, covers as covers_offset, caught_type as type_caught, caught as caught_by, handler_edge as handler_edge_of, insn_edges as insn_edges_of, place_edges as edges_of_place};

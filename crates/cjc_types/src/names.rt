@@ -1,4 +1,5 @@
-//! Sets of names: rows in ascending order, with no name twice.
+//! Sets of class names for cells, as rows in ascending order with no name twice, so that equal sets are equal
+//! rows: one name more, two sets joined, and whether a set has all of another.
 
 ghost use Rattle.std.specs.Prelude.{◌≡◌, ◌≤◌, ◌∷◌, ◌++◌, [], length, take, drop, IfOk, OnOk, IsTrue, MatchOption};
 ghost use Rattle.cjc_types.specs.Names.{compare, insert, union, IsSet, IsWithin};
@@ -170,7 +171,8 @@ fn with_names(alloc: Global, set: Row<Bytes>, names: &[Bytes]) -> Result<Row<Byt
     Ok(Row::of(all))
 }
 
-/// The names of either set, made of the first. A few names are put in one by one, so that a great set is not copied for them.
+/// The names of either set, made of the first. A few names are put in one by one, so that a great set is not
+/// copied for them.
 pub(crate) fn either(
     alloc: Global,
     set: Row<Bytes>,

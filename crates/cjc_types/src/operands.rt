@@ -1,5 +1,6 @@
-//! The cells of operand stacks. In memory the top lies last, so that an instruction takes cells off and puts cells on without
-//! moving the rest; contracts see it first. Called by state.rt, steps.rt and rules.rt. Knows no instruction.
+//! The cells of operand stacks. In memory the top lies last, so that an instruction takes cells off and puts
+//! cells on without moving the rest; contracts see it first. Called by state.rt, steps.rt and rules.rt. Knows
+//! no instruction.
 
 ghost use Rattle.std.specs.Prelude.{◌≡◌, ◌<◌, ◌≤◌, ◌*◌, ◌^◌, ◌∷◌, ◌++◌, [], length, drop, sum_by, All, IfOk, OnOk, IsTrue, MatchOption};
 ghost use Rattle.cjc_fixpoint.specs.Lattice.{joined as joined_in_turn};

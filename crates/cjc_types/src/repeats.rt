@@ -1,6 +1,6 @@
-//! Methods with their marked places: which of the others hand nothing to handlers but what the place before hands to them,
-//! so that they need not be asked for it again. Called by inference.rt, and by the flows of crates above that hand to handlers
-//! by the same locals. Knows no solver but as the flow that is asked.
+//! Methods with their marked places: which of the others hand nothing to handlers but what the place before
+//! hands to them, so that they need not be asked for it again. Called by inference.rt, and by the flows of
+//! crates above that hand to handlers by the same locals. Knows no solver but as the flow that is asked.
 
 ghost use Rattle.std.specs.Prelude.{◌≡◌, ◌<◌, true, false, slice_get, slice_set, IfOk};
 ghost use Rattle.cjc_types.specs.Flow.{type_flow};
@@ -69,8 +69,8 @@ fn keeps_locals(op: &JOp) -> bool
     }
 }
 
-/// Whether the second of two instructions hands no other locals to handlers, where neither a mark nor a bound is between
-/// them.
+/// Whether the second of two instructions hands no other locals to handlers, where neither a mark nor a bound
+/// is between them.
 fn repeats_behind(insns: &[JInsn], before: usize, here: usize) -> bool
     ensures { result ≡ repeats_by false (slice_get insns.now before) (slice_get insns.now here) }
 {
@@ -87,8 +87,8 @@ pub fn bounds_of(alloc: Global, method: &Method<'_>) -> Result<Row<bool>, NoMemo
     bounds(alloc, method.insns, method.catches)
 }
 
-/// Whether a place is neither marked nor at a bound, does not jump, and stands behind an instruction that keeps the locals:
-/// then it hands its handlers nothing that the place before does not hand them.
+/// Whether a place is neither marked nor at a bound, does not jump, and stands behind an instruction that keeps
+/// the locals: then it hands its handlers nothing that the place before does not hand them.
 pub fn repeats_at(method: &Method<'_>, marks: &[u32], bounds: &[bool], at: u32) -> bool
     requires { marks.now ≡ marks_of method.now }
     ensures { result ≡ repeats_here method.now bounds.now at }

@@ -1,5 +1,5 @@
-//! Rows that are put together of others. Called by method.rt, and by the flows of crates above. Knows nothing of what stands
-//! in a row.
+//! Rows that are put together of others. Called by method.rt, and by the flows of crates above. Knows nothing
+//! of what stands in a row.
 
 ghost use Rattle.std.specs.Prelude.{◌≡◌, ◌++◌, option_to_list, OnOk};
 

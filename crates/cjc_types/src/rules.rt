@@ -1,4 +1,5 @@
-//! Rules 501, 502 and 503 over what is known before an instruction.
+//! Rules 501, 502 and 503 at one instruction over the state before it: the kinds of its operands, the classes
+//! of its references, and stack and locals. Called by `inference`.
 
 ghost use Rattle.std.specs.Prelude.{◌≡◌, ◌+◌, ◌<◌, ◌≤◌, ◌||◌, List, length, if◌then◌else◌};
 ghost use Rattle.std.specs.List.{list_all};

@@ -1,4 +1,5 @@
-//! What is known of frames.
+//! States of type inference: cells for the locals and for the stack, ordered and joined as the solver asks,
+//! with a clash where stacks of two heights meet.
 
 ghost use Rattle.std.specs.Prelude.{◌≡◌, ◌≤◌, ◌+◌, ◌*◌, ◌^◌, length, sum_by, All, IfOk, IsTrue};
 ghost use Rattle.cjc_fixpoint.specs.Lattice.{joined as joined_in_turn};

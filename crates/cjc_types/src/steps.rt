@@ -1,4 +1,5 @@
-//! What an instruction gives to the stack, and does to the locals.
+//! What one instruction does to a state: what it takes, what it puts on the stack by the types it names, and
+//! what it sets in the locals. Rules are tested elsewhere.
 
 ghost use Rattle.std.specs.Prelude.{◌≡◌, ◌≤◌, List, [], ◌∷◌, ◌++◌, map, length, drop, slice_set, if◌then◌else◌, IfOk};
 ghost use Rattle.cjc_types.specs.Steps.{operand, local_value as value_of_local, gives, stack_behind, stack_after, stored as stored_by, locals_after, after as state_after};

@@ -1,4 +1,5 @@
-//! Type tables, and frames as states without a clash.
+//! `TypeTable`, what inference gives to the crates above: the frame before each instruction that is reached,
+//! kept where ways meet.
 
 ghost use Rattle.std.specs.Prelude.{◌≡◌, option_map, IfOk};
 ghost use Rattle.cjc_types.specs.Search.{cells_of as cells_of_stack, frame_of as frame_of_state};
@@ -19,11 +20,12 @@ pub struct Frame {
     pub locals: Row<Cell>,
 }
 
-/// What is known of the frames of a method, at the instructions where ways can meet. Where an instruction has no mark, the
-/// frame before it is what the instruction before hands on.
+/// What is known of the frames of a method, at the instructions where ways can meet. Where an instruction has
+/// no mark, the frame before it is what the instruction before hands on.
 #[derive(Drop)]
 pub struct TypeTable {
-    /// The places of the first instruction and of each to which a jump, a switch or a handler leads, in ascending order.
+    /// The places of the first instruction and of each to which a jump, a switch or a handler leads, in
+    /// ascending order.
     pub marks: Row<u32>,
     /// For each mark the frame before its instruction; none where no way leads there.
     pub frames: Row<Option<Frame>>,

@@ -1,4 +1,5 @@
-//! Types by name, and the cells of their values.
+//! What names and descriptors say of values: the cell of a type, of a result, of an array and of its elements.
+//! No class is looked up here.
 
 ghost use Rattle.std.specs.Prelude.{◌≡◌, ◌+◌, ◌≤◌, ◌<◌, ◌^◌, [], ◌∷◌, ◌++◌, length, not, IfOk, OnOk, option_map};
 ghost use Rattle.cjc_bytes.specs.Descriptor.{Part, part_at};

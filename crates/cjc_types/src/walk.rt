@@ -74,8 +74,8 @@ fn handed_copy(
     handed_frame(alloc, method, marks, mark, at, frame)
 }
 
-/// The instructions of a method in order, each with the frame before it. Contracts see it as the states before all, and the
-/// place that is next.
+/// The instructions of a method in order, each with the frame before it. Contracts see it as the states before
+/// all, and the place that is next.
 #[derive(Drop)]
 pub struct TypeWalk<'a> {
     method: &'a Method<'a>,
@@ -116,8 +116,8 @@ impl<'a> TypeWalk<'a> {
         }
     }
 
-    /// The next place with the frame before its instruction; none where no way leads there. After `NoMemory` the walk is as
-    /// before.
+    /// The next place with the frame before its instruction; none where no way leads there. After `NoMemory`
+    /// the walk is as before.
     pub fn next(&mut self, alloc: Global) -> Result<Option<(u32, Option<Frame>)>, NoMemory>
         ensures given { IfOk result (IsNextFrame self.old self.new) }
         ensures kept { OnErr result (self.new ≡ self.old) }

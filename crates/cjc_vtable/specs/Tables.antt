@@ -1,4 +1,5 @@
--- Class tables and interface maps.
+-- The class tables that a package is to have, and its maps of interfaces: bases, entries, and a method for each
+-- token.
 use Rattle.std.specs.Prelude.{ℕ, List, [], ◌∷◌, ◌++◌, map, drop, Bool, false, not, ◌&&◌, ◌==◌, Option, Some, None, if◌then◌else◌, option_to_list}
 use Rattle.std.specs.List.{position_or_len}
 use Rattle.cjc_world.specs.declared.found.Found.{Found}

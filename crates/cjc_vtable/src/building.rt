@@ -1,4 +1,5 @@
-//! The tables of the classes of a package.
+//! The tables of all classes of a package, in the order of its list; interfaces have none. What the crate is
+//! called for.
 
 ghost use Rattle.std.specs.Prelude.{◌≡◌, Bool, IfOk, Some, slice_get};
 ghost use Rattle.cjc_classfile.specs.declared.tree.ClassTree.{ClassTree as Tree};

@@ -1,4 +1,5 @@
-//! The entries of a class's tables.
+//! Which entries the public and the package table of a class have: from the least token that the class
+//! declares, overrides or got, and with none for an imported method. Called by `building`.
 
 ghost use Rattle.std.specs.Prelude.{◌≡◌, ◌≤◌, length, IfOk};
 ghost use Rattle.cjc_vtable.specs.Tables.{base, entries, is_own, methods, of_package};

@@ -6,9 +6,10 @@ ghost use Rattle.cjc_vtable.specs.Laws.{ImportedCallsAgree, InterfaceCallsAgree,
 
 use cjc_world::lookup_laws;
 
-/// Dispatch by token on an object of a class, which is no interface, is selection by name, in every world that keeps what
-/// it rests on: `KeepsRules` for calls by a method of a class, `KeepsInterfaces` beside it for those by a method of an
-/// interface, and `KeepsImported` beside it for those of a package-visible method of an imported class.
+/// Dispatch by token on an object of a class, which is no interface, is selection by name, in every world that
+/// keeps what it rests on: `KeepsRules` for calls by a method of a class, `KeepsInterfaces` beside it for those
+/// by a method of an interface, and `KeepsImported` beside it for those of a package-visible method of an
+/// imported class.
 pub fn dispatch_laws()
     ensures virtual_calls { (w : List Class) → KeepsRules w → VirtualCallsAgree w }
     ensures interface_calls { (w : List Class) → KeepsRules w → KeepsInterfaces w → InterfaceCallsAgree w }

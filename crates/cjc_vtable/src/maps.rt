@@ -1,4 +1,5 @@
-//! The interface maps of a class (Java Card Virtual Machine Specification 2.2.2, section 6.8).
+//! The interface maps of a class: for each token of an interface the token of the class's method (Java Card
+//! Virtual Machine Specification 2.2.2, section 6.8). Called by `building`.
 
 ghost use Rattle.std.specs.Prelude.{◌≡◌, ◌++◌, Bool, false, map, option_map, option_to_list, slice_get, IfOk, OnOk, Some};
 ghost use Rattle.cjc_world.specs.Classes.{all_classes};

@@ -1,4 +1,5 @@
-//! The name and the descriptor of a method that a look-up or a token means.
+//! The names and descriptors of the methods that a row of tokens means, of the package or imported. Called by
+//! `maps`, which finds an interface's methods in a class by them.
 
 ghost use Rattle.std.specs.Prelude.{◌≡◌, false, map, option_map, slice_get, IfOk, Some};
 ghost use Rattle.cjc_world.specs.Classes.{all_classes, class_at};

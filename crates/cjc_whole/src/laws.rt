@@ -8,8 +8,8 @@ ghost use Rattle.cjc_prepared.specs.declared.preparing.Prepared.{Prepared as Par
 ghost use Rattle.cjc_prepared.specs.Prepared.{IsPrepared, IsSound};
 ghost use Rattle.cjc_whole.specs.Conversion.{IsDraft, IsPackageOf};
 
-/// A list and its files have a package by the narrow code of its methods, and it is settled by them: its world, its methods and
-/// their code are those that writing starts from.
+/// A list and its files have a package by the narrow code of its methods, and it is settled by them: its world,
+/// its methods and their code are those that writing starts from.
 pub fn one_draft()
     ensures some { (list : ListTree) (files : List (List ℕ)) (judged : Judged) → IsSound list files judged → (p : Package) × IsDraft list files p }
     ensures world { (list : ListTree) (files : List (List ℕ)) (judged : Judged) → IsSound list files judged → (p : Package) → IsDraft list files p → p.files ≡ judged.world }
@@ -17,8 +17,8 @@ pub fn one_draft()
     ensures narrow { (list : ListTree) (files : List (List ℕ)) (judged : Judged) → IsSound list files judged → (made : Parts) → IsPrepared list judged made → (p : Package) → IsDraft list files p → codes p ≡ made.codes }
 {}
 
-/// A list and its files have one package at most, and the first of the rules 417, 311, 414 and 415 that it breaks is their
-/// refusal where they break no other.
+/// A list and its files have one package at most, and the first of the rules 417, 311, 414 and 415 that it
+/// breaks is their refusal where they break no other.
 pub fn one_package()
     ensures { (list : ListTree) (files : List (List ℕ)) (judged : Judged) → IsSound list files judged → (p q : Package) → IsPackageOf list files p → IsPackageOf list files q → p ≡ q }
 {}

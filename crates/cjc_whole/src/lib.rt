@@ -1,6 +1,6 @@
-//! Which package a list and its files are, whatever package that is: its methods with their narrow code and their layouts, or the
-//! first rule that speaks of what is written for it. Whoever converts a package calls it. It puts together what the crates
-//! below make, and knows no format.
+//! Which package a list and its files are, whatever package that is: its methods with their narrow code and
+//! their layouts, or the first rule that speaks of what is written for it. Whoever converts a package calls it.
+//! It puts together what the crates below make, and knows no format.
 #![tactic(auto)]
 
 mod laws;

@@ -1,5 +1,6 @@
-//! The narrow code of a package that breaks no rule over sound export files runs as its class files: what the instructions of its methods
-//! name fits their types, and what its static image says is of sound types. Laws alone: nothing here runs.
+//! The narrow code of a package that breaks no rule over sound export files runs as its class files: what the
+//! instructions of its methods name fits their types, and what its static image says is of sound types. Laws
+//! alone: nothing here runs.
 #![tactic(auto)]
 
 ghost use Rattle.std.specs.Prelude.{ℕ, List};
@@ -21,9 +22,9 @@ ghost use Rattle.cjc_script.specs.declared.script.Script.{Script};
 ghost use Rattle.cjc_world.specs.Files.{Files};
 ghost use Rattle.cjc_world.specs.declared.image.StaticImage.{StaticImage};
 
-/// Each instruction that the type table of a method reaches is one that the card has, and what it names is in the class files and export
-/// files and fits the types of the stack. So the narrow code of the package runs as its class files, for every script, where what the
-/// image says is of sound types.
+/// Each instruction that the type table of a method reaches is one that the card has, and what it names is in
+/// the class files and export files and fits the types of the stack. So the narrow code of the package runs as
+/// its class files, for every script, where what the image says is of sound types.
 pub fn instructions_fit_their_files()
     ensures named { (list : List ℕ) (files : Files) (codes : List MethodCode) (settings : Settings) (tables : Tables) → IsWhole list files codes settings tables
         → (image : StaticImage) (near : List MemberId) (m : Method) → AreNamed files image near tables m }
@@ -31,9 +32,9 @@ pub fn instructions_fit_their_files()
         → (image : StaticImage) (near : List MemberId) → IsFirst (look_ups files image near tables) files image → IsConverted files image near tables }
 {}
 
-/// The static image of such a package, whose initialisers break no rule, is of sound types: its arrays are of so many numbers of their
-/// type, and each static cell holds what its descriptor says. So the run of the class files by name and the run of the narrow code that
-/// is written for them agree, for every script.
+/// The static image of such a package, whose initialisers break no rule, is of sound types: its arrays are of
+/// so many numbers of their type, and each static cell holds what its descriptor says. So the run of the class
+/// files by name and the run of the narrow code that is written for them agree, for every script.
 pub fn whole_packages_run_alike()
     ensures first { (list : List ℕ) (files : Files) (codes : List MethodCode) (settings : Settings) (tables : Tables) → IsWhole list files codes settings tables
         → (image : StaticImage) → IsImage files codes image → ((b : Break) → BreaksImage files codes b → ⊥) → (near : List MemberId) → IsFirst (look_ups files image near tables) files image }

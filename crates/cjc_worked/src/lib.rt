@@ -22,9 +22,9 @@ ghost use Rattle.cjc_worked.specs.Keeping.{image, cells, kept};
 ghost use Rattle.cjc_worked.specs.Laid.{named_for, placed};
 ghost use Rattle.cjc_lower.specs.Package.{all_bytes, all_handlers};
 
-/// Calculations, array elements, switches and handlers on all three machines: each row has the report by name, by token and by
-/// label. A sum that wraps, an index outside on either side, the least short divided by -1, shifts past their word, a mask of
-/// 16 bits, cases outside 16 bits, of which no word is one.
+/// Calculations, array elements, switches and handlers on all three machines: each row has the report by name,
+/// by token and by label. A sum that wraps, an index outside on either side, the least short divided by -1,
+/// shifts past their word, a mask of 16 bits, cases outside 16 bits, of which no word is one.
 pub fn calculations_run_alike()
     ensures sum { reports 100 Calculating.files no_image Calculating.components (script (call (codes "p/T") (codes "f") (codes "(S)S") (Num (pos 32767) ∷ []) ∷ []) ([])) ≡ ends (Result (Some (Num (negsuc 32767))) ∷ []) ([]) Done 5 ∷ ends (Result (Some (Num (negsuc 32767))) ∷ []) ([]) Done 4 ∷ ends (Result (Some (Num (negsuc 32767))) ∷ []) ([]) Done 4 ∷ [] }
     ensures caught { reports 100 Calculating.files no_image Calculating.components (script (call (codes "p/T") (codes "c") (codes "(S)S") (Num (pos 0) ∷ []) ∷ []) ([])) ≡ ends (Result (Some (Num (pos 3))) ∷ []) (bare (codes "java/lang/ArithmeticException") ∷ []) Done 6 ∷ ends (Result (Some (Num (pos 3))) ∷ []) (bare (codes "java/lang/ArithmeticException") ∷ []) Done 6 ∷ ends (Result (Some (Num (pos 3))) ∷ []) (bare (codes "java/lang/ArithmeticException") ∷ []) Done 6 ∷ [] }
@@ -50,14 +50,16 @@ pub fn imported_calls_run_alike()
     ensures answered { reports 100 Calculating.files no_image Calculating.components (script (call (codes "p/T") (codes "g") (codes "()Z") ([]) ∷ []) (answer 1 (Give (Some (Num (pos 1)))) ∷ [])) ≡ ends (Event (id (codes "q/A") (codes "z") (codes "()Z")) [] ∷ Result (Some (Num (pos 1))) ∷ []) ([]) Done 2 ∷ ends (Event (id (codes "q/A") (codes "z") (codes "()Z")) [] ∷ Result (Some (Num (pos 1))) ∷ []) ([]) Done 2 ∷ ends (Event (id (codes "q/A") (codes "z") (codes "()Z")) [] ∷ Result (Some (Num (pos 1))) ∷ []) ([]) Done 2 ∷ [] }
 {}
 
-/// Dispatch on all three machines: an imported class's method is sent to a subclass that overrides it, and one that it inherits is
-/// an event of the imported class; two classes with nothing but an interface in common have each their own method.
+/// Dispatch on all three machines: an imported class's method is sent to a subclass that overrides it, and one
+/// that it inherits is an event of the imported class; two classes with nothing but an interface in common have
+/// each their own method.
 pub fn dispatch_runs_alike()
     ensures overrides { reports 100 Overriding.files no_image Overriding.components (script (call (codes "p/B") (codes "make") (codes "()Lp/B;") [] ∷ send (codes "q/A") (codes "a") (codes "()S") (Obj 0 ∷ []) ∷ call (codes "p/B") (codes "k") (codes "(Lp/B;)S") (Obj 0 ∷ []) ∷ []) (answer 1 (Give None) ∷ answer 4 (Give (Some (Num (pos 9)))) ∷ [])) ≡ ends (Event (id (codes "q/A") (codes "<init>") (codes "()V")) (Obj 0 ∷ []) ∷ Result (Some (Obj 0)) ∷ Result (Some (Num (pos 7))) ∷ Event (id (codes "q/A") (codes "b") (codes "()S")) (Obj 0 ∷ []) ∷ Result (Some (Num (pos 9))) ∷ []) (bare (codes "p/B") ∷ []) Done 12 ∷ ends (Event (id (codes "q/A") (codes "<init>") (codes "()V")) (Obj 0 ∷ []) ∷ Result (Some (Obj 0)) ∷ Result (Some (Num (pos 7))) ∷ Event (id (codes "q/A") (codes "b") (codes "()S")) (Obj 0 ∷ []) ∷ Result (Some (Num (pos 9))) ∷ []) (bare (codes "p/B") ∷ []) Done 12 ∷ ends (Event (id (codes "q/A") (codes "<init>") (codes "()V")) (Obj 0 ∷ []) ∷ Result (Some (Obj 0)) ∷ Result (Some (Num (pos 7))) ∷ Event (id (codes "q/A") (codes "b") (codes "()S")) (Obj 0 ∷ []) ∷ Result (Some (Num (pos 9))) ∷ []) (bare (codes "p/B") ∷ []) Done 12 ∷ [] }
     ensures shares { reports 100 Sharing.files no_image Sharing.components (script (call (codes "p/T") (codes "t") (codes "(S)S") (Num (pos 1) ∷ []) ∷ call (codes "p/T") (codes "t") (codes "(S)S") (Num (pos 0) ∷ []) ∷ []) ([])) ≡ ends (Result (Some (Num (pos 1))) ∷ Result (Some (Num (pos 2))) ∷ []) (bare (codes "p/M") ∷ bare (codes "p/N") ∷ []) Done 19 ∷ ends (Result (Some (Num (pos 1))) ∷ Result (Some (Num (pos 2))) ∷ []) (bare (codes "p/M") ∷ bare (codes "p/N") ∷ []) Done 19 ∷ ends (Result (Some (Num (pos 1))) ∷ Result (Some (Num (pos 2))) ∷ []) (bare (codes "p/M") ∷ bare (codes "p/N") ∷ []) Done 19 ∷ [] }
 {}
 
-/// Static cells on all three machines, before the first instruction and after a run: an array, null, a boolean and a short.
+/// Static cells on all three machines, before the first instruction and after a run: an array, null, a boolean
+/// and a short.
 pub fn statics_run_alike()
     ensures at_first { reports 0 Keeping.files image Keeping.components (script (call (codes "p/T") (codes "next") (codes "()S") ([]) ∷ []) ([])) ≡ kept ([]) (cells 0 7) Running 0 ∷ kept ([]) (cells 0 7) Running 0 ∷ kept ([]) (cells 0 7) Running 0 ∷ [] }
     ensures next { reports 100 Keeping.files image Keeping.components (script (call (codes "p/T") (codes "next") (codes "()S") ([]) ∷ []) ([])) ≡ kept (Result (Some (Num (pos 9))) ∷ []) (cells 1 9) Done 11 ∷ kept (Result (Some (Num (pos 9))) ∷ []) (cells 1 9) Done 10 ∷ kept (Result (Some (Num (pos 9))) ∷ []) (cells 1 9) Done 10 ∷ [] }
@@ -68,8 +70,8 @@ pub fn stop_bits_end_the_search()
     ensures { run all_stop (script (call (codes "p/T") (codes "c") (codes "(S)S") (Num (pos 0) ∷ []) ∷ []) []) 100 ≡ ends (Thrown (codes "java/lang/ArithmeticException") 0 ∷ []) (bare (codes "java/lang/ArithmeticException") ∷ []) Done 3 }
 {}
 
-/// What is written for the class files, laid out one method behind the other with the indices of the pool in its order, is the
-/// bytes of the components, and of the handlers their table with its stop bits.
+/// What is written for the class files, laid out one method behind the other with the indices of the pool in
+/// its order, is the bytes of the components, and of the handlers their table with its stop bits.
 pub fn what_is_written_is_laid_out_alike()
     ensures calculating { all_bytes (named_for Calculating.files Calculating.components (Calculating.class_t ∷ [])) (placed Calculating.files Calculating.components (Calculating.class_t ∷ []) 17) ≡ (let method = Calculating.part.method in method.methods) }
     ensures handlers { all_handlers (named_for Calculating.files Calculating.components (Calculating.class_t ∷ [])) (placed Calculating.files Calculating.components (Calculating.class_t ∷ []) 17) ≡ (let method = Calculating.part.method in method.handlers) }

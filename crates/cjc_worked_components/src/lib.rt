@@ -1,5 +1,5 @@
-//! Packages made by hand, and the components and export files that are written for them, byte for byte. It shows on examples that
-//! the definitions of components mean what they are to. Nothing here runs.
+//! Packages made by hand, and the components and export files that are written for them, byte for byte. It
+//! shows on examples that the definitions of components mean what they are to. Nothing here runs.
 #![tactic(auto)]
 
 ghost use Rattle.std.specs.Prelude.{◌≡◌, [], ◌∷◌, ◌++◌, Some, None, length};
@@ -61,7 +61,8 @@ pub fn overriding_is_written()
     ensures export { export overrides ≡ None }
 {}
 
-/// An interface, an abstract class that gets its method, and a subclass that overrides it, in another order in the list.
+/// An interface, an abstract class that gets its method, and a subclass that overrides it, in another order in
+/// the list.
 pub fn added_methods_are_written()
     ensures class { class_info_bytes (class_info (class_ref inherits) inherits) ≡ 0x00 ∷ 0x00 ∷ 0x80 ∷ 0x01 ∷ 0x80 ∷ 0x00 ∷ 0x00 ∷ 0xFF ∷ 0x00 ∷ 0x01 ∷ 0x01 ∷ 0x00 ∷ 0x00 ∷ 0x00 ∷ 0x01 ∷ 0x00 ∷ 0x02 ∷ 0x01 ∷ 0x01 ∷ 0x01 ∷ 0x00 ∷ 0x03 ∷ 0x00 ∷ 0xFF ∷ 0x00 ∷ 0x01 ∷ 0x01 ∷ 0x00 ∷ 0x00 ∷ 0x00 ∷ 0x03 ∷ 0x00 ∷ 0x02 ∷ 0x01 ∷ 0x01 ∷ [] }
     ensures method { method_bytes (method inherits) ≡ 0x00 ∷ 0x40 ∷ 0x10 ∷ 0x01 ∷ 0x10 ∷ 0x04 ∷ 0x78 ∷ [] }
@@ -109,15 +110,15 @@ pub fn wallet_is_written()
     ensures applet { part applet_bytes (applet wallet) ≡ 0x01 ∷ 0x06 ∷ 0xA0 ∷ 0x00 ∷ 0x00 ∷ 0x00 ∷ 0x01 ∷ 0x01 ∷ 0x00 ∷ 0x08 ∷ [] }
 {}
 
-/// The components of packages, loaded with the names of their class files and run by token: a sum that wraps, and the wallet, which
-/// gives what it gives by name but for the instructions that are spent.
+/// The components of packages, loaded with the names of their class files and run by token: a sum that wraps,
+/// and the wallet, which gives what it gives by name but for the instructions that are spent.
 pub fn components_run_by_token()
     ensures sum { run_of adds (script (call (codes "p/T") (codes "f") (codes "(S)S") (Num (pos 32767) ∷ []) ∷ []) ([])) 100 ≡ Some (ends (Gives (Some (Num (negsuc 32767))) ∷ []) ([]) Done 4) }
     ensures wallet { run_of wallet_with_exceptions wallet_script 30000 ≡ Some (record wallet_report { spent = 63 }) }
 {}
 
-/// Components belong to the class files that they are written for. Beside a class with a second method the number of methods in
-/// Descriptor is told, beside a second class the number of classes.
+/// Components belong to the class files that they are written for. Beside a class with a second method the
+/// number of methods in Descriptor is told, beside a second class the number of classes.
 pub fn components_belong_to_class_files()
     ensures own { broken_beside adds (let p = adds in p.files) ≡ Some [] }
     ensures methods { broken_beside adds (files_of (lang ∷ []) with_second) ≡ Some (break_at 719 (in_info 11 8) ∷ []) }

@@ -1,4 +1,5 @@
--- What a world is made of.
+-- The input of a world: the package's name, lines, class files and export files, of which all that is said of
+-- look-up speaks.
 use Rattle.std.specs.Prelude.{ℕ, List}
 use Rattle.cjc_bytes.specs.declared.settings.FileLine.{FileLine}
 use Rattle.cjc_classfile.specs.declared.tree.ClassTree.{ClassTree}

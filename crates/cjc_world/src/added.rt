@@ -1,4 +1,5 @@
-//! The methods that abstract classes get from their interfaces.
+//! The methods that abstract classes of the package get from interfaces they implement without declaring them.
+//! Made once for each world; they count as members behind a class's own.
 
 ghost use Rattle.std.specs.Prelude.{◌≡◌, ◌&&◌, ℕ, IfOk, OnOk, true, length, map, slice_get, Some};
 ghost use Rattle.std.specs.List.{list_any};

@@ -1,4 +1,5 @@
-//! A class of either kind of file, lent by a world.
+//! `Known`, a class of a world whichever kind of file it is from: its name, flags, supers and members, lent. So
+//! walks over classes need not tell class files from export files.
 
 ghost use Rattle.std.specs.Prelude.{◌≡◌, ◌<◌, ◌+◌, ◌^◌, ◌&&◌, ◌==◌, get_or, length, MatchOption, None, Some, option_map, position, slice_get};
 ghost use Rattle.std.specs.Str.{bytes_eq};

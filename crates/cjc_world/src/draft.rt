@@ -1,4 +1,5 @@
-//! A world whose rules are not tested yet.
+//! All classes with what stands above each, and the cycles where there are any: what the rules of a world are
+//! tested on, before there is a world.
 
 ghost use Rattle.std.specs.Prelude.{◌≡◌, ℕ, [], true, is_some, length, slice_get, IfSome, IfNone, IfOk, MatchOption, Some};
 ghost use Rattle.std.specs.List.{list_all};

@@ -1,4 +1,5 @@
-//! What a look-up finds.
+//! What a look-up answers: a field or method by its class and its place there, in the package or in an export
+//! file. It is a number to keep, and lends nothing.
 
 /// The place of a field or method.
 #[derive(Clone, Copy, Debug, PartialEq, Eq)]

@@ -1,4 +1,5 @@
-//! The initial values of a package's static fields.
+//! `StaticImage`, what the static fields of a package hold at first, in the order of the card's cells (Java
+//! Card Virtual Machine Specification 2.2.2, section 6.10). It is made and read in crates above.
 
 use cjc_bytes::{Kind, MemberId, Row};
 

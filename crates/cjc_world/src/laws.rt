@@ -15,8 +15,8 @@ pub fn subtype_laws()
     ensures transitive { (w : List Class) → IsTransitive w }
 {}
 
-/// A package that breaks no rule has no cycles. Without cycles there is one tree of what stands above some names, and `kin` is it. Look-up and selection from
-/// a class go through its superclass.
+/// A package that breaks no rule has no cycles. Without cycles there is one tree of what stands above some
+/// names, and `kin` is it. Look-up and selection from a class go through its superclass.
 pub fn lookup_laws()
     ensures acyclic { (list : List ℕ) (files : Files) → breaks list files ≡ [] → IsAcyclic (all_classes files) }
     ensures is_kin { (w : List Class) → IsAcyclic w → (xs : List (List ℕ)) → IsKin w xs (kin w xs) }

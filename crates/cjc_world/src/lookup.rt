@@ -1,4 +1,5 @@
-//! Walks over lists of places of classes. Nothing here takes memory.
+//! The part of the roster that walks over lists of classes: the first field or method that fits, whether a name
+//! is among them, and subclasses. Nothing here takes memory.
 
 ghost use Rattle.std.specs.Prelude.{◌≡◌, ◌||◌, ◌∷◌, [], false, slice_get};
 ghost use Rattle.std.specs.List.{list_any};

@@ -1,4 +1,5 @@
-//! The places of classes by their names.
+//! From the name of a class to its place in the list, by a map; of two classes with a name the first counts.
+//! Only the roster asks it.
 
 ghost use Rattle.std.specs.Prelude.{◌≡◌, ◌<◌, ◌^◌, ℕ, List, length, IfOk, OnOk, cond};
 ghost use Rattle.std.specs.Str.{bytes_eq};

@@ -1,4 +1,5 @@
-//! The places of classes by the numbers that a look-up answers.
+//! From a class number of a look-up, of the package or imported, to its place in the list. Only the roster asks
+//! it.
 
 ghost use Rattle.std.specs.Prelude.{◌≡◌, ◌<◌, ◌^◌, false, true, length, slice_get, IfOk};
 ghost use Rattle.cjc_world.specs.Working.Numbers.{is_of_kind, places_in, places_of};

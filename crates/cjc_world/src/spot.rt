@@ -1,4 +1,5 @@
-//! Where a world keeps its classes.
+//! Where a world keeps each of its classes: in which file of which kind, and at which place there. Only the
+//! indices and rules of the world see it; whoever asks the world gets `Found` or `Known`.
 
 ghost use Rattle.std.specs.Prelude.{◌≡◌, ◌<◌, ◌^◌, ◌+◌, ◌++◌, ℕ, List, IfOk, OnOk, true, All, length, slice_get, option_map};
 ghost use Rattle.cjc_classfile.specs.declared.tree.ClassTree.{ClassTree as ClassFile};

@@ -1,5 +1,5 @@
-//! Tables of what stands above each class, made once, supers first. A class has a row exactly where no cycle is at it or
-//! above it.
+//! Tables of what stands above each class, made once, supers first. A class has a row exactly where no cycle is
+//! at it or above it.
 
 ghost use Rattle.std.specs.Prelude.{◌≡◌, ◌<◌, ◌+◌, ℕ, [], ◌∷◌, false, true, length, is_some, slice_get, IfOk, OnOk};
 ghost use Rattle.std.specs.List.{list_all};

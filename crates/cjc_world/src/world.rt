@@ -1,4 +1,5 @@
-//! The world of a package, and look-up in it. Nothing here takes memory but `new`.
+//! `World`, the package with the export files that it stands on, once its rules are tested, and look-up of
+//! classes, fields and methods in it. Nothing here takes memory but `new`.
 
 ghost use Rattle.std.specs.Prelude.{◌≡◌, ◌<◌, [], ◌++◌, true, false, length, slice_get, option_map, IfSome, IfOk, IfErr, OnOk};
 ghost use Rattle.cjc_world.specs.Classes.{all_classes, class_at, class_named};
@@ -286,8 +287,8 @@ impl<'a> World<'a> {
         )
     }
 
-    /// The method of an interface: its own of this name and descriptor, else that of the first of its superinterfaces, in
-    /// their order, that declares one. None where there is none.
+    /// The method of an interface: its own of this name and descriptor, else that of the first of its
+    /// superinterfaces, in their order, that declares one. None where there is none.
     pub fn method_of_interface(&self, interface: &[u8], name: &[u8], desc: &[u8]) -> Option<Found>
         ensures { result ≡ method_of_interface (all_classes self.now) interface.now name.now desc.now }
     {

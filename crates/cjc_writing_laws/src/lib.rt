@@ -1,5 +1,6 @@
-//! What is written for a package that breaks no rule can be written, with nothing left to ask: its component files where it breaks
-//! no limit of sizes, and its export file. For whoever converts a package. It has laws alone; nothing here runs.
+//! What is written for a package that breaks no rule can be written, with nothing left to ask: its component
+//! files where it breaks no limit of sizes, and its export file. For whoever converts a package. It has laws
+//! alone; nothing here runs.
 #![tactic(auto)]
 
 ghost use Rattle.std.specs.Prelude.{◌≡◌, ◌≤◌, [], length, List, None, ℕ};
@@ -23,8 +24,8 @@ pub fn aids_are_short()
     ensures { (list : ListTree) → IsRead list → AidsAreShort list }
 {}
 
-/// A package of such a list that breaks no rule, is laid out and breaks neither 411 nor 416 can be written: each component fits
-/// its fields, the component tree keeps the limits, and Method has at most 65,535 bytes.
+/// A package of such a list that breaks no rule, is laid out and breaks neither 411 nor 416 can be written:
+/// each component fits its fields, the component tree keeps the limits, and Method has at most 65,535 bytes.
 pub fn components_can_be_written()
     ensures limits { (p : Package) → size_breaks p ≡ [] → limit_of (components_of p) ≡ None }
     ensures writable { (list : ListTree) (files : List (List ℕ)) (judged : Judged) (p : Package) → IsLaidOut list files judged p → size_breaks p ≡ [] → IsWritable (components_of p) }
@@ -33,8 +34,9 @@ pub fn components_can_be_written()
     laid_out_packages_fit();
 }
 
-/// The methods of each interface that the export file of such a package lists can stand there: each has a token of its own
-/// below their number, which is at most 128, and none is named as a constructor or an initialiser is.
+/// The methods of each interface that the export file of such a package lists can stand there: each has a token
+/// of its own below their number, which is at most 128, and none is named as a constructor or an initialiser
+/// is.
 pub fn exported_interfaces_stand()
     ensures { (list : ListTree) (files : List (List ℕ)) (judged : Judged) (p : Package) → IsLaidOut list files judged p → ExportedInterfacesStand p }
 {}

@@ -73,8 +73,8 @@ pub fn methods_begin_at_offsets()
     layouts_are_laid_out();
 }
 
-/// A method of an interface that a class has no code of, and that so is added to the class in Method, begins on the card
-/// at its offset as an abstract one, with the words of its descriptor.
+/// A method of an interface that a class has no code of, and that so is added to the class in Method, begins on
+/// the card at its offset as an abstract one, with the words of its descriptor.
 pub fn added_methods_begin<T>()
     ensures { (list : List ℕ) (tree : ListTree) (codes : List MethodCode) (rows : Method → List (Option T)) (p : Package) → IsSound list p.files → IsPackage tree p.files codes rows p → AreReady p
         → (f : Found) → f.imported ≡ false → is_in_method (world p) f ≡ true → method_at p.files f ≡ None
@@ -121,8 +121,8 @@ pub fn calls_take_words<T>()
     tokens_mean_methods();
 }
 
-/// A method that a class of the package declares is the one that Descriptor lists under its name and descriptor, and has
-/// no token there just where it is static, private or a constructor.
+/// A method that a class of the package declares is the one that Descriptor lists under its name and
+/// descriptor, and has no token there just where it is static, private or a constructor.
 pub fn methods_are_declared()
     ensures declared { (list : List ℕ) (p : Package) → IsSound list p.files → IsSmall p → Keeps (world p) → ExportsKeep p
         → (id : Member) (c : Class) → class_named (world p) id.class ≡ Some c → c.is_imported ≡ false → is_initialiser id.name ≡ false → (f : Found) → own_method false id.name id.desc c ≡ Some f
@@ -168,8 +168,9 @@ pub fn sent_methods_stand()
     classes_are_told();
 }
 
-/// What names of classes and calls stand for is what their entries in the pool mean: a class by its class_ref, a virtual method of
-/// a class and one of the superclass by its token, and of the package itself a static method, a constructor or a private method.
+/// What names of classes and calls stand for is what their entries in the pool mean: a class by its class_ref,
+/// a virtual method of a class and one of the superclass by its token, and of the package itself a static
+/// method, a constructor or a private method.
 pub fn calls_fit_their_keys()
     ensures classes { (list : List ℕ) (p : Package) → IsSound list p.files → IsSmall p → Keeps (world p) → ExportsKeep p → (x : List ℕ) (c : Class) → class_named (world p) x ≡ Some c → IsClass (naming p) x }
     ensures virtual_call { (list : List ℕ) (p : Package) → IsSound list p.files → IsSmall p → Keeps (world p) → ExportsKeep p → KeepsTokens (world p) → (m : Member) (c : Class) → class_named (world p) m.class ≡ Some c → is_interface c.flags ≡ false → Fit (naming p) (Meanings.Calls Meanings.Virtual) (keys.Virtual m) }

@@ -1,6 +1,6 @@
-//! A package that breaks no rule and is laid out keeps what its writers ask: its components and its export file fit their
-//! formats, and what its static fields hold at first is of their types. For whoever converts a package. It has laws alone;
-//! nothing here runs.
+//! A package that breaks no rule and is laid out keeps what its writers ask: its components and its export file
+//! fit their formats, and what its static fields hold at first is of their types. For whoever converts a
+//! package. It has laws alone; nothing here runs.
 
 ghost use Rattle.std.specs.Prelude.{◌≡◌, ◌≤◌, [], length, List, None, ℕ};
 ghost use Rattle.cjc_capwrite.specs.Files.{limit_of, part};
@@ -23,9 +23,10 @@ use cjc_export_file::few_classes;
 use cjc_export_laws::export_file_fits;
 use cjc_fit_laws::components_fit;
 
-/// The components of a package that breaks no rule are small enough for all that is said of their sizes, so that they can be
-/// written: where neither 411 nor 416 is broken, and where Method has at most 65,535 bytes at the widest and the component
-/// tree breaks no limit, which is how it is told. Method then has at most 65,535 bytes, whatever the other components have.
+/// The components of a package that breaks no rule are small enough for all that is said of their sizes, so
+/// that they can be written: where neither 411 nor 416 is broken, and where Method has at most 65,535 bytes at
+/// the widest and the component tree breaks no limit, which is how it is told. Method then has at most 65,535
+/// bytes, whatever the other components have.
 pub fn laid_out_packages_fit()
     ensures limited { (list : ListTree) (files : List (List ℕ)) (judged : Judged) (p : Package) → IsLaidOut list files judged p → size_breaks p ≡ [] → IsLimited p }
     ensures writable { (list : ListTree) (files : List (List ℕ)) (judged : Judged) (p : Package) → IsLaidOut list files judged p → widest_method p ≤ 65535 → limit_of (components_of p) ≡ None → IsWritable (components_of p) }
@@ -35,7 +36,8 @@ pub fn laid_out_packages_fit()
     components_fit();
 }
 
-/// What the static fields of such a package hold at first is of their types: numbers of the types of their fields and arrays.
+/// What the static fields of such a package hold at first is of their types: numbers of the types of their
+/// fields and arrays.
 pub fn static_images_fit()
     ensures { (list : ListTree) (files : List (List ℕ)) (judged : Judged) (p : Package) → IsLaidOut list files judged p → AreFit p.image }
 {}
@@ -47,14 +49,14 @@ pub fn export_files_fit()
     export_file_fits();
 }
 
-/// The methods of each class that its export file lists, and that is no interface, can stand there: each fits, and no two have
-/// one token. So those of all do, where those of interfaces do.
+/// The methods of each class that its export file lists, and that is no interface, can stand there: each fits,
+/// and no two have one token. So those of all do, where those of interfaces do.
 pub fn exported_classes_stand()
     ensures { (list : ListTree) (files : List (List ℕ)) (judged : Judged) (p : Package) → IsLaidOut list files judged p → ExportedInterfacesStand p → ExportedMethodsStand p }
 {}
 
-/// What consistent components rest on and rules of the files promise: no interface of such a package has a static method or a
-/// constructor, and the class of each applet is one with an install method and no interface.
+/// What consistent components rest on and rules of the files promise: no interface of such a package has a
+/// static method or a constructor, and the class of each applet is one with an install method and no interface.
 pub fn interfaces_and_applets_fit()
     ensures interfaces { (list : ListTree) (files : List (List ℕ)) (judged : Judged) (p : Package) → IsLaidOut list files judged p → InterfacesAreUnbound p }
     ensures applets { (list : ListTree) (files : List (List ℕ)) (judged : Judged) (p : Package) → IsLaidOut list files judged p → HaveInstalls p }

@@ -1,6 +1,6 @@
-//! A package that is converted has what its components and its narrow code rest on, so that its components run as its narrow
-//! code, told from the rules that it does not break. For whoever converts a package. It has definitions and laws alone; nothing
-//! here runs.
+//! A package that is converted has what its components and its narrow code rest on, so that its components run
+//! as its narrow code, told from the rules that it does not break. For whoever converts a package. It has
+//! definitions and laws alone; nothing here runs.
 #![tactic(auto)]
 
 mod fitting_laws;
@@ -59,8 +59,9 @@ pub use fitting_laws::{
 };
 pub use whole_laws::{converted_classes_are_ordered, converted_methods_are_emittable};
 
-/// The files of a converted package are read ones that break no rule of classes and names. Its fields are of types that values
-/// have, and its static image is what its initialisers make, of which each class has one at most.
+/// The files of a converted package are read ones that break no rule of classes and names. Its fields are of
+/// types that values have, and its static image is what its initialisers make, of which each class has one at
+/// most.
 pub fn converted_files_are_sound()
     ensures read { (list : ListTree) (files : List (List ℕ)) (judged : Judged) (p : Package) → IsConverted list files judged p → AreReadFiles p.files }
     ensures sound { (list : ListTree) (files : List (List ℕ)) (judged : Judged) (p : Package) → IsConverted list files judged p → IsSound list.name p.files }
@@ -71,8 +72,9 @@ pub fn converted_files_are_sound()
     fields_are_typed();
 }
 
-/// The classes of a converted package keep what calls rest on: what dispatch by class tables asks, subtypes over superclasses
-/// and interfaces, tokens of seven bits, code where objects may be, and no static method of an interface but its initialiser.
+/// The classes of a converted package keep what calls rest on: what dispatch by class tables asks, subtypes
+/// over superclasses and interfaces, tokens of seven bits, code where objects may be, and no static method of
+/// an interface but its initialiser.
 pub fn converted_classes_keep_rules()
     ensures keeps { (list : ListTree) (files : List (List ℕ)) (judged : Judged) (p : Package) → IsConverted list files judged p → Keeps (world p) }
     ensures subtypes { (list : ListTree) (files : List (List ℕ)) (judged : Judged) (p : Package) → IsConverted list files judged p → KeepsSubtypes (world p) }
@@ -88,8 +90,9 @@ pub fn converted_methods_are_in_order()
     ensures { (list : ListTree) (files : List (List ℕ)) (judged : Judged) (p : Package) → IsConverted list files judged p → AreMethods p }
 {}
 
-/// Its methods are short: all of Method has at most 65,535 bytes. They are consistent as code: bytes can say them, jumps and
-/// handlers stay inside them, and what they name is of the kind that its opcode uses. Each comes to its code by selection.
+/// Its methods are short: all of Method has at most 65,535 bytes. They are consistent as code: bytes can say
+/// them, jumps and handlers stay inside them, and what they name is of the kind that its opcode uses. Each
+/// comes to its code by selection.
 pub fn converted_methods_are_consistent()
     ensures made { (list : ListTree) (files : List (List ℕ)) (judged : Judged) (p : Package) → IsConverted list files judged p → AllAreMade (names p) p.files p.methods }
     ensures small { (list : ListTree) (files : List (List ℕ)) (judged : Judged) (p : Package) → IsConverted list files judged p → IsSmall p }
@@ -117,8 +120,9 @@ pub fn converted_methods_are_ready()
     pooled_methods_are_emittable();
 }
 
-/// The components of a converted package, run by token, give the report of its narrow code, run by name, for every script and
-/// every number of instructions where narrow code is not stuck: where what is asked of its calls, operations and objects holds.
+/// The components of a converted package, run by token, give the report of its narrow code, run by name, for
+/// every script and every number of instructions where narrow code is not stuck: where what is asked of its
+/// calls, operations and objects holds.
 pub fn converted_packages_run_by_token()
     ensures { (list : ListTree) (files : List (List ℕ)) (judged : Judged) (p : Package) → IsConverted list files judged p → (call : Callee → Bool) → IsJoined p call
         → (script : Script) (n : ℕ) → (let report = run_by_label p.files p.image (laid_code p) script n in (at : ℕ) → report.outcome ≢ Stuck at) → run_by_token (loaded p) script n ≡ run_by_label p.files p.image (laid_code p) script n }

@@ -1,5 +1,5 @@
-//! What judging and laying out promise of a converted package is what others ask of one. For whoever writes it, and whoever
-//! promises something of what is written. It has laws alone; nothing here runs.
+//! What judging and laying out promise of a converted package is what others ask of one. For whoever writes it,
+//! and whoever promises something of what is written. It has laws alone; nothing here runs.
 
 ghost use Rattle.std.specs.Prelude.{◌≡◌, ℕ, All, List, map, false, slice_get, Some};
 ghost use Rattle.cjc_class_order.specs.Numbers.{IsOfKind, declared_at};
@@ -20,9 +20,9 @@ ghost use Rattle.cjc_world.specs.Order.{in_order, method_order};
 
 use cjc_judge_laws::pooled_methods_are_emittable;
 
-/// Each method of a package that breaks no rule of its files and is laid out can be emitted by the pool that its methods need,
-/// with the names that its components have: indices are places in the pool, and the token of a method of an interface is its
-/// place among the interface's methods.
+/// Each method of a package that breaks no rule of its files and is laid out can be emitted by the pool that
+/// its methods need, with the names that its components have: indices are places in the pool, and the token of
+/// a method of an interface is its place among the interface's methods.
 pub fn converted_methods_are_emittable()
     ensures keys { (list : ListTree) (files : List (List ℕ)) (judged : Judged) → IsSound list files judged → (s : Laid) (p : Package) → IsShaped list files s p
         → (pool : PoolView) → IsPool judged.world (tokens p) (codes p) pool → pool.keys ≡ packages.pool p }
@@ -33,8 +33,9 @@ pub fn converted_methods_are_emittable()
     pooled_methods_are_emittable();
 }
 
-/// The numbers that are answered for the order of Class are those of such a package's classes in that order, and its methods are
-/// those of its files in the order of Method: so its extents give the offsets of its methods.
+/// The numbers that are answered for the order of Class are those of such a package's classes in that order,
+/// and its methods are those of its files in the order of Method: so its extents give the offsets of its
+/// methods.
 pub fn converted_classes_are_ordered()
     ensures ordered { (list : ListTree) (files : List (List ℕ)) (judged : Judged) → IsSound list files judged → (p : Package) → IsPackageOf list files p
         → (order : List ℕ) → map Some (in_order (all_classes judged.world) false) ≡ map (declared_at (let w = judged.world in w.classes)) order → All (IsOfKind judged.world false) order → AreOrdered p.files order }

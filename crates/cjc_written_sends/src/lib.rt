@@ -39,8 +39,8 @@ use cjc_tables_by_token::classes_are_told;
 use cjc_vtable::{dispatch_laws, token_laws};
 use cjc_world::lookup_laws;
 
-/// What an instruction in Method names is known: fields, static cells, classes and calls, where the class files name what
-/// is there. Each call of the package is one that the rules of names allow.
+/// What an instruction in Method names is known: fields, static cells, classes and calls, where the class files
+/// name what is there. Each call of the package is one that the rules of names allow.
 pub fn operations_are_known<T>()
     ensures known { (list : ListTree) (codes : List MethodCode) (rows : Method → List (Option T)) (p : Package) → IsPackage list p.files codes rows p → InstructionsNameWhatIsThere p
         → (q : Placed) (k : ℕ) (insn : NInsn) → IsAmong (placed_methods p) q → (let m = q.method in slice_get m.insns k ≡ Some insn) → KnownOperation (known p) (IsKnownCall (known_tests p)) (operation insn) }
@@ -61,8 +61,9 @@ pub fn package_interfaces_ask()
     ensures no_static { (list : List ℕ) (files : Files) (codes : List MethodCode) (settings : Settings) → IsKept list files codes settings → NoStaticMethods (all_classes files) }
 {}
 
-/// A method that a script sends to an object begins by token as by name, or is none by both: to an array or an object of
-/// whatever class, by the name of whatever class or interface, and whatever its name and descriptor are.
+/// A method that a script sends to an object begins by token as by name, or is none by both: to an array or an
+/// object of whatever class, by the name of whatever class or interface, and whatever its name and descriptor
+/// are.
 pub fn sent_methods_begin_alike()
     ensures { (list : List ℕ) (p : Package) → IsSound list p.files → AreReady p → AreMethods p → IsSmall p → Keeps (world p) → KeepsSubtypes (world p) → KeepsTokens (world p) → ExportsKeep p → InterfacesAsk false (world p) → ExportsSend p
         → (kind : Shape (List ℕ)) → Receives (world p) (Some kind) → (id : Member)

@@ -1,4 +1,4 @@
--- What the code's table of opcodes says.
+-- By the shape of an opcode its length and the place of its index, as the code's table has them.
 use Rattle.std.specs.Prelude.{ℕ, Option, Some, None}
 use Rattle.cjc_capread.specs.declared.opcode.OpInfo.{OpInfo}
 use Rattle.cjc_capread.specs.declared.opcode.Shape.{Shape}

@@ -1,4 +1,5 @@
--- Names of a class by its number.
+-- The names of one class of the package beside its class info: its methods, fields and interface methods, by
+-- its number.
 use Rattle.std.specs.Prelude.{ℕ, ◌+◌, List, [], ◌∷◌, ◌++◌, slice_get, unwrap_or, Option, Some, None, false, if◌then◌else◌, codes}
 use Rattle.std.specs.List.{flat_map}
 use Rattle.std.specs.Str.{bytes_eq}

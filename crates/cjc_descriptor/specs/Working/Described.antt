@@ -1,4 +1,4 @@
--- Descriptor by what is made before it.
+-- Descriptor as code puts it together, from the parts that it holds when it does.
 use Rattle.std.specs.Prelude.{ℕ, ◌+◌, List, [], ◌∷◌, ◌++◌, map, length, option_to_list, slice_get, option_and_then, unwrap_or, Option, Some, None, false, if◌then◌else◌, codes}
 use Rattle.std.specs.Str.{bytes_eq}
 use Rattle.cjc_bytes.specs.AccessFlags.{is_static, acc_abstract}

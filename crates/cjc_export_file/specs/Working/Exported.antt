@@ -1,4 +1,4 @@
--- What the code holds of Export.
+-- Export by the offsets that code holds in rows: where classes, fields and methods stand.
 use Rattle.std.specs.Prelude.{ℕ, List, [], unwrap_or, option_map, slice_get}
 use Rattle.cjc_capread.specs.declared.tree.ClassRef.{ClassRef}
 use Rattle.cjc_capread.specs.declared.tree.ClassRef.TheVariants.{Inside, Outside}

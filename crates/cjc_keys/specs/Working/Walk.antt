@@ -1,4 +1,5 @@
--- The keys that a walk adds.
+-- Which keys the walk over narrow code adds, operands before catch types, instance fields apart from the
+-- others.
 use Rattle.std.specs.Prelude.{List, [], ◌∷◌, ◌++◌, filter, flat_map, Bool, true, false, not}
 use Rattle.cjc_ncode.specs.declared.narrow.NCatch.{NCatch}
 use Rattle.cjc_ncode.specs.declared.narrow.PoolKey.{PoolKey}

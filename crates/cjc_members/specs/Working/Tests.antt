@@ -1,4 +1,5 @@
--- Where one item is broken.
+-- Where one index of a map or one entry of the pool breaks a sentence on members: what the code tests, item by
+-- item.
 use Rattle.std.specs.Prelude.{ℕ, List}
 use Rattle.cjc_capread.specs.declared.tree.PoolEntry.{PoolEntry}
 use Rattle.cjc_export.specs.declared.tree.ExportTree.{ExportTree}

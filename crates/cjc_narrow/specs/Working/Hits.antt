@@ -1,4 +1,4 @@
--- What the code's look-ups give.
+-- A member that a look-up found, as the code keeps it, and as definitions have it.
 use Rattle.cjc_world.specs.Working.Known.{class_of}
 use Rattle.cjc_by_name.specs.OnePackage.{Hit}
 use Rattle.cjc_narrow.specs.declared.hits.Hit.{Hit as Met}

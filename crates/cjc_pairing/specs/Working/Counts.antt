@@ -1,4 +1,4 @@
--- The methods of classes by their numbers.
+-- Which methods a class is to have in Descriptor, by its number: its own but the initialiser, and those it got.
 use Rattle.std.specs.Prelude.{ℕ, ◌+◌, List, [], ◌∷◌, length, count_by, slice_get, Option, Some, None, Bool, not, codes}
 use Rattle.std.specs.Str.{bytes_eq}
 use Rattle.cjc_classfile.specs.declared.tree.ClassTree.{ClassTree}

@@ -1,4 +1,4 @@
--- Sums that are counted down.
+-- Limits on sums, tested by counting an allowance down: what is left of it.
 use Rattle.std.specs.Prelude.{ℕ, ◌-◌, nat_le, if◌then◌else◌, Option, Some, None}
 
 -- what a sum leaves of an allowance

@@ -1,4 +1,4 @@
--- Cells form an order with joins.
+-- Laws of the order and the join of cells, which the solver asks of the states of a flow.
 use Rattle.std.proofs.Common.{◌≡◌, ◌≤◌, ℕ, suc, Bool, true, false, cond, leb, List, length, refl, ap, subst, arith}
 use Rattle.std.proofs.lemmas.Bool.{leb-true, leb-false}
 use Rattle.cjc_fixpoint.specs.Lattice.{IsLattice}

@@ -1,4 +1,4 @@
--- Stacks and states form orders with joins.
+-- Laws of the order and the join of stacks and states, which the solver asks of the states of a flow.
 use Rattle.std.proofs.Common.{◌≡◌, ◌≤◌, ◌==◌, ℕ, Bool, true, false, cond, leb, List, [], ◌∷◌, length, All, refl, sym, ◌∙◌, ap, subst}
 use Rattle.std.specs.List.{AllZip}
 use Rattle.std.proofs.lemmas.List.Elements.{All-head, All-tail}

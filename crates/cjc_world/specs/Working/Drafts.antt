@@ -1,4 +1,4 @@
--- What a world keeps beside its files.
+-- The tables of a world before its rules are tested: what stands above each class, what it gets, and cycles.
 use Rattle.std.specs.Prelude.{◌≡◌, ℕ, ◌<◌, List, length, slice_get, Bool, true, false, Option, Some, None}
 use Rattle.cjc_classfile.specs.declared.tree.ClassTree.{ClassTree}
 use Rattle.cjc_world.specs.declared.class.Known.{Known}

@@ -1,4 +1,5 @@
--- What the code's two kinds of classes are.
+-- Classes of class files and of export files, as the code lends them, and the one kind of class that
+-- definitions have.
 use Rattle.cjc_world.specs.declared.class.Known.{Known}
 use Rattle.cjc_world.specs.declared.class.Known.TheVariants as kinds
 use Rattle.cjc_world.specs.Classes.{Class, declared, imported}

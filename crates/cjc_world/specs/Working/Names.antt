@@ -1,4 +1,4 @@
--- What the index of names answers.
+-- The index from class names to places in the list, and what it answers; with it a roster is complete.
 use Rattle.std.specs.Prelude.{◌≡◌, ℕ, suc, List, [], ◌∷◌, Bool, true, false, if◌then◌else◌, Option, Some, None, option_map}
 use Rattle.std.specs.HashMap.{get_by}
 use Rattle.std.specs.Str.{bytes_eq}

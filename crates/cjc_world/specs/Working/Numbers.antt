@@ -1,4 +1,4 @@
--- What the index of numbers answers.
+-- The index from numbers of look-ups to places in the list, and what it answers.
 use Rattle.std.specs.Prelude.{ℕ, ◌+◌, List, [], ◌∷◌, Bool, not, if◌then◌else◌}
 use Rattle.cjc_world.specs.declared.numbers.Numbers.{Numbers}
 use Rattle.cjc_world.specs.declared.spot.Spot.{Spot}

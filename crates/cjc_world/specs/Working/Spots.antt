@@ -1,4 +1,4 @@
--- Where the world keeps its classes.
+-- The places of a world's classes in its files, and which class each means.
 use Rattle.std.specs.Prelude.{ℕ, zero, suc, true, ◌≡◌, ◌<◌, ◌+◌, ◌^◌, List, [], ◌∷◌, ◌++◌, length, slice_get, All, if◌then◌else◌, Option, option_map, option_and_then, option_to_list}
 use Rattle.cjc_bytes.specs.declared.settings.FileLine.{FileLine}
 use Rattle.cjc_classfile.specs.declared.tree.ClassTree.{ClassTree}

@@ -1,4 +1,4 @@
--- The operands of type tests.
+-- What is written for checkcast and instanceof, from the class or array that they name.
 use Rattle.std.specs.Prelude.{ℕ, List, [], ◌∷◌, Option, Some, None, option_map}
 use Rattle.cjc_ncode.specs.declared.narrow.NInsn.{NInsn}
 use Rattle.cjc_ncode.specs.declared.narrow.NInsn.TheVariants.{TypeTest}
