@@ -2,9 +2,11 @@
 //! the value of a field. Flags are hexadecimal, lists have commas, and `-` is an empty one. The code of a method stands
 //! apart. Knows no world.
 
-use crate::words::{cut, flags, member, number, small_number, text, texts};
+use crate::words::{cut, flags, number, small_number, text, texts};
 use cjc_bytes::{Bytes, NoMemory, Row};
-use cjc_classfile::{Catch, ClassTree, Code, FieldTree, MethodTree, PoolItem};
+use cjc_classfile::{
+    Catch, ClassTree, Code, FieldTree, ItemKind, MemberText, MethodTree, PoolItem,
+};
 use std::alloc::Global;
 
 /// The value of a field; none where there is no word.
@@ -77,25 +79,39 @@ pub fn class<'t>(alloc: Global, words: &str) -> Result<ClassTree<'t>, NoMemory> 
     Ok(class)
 }
 
-fn pool_item(alloc: Global, line: &str) -> Result<PoolItem, NoMemory> {
-    let (kind, words) = cut(line, " ");
-    match kind {
-        "int" => Ok(PoolItem::Int(number(words)?.cast_signed())),
-        "class" => Ok(PoolItem::Class(text(alloc, words)?)),
-        "field" => Ok(PoolItem::Field(member(alloc, words)?)),
-        "method" => Ok(PoolItem::Method(member(alloc, words)?)),
-        "interface" => Ok(PoolItem::InterfaceMethod(member(alloc, words)?)),
-        _ => Err(NoMemory),
+/// A class, a name and a descriptor.
+fn member(words: &str) -> MemberText<'_> {
+    let (class, words) = cut(words, " ");
+    let (name, desc) = cut(words, " ");
+    MemberText {
+        class: class.as_bytes(),
+        name: name.as_bytes(),
+        desc: desc.as_bytes(),
     }
+}
+
+fn pool_item(line: &str) -> Result<PoolItem<'_>, NoMemory> {
+    let (kind, words) = cut(line, " ");
+    let kind = match kind {
+        "int" => ItemKind::Int(number(words)?.cast_signed()),
+        "class" => ItemKind::Class(words.as_bytes()),
+        "field" => ItemKind::Field(member(words)),
+        "method" => ItemKind::Method(member(words)),
+        "interface" => ItemKind::InterfaceMethod(member(words)),
+        _ => return Err(NoMemory),
+    };
+    Ok(PoolItem { kind })
 }
 
 /// A constant pool, an entry a line from index 1 on: `int NUMBER`, `class NAME`, or `field`, `method` or
 /// `interface` with a class, a name and a descriptor.
-pub fn pool(alloc: Global, lines: &str) -> Result<Row<PoolItem>, NoMemory> {
+pub fn pool<'t>(alloc: Global, lines: &'t str) -> Result<Row<PoolItem<'t>>, NoMemory> {
     let mut pool = Row::new(alloc);
-    pool.push(PoolItem::Other)?;
+    pool.push(PoolItem {
+        kind: ItemKind::Other,
+    })?;
     for line in lines.lines() {
-        pool.push(pool_item(alloc, line)?)?;
+        pool.push(pool_item(line)?)?;
     }
     Ok(pool)
 }

@@ -9,5 +9,5 @@ mod words;
 pub use classes::{class, code, pool};
 pub use packages::{language, line, package};
 pub use words::{
-    cut, flags, is_number, member, number, octets, question_and_answer, small_number, text, texts,
+    cut, flags, is_number, number, octets, question_and_answer, small_number, text, texts,
 };

@@ -3,7 +3,7 @@
 
 ghost use Rattle.std.specs.Prelude.{◌≤◌};
 
-use cjc_bytes::{Bytes, MemberId, NoMemory, Row};
+use cjc_bytes::{Bytes, NoMemory, Row};
 use std::alloc::Global;
 
 /// The text before the first such mark, and that behind it: all of it and nothing where there is none.
@@ -94,15 +94,4 @@ pub fn texts(alloc: Global, words: &str) -> Result<Row<Bytes>, NoMemory> {
         }
     }
     Ok(row)
-}
-
-/// A class, a name and a descriptor.
-pub fn member(alloc: Global, words: &str) -> Result<MemberId, NoMemory> {
-    let (class, words) = cut(words, " ");
-    let (name, desc) = cut(words, " ");
-    Ok(MemberId {
-        class: text(alloc, class)?,
-        name: text(alloc, name)?,
-        desc: text(alloc, desc)?,
-    })
 }

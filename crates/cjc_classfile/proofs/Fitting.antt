@@ -12,7 +12,7 @@ use Rattle.cjc_classfile.specs.declared.pool.Index.{Index}
 use Rattle.cjc_classfile.specs.declared.tree.FieldTree.{FieldTree}
 use Rattle.cjc_classfile.specs.declared.tree.MethodTree.{MethodTree}
 use Rattle.cjc_classfile.specs.declared.tree.ClassTree.{ClassTree}
-use Rattle.cjc_classfile.specs.declared.tree.PoolItem.{PoolItem}
+use Rattle.cjc_classfile.specs.PoolItem.{PoolItem}
 use Rattle.cjc_classfile.specs.Entry.{Entry, text, integer, float, wide, class, string, field, method, interface_method, name_and_type, other}
 use Rattle.cjc_classfile.specs.Code.{CodeTree}
 use Rattle.cjc_classfile.specs.Pool.{utf8, content, entry, entries, pool_of}

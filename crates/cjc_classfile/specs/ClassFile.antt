@@ -5,7 +5,7 @@ use Rattle.cjc_bytes.specs.Format.{Format, number, looked_up, gives, ◌>>=◌, 
 use Rattle.cjc_bytes.specs.Refused.{refusal}
 use Rattle.cjc_bytes.specs.declared.fault.Refusal.{Refusal}
 use Rattle.cjc_classfile.specs.declared.tree.ClassTree.{ClassTree}
-use Rattle.cjc_classfile.specs.declared.tree.PoolItem.{PoolItem}
+use Rattle.cjc_classfile.specs.PoolItem.{PoolItem}
 use Rattle.cjc_classfile.specs.Entry.{Entry}
 use Rattle.cjc_classfile.specs.Pool.{pool_of}
 use Rattle.cjc_classfile.specs.Items.{pool_items}

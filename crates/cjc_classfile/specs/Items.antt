@@ -4,8 +4,8 @@ use Rattle.std.specs.Prelude.{ℕ, Bool, true, false, List, [], ◌∷◌, Optio
 use Rattle.cjc_bytes.specs.Found.{◌>>=◌, kept, each, all_of}
 use Rattle.cjc_classfile.specs.declared.pool.Index.{Index}
 use Rattle.cjc_bytes.specs.declared.fault.MemberId.{MemberId}
-use Rattle.cjc_classfile.specs.declared.tree.PoolItem.{PoolItem}
-use Rattle.cjc_classfile.specs.declared.tree.PoolItem.TheVariants as items
+use Rattle.cjc_classfile.specs.PoolItem.{PoolItem}
+use Rattle.cjc_classfile.specs.PoolItem as items
 use Rattle.cjc_classfile.specs.Entry.{Entry, text, integer, class, string, field, method, interface_method, name_and_type}
 
 -- the bytes of a CONSTANT_Utf8

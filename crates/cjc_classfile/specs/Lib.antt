@@ -1,5 +1,7 @@
 pub mod Entry
 pub mod Kept
+pub mod PoolItem
+pub mod KeptItem
 pub mod Pool
 pub mod Items
 pub mod Members

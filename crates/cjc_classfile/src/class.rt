@@ -67,10 +67,10 @@ fn read_back<'a>(
     alloc: Global,
     major: u16,
     pool: &[Entry<'a>],
-    items: Row<PoolItem>,
+    items: Row<PoolItem<'a>>,
     cursor: &mut Cursor<'a>,
 ) -> Result<ClassTree<'a>, Stop>
-    ensures { Reads (λ t. t) (back_part major pool.now items) cursor.old cursor.new result }
+    ensures { Reads (λ t. t) (back_part major pool.now items.entry) cursor.old cursor.new result }
 {
     let flags = cursor.u2()?;
     let name = read_class(pool, cursor)?;

@@ -3,11 +3,12 @@
 ghost use Rattle.std.specs.Prelude.{◌≡◌};
 ghost use Rattle.std.specs.Option.{option_copied};
 ghost use Rattle.cjc_bytes.specs.Found.{Finds, each, all_of};
+ghost use Rattle.cjc_classfile.specs.KeptItem.{id_of, item_of};
 ghost use Rattle.cjc_classfile.specs.Items.{text_at, desc_at, desc_of_at, class_text_at, class_at, pair_at, class_name_at, tested_member, tested, member, item, pool_items};
 
 use crate::pool::{Entry, EntryKind, Index};
-use crate::tree::PoolItem;
-use cjc_bytes::{Bytes, MemberId, Row, Stop};
+use crate::tree::{ItemKind, MemberText, PoolItem};
+use cjc_bytes::{Row, Stop};
 use std::alloc::Global;
 
 /// The text at an index of the constant pool, if there is one.
@@ -123,47 +124,49 @@ fn test_entry(pool: &[Entry<'_>], entry: &Entry<'_>) -> Result<(), Stop>
 }
 
 #[tactic(auto, unfolding(crate::specs::Items::member))]
-fn member(alloc: Global, pool: &[Entry<'_>], owner: Index, pair: Index) -> Result<MemberId, Stop>
-    ensures { Finds (λ m. m) (member pool.now owner pair) result }
+fn member<'a>(pool: &[Entry<'a>], owner: Index, pair: Index) -> Result<MemberText<'a>, Stop>
+    ensures { Finds id_of (member pool.now owner pair) result }
 {
     let class = class_name_at(pool, owner.to).ok_or(Stop::Broken(owner.at))?;
     let (name, desc) = pair_at(pool, pair.to).ok_or(Stop::Broken(pair.at))?;
     let name = text_at(pool, name.to).ok_or(Stop::Broken(name.at))?;
     let desc = desc_at(pool, desc.to).ok_or(Stop::Broken(desc.at))?;
-    Ok(MemberId {
-        class: Bytes::copy_of(alloc, class)?,
-        name: Bytes::copy_of(alloc, name)?,
-        desc: Bytes::copy_of(alloc, desc)?,
-    })
+    Ok(MemberText { class, name, desc })
 }
 
 #[tactic(auto, unfolding(crate::specs::Items::item))]
-fn item(alloc: Global, pool: &[Entry<'_>], entry: &Entry<'_>) -> Result<PoolItem, Stop>
-    ensures { Finds (λ i. i) (item pool.now entry.now) result }
+fn item_kind<'a>(pool: &[Entry<'a>], entry: &Entry<'_>) -> Result<ItemKind<'a>, Stop>
+    ensures { Finds item_of (item pool.now entry.now) result }
 {
     Ok(match entry.kind {
-        EntryKind::Integer(n) => PoolItem::Int(n),
+        EntryKind::Integer(n) => ItemKind::Int(n),
         EntryKind::Class(name) => {
-            let bytes = class_text_at(pool, name.to).ok_or(Stop::Broken(name.at))?;
-            PoolItem::Class(Bytes::copy_of(alloc, bytes)?)
+            ItemKind::Class(class_text_at(pool, name.to).ok_or(Stop::Broken(name.at))?)
         }
-        EntryKind::Field(owner, pair) => PoolItem::Field(member(alloc, pool, owner, pair)?),
-        EntryKind::Method(owner, pair) => PoolItem::Method(member(alloc, pool, owner, pair)?),
-        EntryKind::InterfaceMethod(owner, pair) => PoolItem::InterfaceMethod(member(
-            alloc, pool, owner, pair,
-        )?),
+        EntryKind::Field(owner, pair) => ItemKind::Field(member(pool, owner, pair)?),
+        EntryKind::Method(owner, pair) => ItemKind::Method(member(pool, owner, pair)?),
+        EntryKind::InterfaceMethod(owner, pair) => {
+            ItemKind::InterfaceMethod(member(pool, owner, pair)?)
+        }
         EntryKind::Utf8(_, _)
         | EntryKind::Float
         | EntryKind::Wide
         | EntryKind::String(_)
         | EntryKind::NameAndType(_, _)
-        | EntryKind::Other => PoolItem::Other,
+        | EntryKind::Other => ItemKind::Other,
     })
+}
+
+fn item<'a>(pool: &[Entry<'a>], entry: &Entry<'_>) -> Result<PoolItem<'a>, Stop>
+    ensures { Finds (λ i. i) (item pool.now entry.now) result }
+{
+    let kind = item_kind(pool, entry)?;
+    Ok(PoolItem { kind })
 }
 
 /// What the entries mean, where all their indices keep their tables.
 #[tactic(auto, unfolding(crate::specs::Items::pool_items))]
-pub(crate) fn pool_items(alloc: Global, pool: &[Entry<'_>]) -> Result<Row<PoolItem>, Stop>
+pub(crate) fn pool_items<'a>(alloc: Global, pool: &[Entry<'a>]) -> Result<Row<PoolItem<'a>>, Stop>
     ensures { Finds (λ x. x) (pool_items pool.now) result }
 {
     test_entries(pool)?;
@@ -181,12 +184,12 @@ fn test_entries(pool: &[Entry<'_>]) -> Result<(), Stop>
 }
 
 #[tactic(auto, using(cjc_bytes::proofs::Loops::each_next, cjc_bytes::proofs::Loops::each_breaks, cjc_bytes::proofs::Loops::each_ends, cjc_bytes::proofs::Loops::after_none))]
-fn items(alloc: Global, pool: &[Entry<'_>]) -> Result<Row<PoolItem>, Stop>
+fn items<'a>(alloc: Global, pool: &[Entry<'a>]) -> Result<Row<PoolItem<'a>>, Stop>
     ensures { Finds (λ x. x) (each (item pool.now) pool.now) result }
 {
     let mut items = Row::new(alloc);
     for entry in pool {
-        items.push(item(alloc, pool, entry)?)?;
+        items.push(item(pool, entry)?)?;
     }
     Ok(items)
 }

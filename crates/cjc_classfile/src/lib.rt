@@ -11,4 +11,4 @@ mod pool;
 mod tree;
 
 pub use class::{read, readings, spelt_classes_fit};
-pub use tree::{Catch, ClassTree, Code, FieldTree, MethodTree, PoolItem};
+pub use tree::{Catch, ClassTree, Code, FieldTree, ItemKind, MemberText, MethodTree, PoolItem};

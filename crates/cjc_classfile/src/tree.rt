@@ -1,21 +1,44 @@
 //! What a class file says (Java Virtual Machine Specification, chapter 4): the tree that its bytes spell.
 //! Names and descriptors are bytes as they stand in the constant pool.
 
-use cjc_bytes::{Bytes, MemberId, Row};
+use cjc_bytes::{Bytes, Row};
 use std::marker::Model;
 
-/// What an entry of the constant pool means to code (section 4.4).
+/// The texts of the constant pool that name a field or method.
+#[derive(Clone, Copy)]
+pub struct MemberText<'a> {
+    pub class: &'a [u8],
+    pub name: &'a [u8],
+    pub desc: &'a [u8],
+}
+
+/// The kinds of item, with texts that stay in the file: many entries may name one text.
 #[derive(Drop)]
-pub enum PoolItem {
+pub enum ItemKind<'a> {
     /// An Integer.
     Int(i32),
     /// A Class, by its name; of an array class its descriptor.
-    Class(Bytes),
-    Field(MemberId),
-    Method(MemberId),
-    InterfaceMethod(MemberId),
+    Class(&'a [u8]),
+    Field(MemberText<'a>),
+    Method(MemberText<'a>),
+    InterfaceMethod(MemberText<'a>),
     /// Any other entry, index 0, and the index after a Long or Double.
     Other,
+}
+
+/// What an entry of the constant pool means to code (section 4.4).
+#[derive(Drop)]
+pub struct PoolItem<'a> {
+    pub kind: ItemKind<'a>,
+}
+
+impl<'a> Model for PoolItem<'a> {
+    ghost use Rattle.cjc_classfile.specs.PoolItem.{PoolItem as Seen};
+    ghost use Rattle.cjc_classfile.specs.KeptItem.{item_of};
+
+    ghost Value = { Seen };
+
+    ghost view = { λ i. item_of i.kind };
 }
 
 /// A field (section 4.5).
@@ -100,7 +123,7 @@ pub struct ClassTree<'a> {
     pub superclass: Bytes,
     pub interfaces: Row<Bytes>,
     /// One item an index, from 0.
-    pub pool: Row<PoolItem>,
+    pub pool: Row<PoolItem<'a>>,
     pub fields: Row<FieldTree>,
     pub methods: Row<MethodTree<'a>>,
 }

@@ -1,7 +1,7 @@
 -- What an instruction needs of the constant pool (Java Virtual Machine Specification, 4.9.1 and 6.5).
 use Rattle.std.specs.Prelude.{ℕ, Bool, true, false, ◌&&◌, ◌||◌, nat_lt, nat_le, if◌then◌else◌, List, length, Option, Some, slice_get}
-use Rattle.cjc_classfile.specs.declared.tree.PoolItem.{PoolItem}
-use Rattle.cjc_classfile.specs.declared.tree.PoolItem.TheVariants as items
+use Rattle.cjc_classfile.specs.PoolItem.{PoolItem}
+use Rattle.cjc_classfile.specs.PoolItem as items
 use Rattle.cjc_code.specs.declared.table.Family.{Family}
 use Rattle.cjc_code.specs.declared.table.Family.TheVariants as family
 use Rattle.cjc_code.specs.declared.items.Need.{Need}

@@ -3,8 +3,8 @@
 use Rattle.std.specs.Prelude.{ℕ, Bool, true, false, if◌then◌else◌, List, [], ◌∷◌, map, Option, Some, None, slice_get, Result, Ok, Err, ℤ, pos}
 use Rattle.cjc_bytes.specs.Found.{each}
 use Rattle.cjc_bytes.specs.declared.fault.MemberId.{MemberId}
-use Rattle.cjc_classfile.specs.declared.tree.PoolItem.{PoolItem}
-use Rattle.cjc_classfile.specs.declared.tree.PoolItem.TheVariants as items
+use Rattle.cjc_classfile.specs.PoolItem.{PoolItem}
+use Rattle.cjc_classfile.specs.PoolItem as items
 use Rattle.cjc_code.specs.declared.insn.JInsn.{JInsn}
 use Rattle.cjc_code.specs.declared.insn.JCase.{JCase}
 use Rattle.cjc_code.specs.declared.insn.JOp.{JOp}

@@ -1,10 +1,10 @@
 //! What instructions need of the constant pool (Java Virtual Machine Specification, 4.9.1 and 6.5).
 
-ghost use Rattle.std.specs.Prelude.{◌≡◌};
-ghost use Rattle.cjc_code.specs.Items.{needed as needed_lem, meets as meets_lem};
+ghost use Rattle.std.specs.Prelude.{◌≡◌, slice_get};
+ghost use Rattle.cjc_code.specs.Items.{needed as needed_lem, is_class as is_class_lem, is_field as is_field_lem, is_method as is_method_lem, is_interface_method as is_interface_method_lem, meets as meets_lem};
 
 use crate::table::Family;
-use cjc_classfile::PoolItem;
+use cjc_classfile::{ItemKind, PoolItem};
 
 /// What the index of an instruction has to name.
 #[derive(Clone, Copy)]
@@ -41,21 +41,57 @@ pub(crate) fn needed(major: u16, family: Family) -> Need
     }
 }
 
+/// Whether a class is at an index.
+fn is_class(pool: &[PoolItem<'_>], index: u16) -> bool
+    ensures { result ≡ is_class_lem (slice_get pool.now index) }
+{
+    match pool.get(usize::from(index)) {
+        Some(item) => matches!(item.kind, ItemKind::Class(_)),
+        None => false,
+    }
+}
+
+/// Whether a field is at an index.
+fn is_field(pool: &[PoolItem<'_>], index: u16) -> bool
+    ensures { result ≡ is_field_lem (slice_get pool.now index) }
+{
+    match pool.get(usize::from(index)) {
+        Some(item) => matches!(item.kind, ItemKind::Field(_)),
+        None => false,
+    }
+}
+
+/// Whether a method of a class is at an index.
+fn is_method(pool: &[PoolItem<'_>], index: u16) -> bool
+    ensures { result ≡ is_method_lem (slice_get pool.now index) }
+{
+    match pool.get(usize::from(index)) {
+        Some(item) => matches!(item.kind, ItemKind::Method(_)),
+        None => false,
+    }
+}
+
+/// Whether a method of an interface is at an index.
+fn is_interface_method(pool: &[PoolItem<'_>], index: u16) -> bool
+    ensures { result ≡ is_interface_method_lem (slice_get pool.now index) }
+{
+    match pool.get(usize::from(index)) {
+        Some(item) => matches!(item.kind, ItemKind::InterfaceMethod(_)),
+        None => false,
+    }
+}
+
 /// Whether the index names what is needed.
-pub(crate) fn meets(pool: &[PoolItem], index: u16, need: Need) -> bool
+pub(crate) fn meets(pool: &[PoolItem<'_>], index: u16, need: Need) -> bool
     ensures { result ≡ meets_lem pool.now index need }
 {
-    let item = pool.get(usize::from(index));
     match need {
         Need::Nothing => true,
         Need::Any => index > 0 && usize::from(index) < pool.len(),
-        Need::Class => matches!(item, Some(PoolItem::Class(_))),
-        Need::Field => matches!(item, Some(PoolItem::Field(_))),
-        Need::Method => matches!(item, Some(PoolItem::Method(_))),
-        Need::AnyMethod => matches!(
-            item,
-            Some(PoolItem::Method(_) | PoolItem::InterfaceMethod(_))
-        ),
-        Need::InterfaceMethod => matches!(item, Some(PoolItem::InterfaceMethod(_))),
+        Need::Class => is_class(pool, index),
+        Need::Field => is_field(pool, index),
+        Need::Method => is_method(pool, index),
+        Need::AnyMethod => is_method(pool, index) || is_interface_method(pool, index),
+        Need::InterfaceMethod => is_interface_method(pool, index),
     }
 }

@@ -3,6 +3,7 @@
 
 ghost use Rattle.std.specs.Prelude.{◌≡◌, ◌<◌, ◌∷◌, [], length, IfOk, MatchOption, slice_get};
 ghost use Rattle.cjc_bytes.specs.Found.{Finds};
+ghost use Rattle.cjc_classfile.specs.KeptItem.{id_of};
 ghost use Rattle.cjc_code.specs.Numbers.{first as first_lem, u16_of as u16_of_lem};
 ghost use Rattle.cjc_code.specs.Named.{int_of as int_of_lem, class_of as class_of_lem, field_of as field_of_lem, method_of as method_of_lem, no_member as no_member_lem, is_foreign as is_foreign_lem, place as place_lem, places as places_lem, cases as cases_lem, table as table_lem, lookup as lookup_lem, op_of as op_of_lem, named as named_lem, all_named as all_named_lem};
 
@@ -11,15 +12,16 @@ use crate::numbers::{first, i16_of, second, u8_of, u16_of};
 use crate::raw::Raw;
 use crate::table::Family;
 use cjc_bytes::{Bytes, MemberId, NoMemory, Row, Stop};
-use cjc_classfile::PoolItem;
+use cjc_classfile::{ItemKind, MemberText, PoolItem};
 use std::alloc::Global;
 
 /// The Integer at an index, where one is there.
-fn int_at(pool: &[PoolItem], index: u16) -> Option<i32>
+fn int_at(pool: &[PoolItem<'_>], index: u16) -> Option<i32>
     ensures { result ≡ int_of_lem (slice_get pool.now index) }
 {
-    match pool.get(usize::from(index)) {
-        Some(PoolItem::Int(z)) => Some(*z),
+    let item = pool.get(usize::from(index))?;
+    match item.kind {
+        ItemKind::Int(z) => Some(z),
         _ => None,
     }
 }
@@ -32,22 +34,25 @@ fn index(numbers: &[i32]) -> u16
 }
 
 /// The name of the class at an index.
-fn class_at(alloc: Global, pool: &[PoolItem], index: u16) -> Result<Bytes, NoMemory>
+fn class_at(alloc: Global, pool: &[PoolItem<'_>], index: u16) -> Result<Bytes, NoMemory>
     ensures { IfOk result (λ name. name ≡ class_of_lem (slice_get pool.now index)) }
 {
     match pool.get(usize::from(index)) {
-        Some(PoolItem::Class(name)) => Bytes::copy_of(alloc, name.items()),
-        _ => Ok(Row::new(alloc)),
+        Some(item) => match item.kind {
+            ItemKind::Class(name) => Bytes::copy_of(alloc, name),
+            _ => Ok(Row::new(alloc)),
+        },
+        None => Ok(Row::new(alloc)),
     }
 }
 
-fn copy_of(alloc: Global, id: &MemberId) -> Result<MemberId, NoMemory>
-    ensures { IfOk result (λ other. other ≡ id.now) }
+fn copy_of(alloc: Global, text: MemberText<'_>) -> Result<MemberId, NoMemory>
+    ensures { IfOk result (λ id. id ≡ id_of text.entry) }
 {
     Ok(MemberId {
-        class: Bytes::copy_of(alloc, id.class.items())?,
-        name: Bytes::copy_of(alloc, id.name.items())?,
-        desc: Bytes::copy_of(alloc, id.desc.items())?,
+        class: Bytes::copy_of(alloc, text.class)?,
+        name: Bytes::copy_of(alloc, text.name)?,
+        desc: Bytes::copy_of(alloc, text.desc)?,
     })
 }
 
@@ -62,27 +67,32 @@ fn no_member(alloc: Global) -> MemberId
 }
 
 /// The field at an index.
-fn field_at(alloc: Global, pool: &[PoolItem], index: u16) -> Result<MemberId, NoMemory>
+fn field_at(alloc: Global, pool: &[PoolItem<'_>], index: u16) -> Result<MemberId, NoMemory>
     ensures { IfOk result (λ id. id ≡ field_of_lem (slice_get pool.now index)) }
 {
     match pool.get(usize::from(index)) {
-        Some(PoolItem::Field(id)) => copy_of(alloc, id),
-        _ => Ok(no_member(alloc)),
+        Some(item) => match item.kind {
+            ItemKind::Field(text) => copy_of(alloc, text),
+            _ => Ok(no_member(alloc)),
+        },
+        None => Ok(no_member(alloc)),
     }
 }
 
 /// The method at an index, of a class or of an interface.
-fn method_at(alloc: Global, pool: &[PoolItem], index: u16) -> Result<MemberId, NoMemory>
+fn method_at(alloc: Global, pool: &[PoolItem<'_>], index: u16) -> Result<MemberId, NoMemory>
     ensures { IfOk result (λ id. id ≡ method_of_lem (slice_get pool.now index)) }
 {
     match pool.get(usize::from(index)) {
-        Some(PoolItem::Method(id)) => copy_of(alloc, id),
-        Some(PoolItem::InterfaceMethod(id)) => copy_of(alloc, id),
-        _ => Ok(no_member(alloc)),
+        Some(item) => match item.kind {
+            ItemKind::Method(text) | ItemKind::InterfaceMethod(text) => copy_of(alloc, text),
+            _ => Ok(no_member(alloc)),
+        },
+        None => Ok(no_member(alloc)),
     }
 }
 
-fn is_foreign(pool: &[PoolItem], family: Family, numbers: &[i32]) -> bool
+fn is_foreign(pool: &[PoolItem<'_>], family: Family, numbers: &[i32]) -> bool
     ensures { result ≡ is_foreign_lem pool.now family numbers.now }
 {
     match family {
@@ -173,7 +183,7 @@ fn lookup(alloc: Global, at: u16, numbers: &[i32]) -> Result<JOp, NoMemory>
 /// What an instruction does, by its place, its opcode and its numbers.
 fn op_of(
     alloc: Global,
-    pool: &[PoolItem],
+    pool: &[PoolItem<'_>],
     at: u16,
     opcode: u8,
     family: Family,
@@ -245,7 +255,7 @@ fn op_of(
 
 /// An instruction with its names, or its place where it breaks rule 303.
 #[tactic(auto, unfolding(crate::specs::Named::named))]
-fn named(alloc: Global, pool: &[PoolItem], insn: &Raw) -> Result<JInsn, Stop>
+fn named(alloc: Global, pool: &[PoolItem<'_>], insn: &Raw) -> Result<JInsn, Stop>
     ensures { Finds (λ i. i) (named_lem pool.now insn.now) result }
 {
     let numbers = insn.numbers.items();
@@ -261,7 +271,11 @@ fn named(alloc: Global, pool: &[PoolItem], insn: &Raw) -> Result<JInsn, Stop>
 
 /// All instructions, or the place of the first that breaks rule 303.
 #[tactic(auto, using(cjc_bytes::proofs::Loops::each_next, cjc_bytes::proofs::Loops::each_breaks, cjc_bytes::proofs::Loops::each_ends, cjc_bytes::proofs::Loops::after_none), unfolding(crate::specs::Named::all_named))]
-pub(crate) fn all_named(alloc: Global, pool: &[PoolItem], insns: &[Raw]) -> Result<Row<JInsn>, Stop>
+pub(crate) fn all_named(
+    alloc: Global,
+    pool: &[PoolItem<'_>],
+    insns: &[Raw],
+) -> Result<Row<JInsn>, Stop>
     ensures { Finds (λ is. is) (all_named_lem pool.now insns.now) result }
 {
     let mut all = Row::new(alloc);

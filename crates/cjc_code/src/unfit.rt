@@ -28,7 +28,7 @@ fn rise(pairs: &[i32]) -> bool
     true
 }
 
-fn has_wrong_item(major: u16, pool: &[PoolItem], insn: &Raw) -> bool
+fn has_wrong_item(major: u16, pool: &[PoolItem<'_>], insn: &Raw) -> bool
     ensures { result ≡ has_wrong_item_lem major pool.now insn.now }
 {
     let index = u16_of(first(insn.numbers.items()));
@@ -73,7 +73,7 @@ fn has_wrong_type(family: Family, numbers: &[i32]) -> bool
 }
 
 /// Whether an instruction breaks the rule at its own place.
-fn is_unfit(major: u16, pool: &[PoolItem], max_locals: u16, starts: &[bool], insn: &Raw) -> bool
+fn is_unfit(major: u16, pool: &[PoolItem<'_>], max_locals: u16, starts: &[bool], insn: &Raw) -> bool
     ensures { result ≡ is_unfit_lem major pool.now max_locals starts.now insn.now }
 {
     has_wrong_item(major, pool, insn)
@@ -96,7 +96,7 @@ fn put(places: &mut Row<u32>, is_broken: bool, place: u32) -> Result<(), NoMemor
 #[tactic(auto, using(crate::proofs::Places::flat_more, crate::proofs::Places::flat_ends))]
 fn put_unfit(
     major: u16,
-    pool: &[PoolItem],
+    pool: &[PoolItem<'_>],
     max_locals: u16,
     starts: &[bool],
     insns: &[Raw],

@@ -5,8 +5,8 @@ use Rattle.std.specs.Int.{w32}
 use Rattle.std.specs.List.{AllByRecursion}
 use Rattle.std.proofs.lemmas.Int.{ints}
 use Rattle.cjc_bytes.specs.Found.{all_of, each, kept, ◌>>=◌}
-use Rattle.cjc_classfile.specs.declared.tree.PoolItem.{PoolItem}
-use Rattle.cjc_classfile.specs.declared.tree.PoolItem.TheVariants as items
+use Rattle.cjc_classfile.specs.PoolItem.{PoolItem}
+use Rattle.cjc_classfile.specs.PoolItem as items
 use Rattle.cjc_classfile.specs.Entry.{Entry, text, integer, class, field, method, interface_method}
 use Rattle.cjc_classfile.specs.Items.{class_text_at, item, member, pool_items, tested}
 use Rattle.cjc_classfile.specs.Pool.{desc_kind}

@@ -12,7 +12,7 @@ use Rattle.cjc_bytes.proofs.Inverse.{InBytes, all_at, inner, given, found_is, u4
 use Rattle.cjc_classfile.specs.declared.tree.ClassTree.{ClassTree}
 use Rattle.cjc_classfile.specs.declared.tree.FieldTree.{FieldTree}
 use Rattle.cjc_classfile.specs.declared.tree.MethodTree.{MethodTree}
-use Rattle.cjc_classfile.specs.declared.tree.PoolItem.{PoolItem}
+use Rattle.cjc_classfile.specs.PoolItem.{PoolItem}
 use Rattle.cjc_classfile.specs.Entry.{Entry, text, integer, float, wide, string}
 use Rattle.cjc_classfile.specs.Pool.{tag_of, utf8, content, desc_kind, entry, entries, pool_of}
 use Rattle.cjc_classfile.specs.Items.{as_desc_of, desc_of_at, pool_items}

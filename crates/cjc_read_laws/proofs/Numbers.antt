@@ -7,8 +7,8 @@ use Rattle.std.proofs.lemmas.Bool.{eqb-false, eqb-true, leb-true, ltb-false, ltb
 use Rattle.std.proofs.lemmas.Int.{ints}
 use Rattle.cjc_bytes.specs.Format.{Spells}
 use Rattle.cjc_bytes.proofs.Inverse.{InBytes, given, inner, number16, number8}
-use Rattle.cjc_classfile.specs.declared.tree.PoolItem.{PoolItem}
-use Rattle.cjc_classfile.specs.declared.tree.PoolItem.TheVariants as items
+use Rattle.cjc_classfile.specs.PoolItem.{PoolItem}
+use Rattle.cjc_classfile.specs.PoolItem as items
 use Rattle.cjc_code.specs.Instruction.{operand, operands}
 use Rattle.cjc_code.specs.Named.{int_of, number_of, op_of}
 use Rattle.cjc_code.specs.Numbers as numbers

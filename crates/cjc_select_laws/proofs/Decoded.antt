@@ -10,7 +10,7 @@ use Rattle.cjc_capread.specs.Decode.{IsWithin, negative, positive}
 use Rattle.cjc_classfile.specs.Code.{CodeTree}
 use Rattle.cjc_classfile.specs.declared.tree.ClassTree.{ClassTree}
 use Rattle.cjc_classfile.specs.declared.tree.MethodTree.{MethodTree}
-use Rattle.cjc_classfile.specs.declared.tree.PoolItem.{PoolItem}
+use Rattle.cjc_classfile.specs.PoolItem.{PoolItem}
 use Rattle.cjc_code.specs.Cut.{cut}
 use Rattle.cjc_code.specs.Named.{cases, op_of}
 use Rattle.cjc_code.specs.Numbers.{i16_of, second}

@@ -4,7 +4,7 @@ use Rattle.cjc_bytes.specs.declared.fault.MemberId.{MemberId}
 use Rattle.cjc_classfile.specs.declared.tree.Catch.{Catch}
 use Rattle.cjc_classfile.specs.declared.tree.ClassTree.{ClassTree}
 use Rattle.cjc_classfile.specs.declared.tree.MethodTree.{MethodTree}
-use Rattle.cjc_classfile.specs.declared.tree.PoolItem.TheVariants as items
+use Rattle.cjc_classfile.specs.PoolItem as items
 use Rattle.cjc_world.specs.Files.{Files}
 use Rattle.cjc_by_name.specs.Worked.{class, field, method}
 use Rattle.cjc_card.specs.Worked.{id, object}

@@ -6,8 +6,8 @@ ghost use Rattle.std.specs.Prelude.{IfOk};
 ghost use Rattle.cjc_types.specs.Tables.{IsOfPackage};
 
 use crate::words::{cut, is_number, number, octet, question_and_answer, small_number};
-use cjc_bytes::{Bytes, Fault, FileLine, MemberId, NoMemory, Row};
-use cjc_classfile::{Catch, ClassTree, Code, MethodTree, PoolItem};
+use cjc_bytes::{Bytes, Fault, FileLine, NoMemory, Row};
+use cjc_classfile::{Catch, ClassTree, Code, ItemKind, MemberText, MethodTree, PoolItem};
 use cjc_code::{MethodCode, decode};
 use cjc_export::{ExportClass, ExportTree};
 use cjc_types::{Cell, Frame, Method, TypeTable, TypeWalk, infer};
@@ -99,32 +99,35 @@ fn language(alloc: Global) -> Result<ExportTree, NoMemory> {
     })
 }
 
-fn member(alloc: Global, words: &str) -> Result<MemberId, NoMemory> {
+fn member(words: &str) -> MemberText<'_> {
     let (class, words) = cut(words, " ");
     let (name, desc) = cut(words, " ");
-    Ok(MemberId {
-        class: text(alloc, class)?,
-        name: text(alloc, name)?,
-        desc: text(alloc, desc)?,
-    })
-}
-
-fn pool_item(alloc: Global, line: &str) -> Result<PoolItem, NoMemory> {
-    let (kind, words) = cut(line, " ");
-    match kind {
-        "class" => Ok(PoolItem::Class(text(alloc, words)?)),
-        "field" => Ok(PoolItem::Field(member(alloc, words)?)),
-        "method" => Ok(PoolItem::Method(member(alloc, words)?)),
-        "interface" => Ok(PoolItem::InterfaceMethod(member(alloc, words)?)),
-        _ => Err(NoMemory),
+    MemberText {
+        class: class.as_bytes(),
+        name: name.as_bytes(),
+        desc: desc.as_bytes(),
     }
 }
 
-fn pool(alloc: Global) -> Result<Row<PoolItem>, NoMemory> {
+fn pool_item(line: &str) -> Result<PoolItem<'_>, NoMemory> {
+    let (kind, words) = cut(line, " ");
+    let kind = match kind {
+        "class" => ItemKind::Class(words.as_bytes()),
+        "field" => ItemKind::Field(member(words)),
+        "method" => ItemKind::Method(member(words)),
+        "interface" => ItemKind::InterfaceMethod(member(words)),
+        _ => return Err(NoMemory),
+    };
+    Ok(PoolItem { kind })
+}
+
+fn pool<'t>(alloc: Global) -> Result<Row<PoolItem<'t>>, NoMemory> {
     let mut pool = Row::new(alloc);
-    pool.push(PoolItem::Other)?;
+    pool.push(PoolItem {
+        kind: ItemKind::Other,
+    })?;
     for line in POOL.lines() {
-        pool.push(pool_item(alloc, line)?)?;
+        pool.push(pool_item(line)?)?;
     }
     Ok(pool)
 }

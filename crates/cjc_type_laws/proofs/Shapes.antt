@@ -5,7 +5,7 @@ use Rattle.std.proofs.lemmas.Bool.{eqb-true}
 use Rattle.std.proofs.lemmas.Option.{same_Some}
 use Rattle.std.proofs.lemmas.List.{length-append}
 use Rattle.cjc_bytes.specs.Format.{Spells}
-use Rattle.cjc_classfile.specs.declared.tree.PoolItem.{PoolItem}
+use Rattle.cjc_classfile.specs.PoolItem.{PoolItem}
 use Rattle.cjc_code.specs.declared.insn.JOp.{JOp}
 use Rattle.cjc_code.specs.Table.{Range, range, ranges, bare, row_in, row, heads, wide}
 use Rattle.cjc_code.specs.Instruction.{operands, is_unknown, unless, opcode_at, widened, wide_opcode_at, behind_opcode, behind_first, is_prefix, instruction}

@@ -3,7 +3,7 @@ use Rattle.std.specs.Prelude.{ℕ, List, [], ◌∷◌, None, pos, codes}
 use Rattle.cjc_bytes.specs.declared.names.Kind.TheVariants as kinds
 use Rattle.cjc_bytes.specs.declared.fault.MemberId.{MemberId}
 use Rattle.cjc_classfile.specs.declared.tree.ClassTree.{ClassTree}
-use Rattle.cjc_classfile.specs.declared.tree.PoolItem.TheVariants as items
+use Rattle.cjc_classfile.specs.PoolItem as items
 use Rattle.cjc_capread.specs.declared.tree.ClassRef.TheVariants.{Outside}
 use Rattle.cjc_capread.specs.declared.tree.StaticRef.TheVariants as refs
 use Rattle.cjc_capread.specs.declared.tree.PoolEntry.TheVariants.{StaticFieldref}

@@ -1,7 +1,7 @@
 -- A package made by hand as class files and as components: p/B extends the imported q/A, overrides a and inherits b.
 use Rattle.std.specs.Prelude.{[], ◌∷◌, ◌++◌, codes}
 use Rattle.cjc_classfile.specs.declared.tree.ClassTree.{ClassTree}
-use Rattle.cjc_classfile.specs.declared.tree.PoolItem.TheVariants as items
+use Rattle.cjc_classfile.specs.PoolItem as items
 use Rattle.cjc_capread.specs.declared.tree.ClassRef.TheVariants.{Inside, Outside}
 use Rattle.cjc_capread.specs.declared.tree.StaticRef.TheVariants as refs
 use Rattle.cjc_capread.specs.declared.tree.PoolEntry.TheVariants.{Classref, VirtualMethodref, StaticMethodref}

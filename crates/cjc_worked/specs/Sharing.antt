@@ -1,7 +1,7 @@
 -- A package made by hand as class files and as components: p/M and p/N share the interface p/I alone, and p/T.t calls v on one of them.
 use Rattle.std.specs.Prelude.{[], ◌∷◌, ◌++◌, codes}
 use Rattle.cjc_classfile.specs.declared.tree.ClassTree.{ClassTree}
-use Rattle.cjc_classfile.specs.declared.tree.PoolItem.TheVariants as items
+use Rattle.cjc_classfile.specs.PoolItem as items
 use Rattle.cjc_capread.specs.declared.tree.ClassRef.TheVariants.{Inside, Outside}
 use Rattle.cjc_capread.specs.declared.tree.PoolEntry.TheVariants.{Classref}
 use Rattle.cjc_world.specs.Files.{Files}

@@ -10,7 +10,7 @@ use Rattle.cjc_classfile.specs.Methods.{method_tree}
 use Rattle.cjc_classfile.specs.declared.tree.ClassTree.{ClassTree}
 use Rattle.cjc_classfile.specs.declared.tree.FieldTree.{FieldTree}
 use Rattle.cjc_classfile.specs.declared.tree.MethodTree.{MethodTree}
-use Rattle.cjc_classfile.specs.declared.tree.PoolItem.{PoolItem}
+use Rattle.cjc_classfile.specs.PoolItem.{PoolItem}
 
 abbrev pub HasFlags : FieldTree → Type 0
 HasFlags f = f.flags < 2 ^ 16
