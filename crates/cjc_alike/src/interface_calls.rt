@@ -7,6 +7,7 @@ ghost use Rattle.cjc_bytes.specs.AccessFlags.{is_private};
 ghost use Rattle.cjc_bytes.specs.declared.fault.MemberId.{MemberId as Member};
 ghost use Rattle.cjc_by_name.specs.OnePackage.{Hit};
 ghost use Rattle.cjc_classfile.specs.declared.tree.ClassTree.{ClassTree};
+ghost use Rattle.cjc_code.specs.Jvm as jvm;
 ghost use Rattle.cjc_code.specs.declared.insn.JOp.TheVariants as jop;
 ghost use Rattle.cjc_components.specs.Package.{Package, world};
 ghost use Rattle.cjc_judge.specs.declared.judged.Judged.{Judged};
@@ -22,11 +23,11 @@ ghost use Rattle.cjc_written_laws.specs.Converted.{IsConverted};
 pub fn interface_calls_are_named()
     ensures named { (list : ListTree) (files : List (List ℕ)) (judged : Judged) (p : Package)
         → IsConverted list files judged p → (class : ClassTree) (id : Member)
-        → IsInsnOf p.files judged.codes class (jop.Call 0xB9 id) → (words : ℕ)
+        → IsInsnOf p.files judged.codes class (jop.Call jvm.invokeinterface id) → (words : ℕ)
         → IsNamed (world p) (OnInterface words (resolved_method (world p) id)) }
     ensures words { (list : ListTree) (files : List (List ℕ)) (judged : Judged) (p : Package)
         → IsConverted list files judged p → (class : ClassTree) (id : Member)
-        → IsInsnOf p.files judged.codes class (jop.Call 0xB9 id) → (words : ℕ)
+        → IsInsnOf p.files judged.codes class (jop.Call jvm.invokeinterface id) → (words : ℕ)
         → TakesWords (world p) (OnInterface words (resolved_method (world p) id)) }
 {}
 
@@ -34,7 +35,7 @@ pub fn interface_calls_are_named()
 pub fn private_calls_are_named()
     ensures { (list : ListTree) (files : List (List ℕ)) (judged : Judged) (p : Package)
         → IsConverted list files judged p → (class : ClassTree) (id : Member)
-        → IsInsnOf p.files judged.codes class (jop.Call 0xB7 id)
+        → IsInsnOf p.files judged.codes class (jop.Call jvm.invokespecial id)
         → (hit : Hit) → method_found (world p) id ≡ Some hit → is_private hit.flags ≡ true
         → IsNamed (world p) (Fixed true (resolved_method (world p) id)) }
 {}
@@ -44,10 +45,10 @@ pub fn private_calls_are_named()
 pub fn fixed_calls_take_words()
     ensures statics { (list : ListTree) (files : List (List ℕ)) (judged : Judged) (p : Package)
         → IsConverted list files judged p → (class : ClassTree) (id : Member)
-        → IsInsnOf p.files judged.codes class (jop.Call 0xB8 id)
+        → IsInsnOf p.files judged.codes class (jop.Call jvm.invokestatic id)
         → TakesWords (world p) (Fixed false (resolved_method (world p) id)) }
     ensures specials { (list : ListTree) (files : List (List ℕ)) (judged : Judged) (p : Package)
         → IsConverted list files judged p → (class : ClassTree) (id : Member)
-        → IsInsnOf p.files judged.codes class (jop.Call 0xB7 id)
+        → IsInsnOf p.files judged.codes class (jop.Call jvm.invokespecial id)
         → TakesWords (world p) (Fixed true (resolved_method (world p) id)) }
 {}

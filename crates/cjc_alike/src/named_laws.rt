@@ -6,6 +6,7 @@ ghost use Rattle.std.specs.Prelude.{◌≡◌, ℕ, List, Some, false, slice_get
 ghost use Rattle.cjc_bytes.specs.declared.fault.MemberId.{MemberId as Member};
 ghost use Rattle.cjc_by_name.specs.OnePackage.{is_constructor};
 ghost use Rattle.cjc_classfile.specs.declared.tree.ClassTree.{ClassTree};
+ghost use Rattle.cjc_code.specs.Jvm as jvm;
 ghost use Rattle.cjc_code.specs.declared.insn.JOp.TheVariants as jop;
 ghost use Rattle.cjc_components.specs.Package.{LaidMethod, Package, world};
 ghost use Rattle.cjc_judge.specs.declared.judged.Judged.{Judged};
@@ -46,6 +47,6 @@ pub fn names_are_there()
 /// What an invokestatic calls, and the constructor that an invokespecial calls, is a method that calls can
 /// name, by the class that declares it.
 pub fn fixed_calls_are_named()
-    ensures statics { (list : ListTree) (files : List (List ℕ)) (judged : Judged) (p : Package) → IsConverted list files judged p → (class : ClassTree) (id : Member) → IsInsnOf p.files judged.codes class (jop.Call 0xB8 id) → IsNamed (world p) (Fixed false (resolved_method (world p) id)) }
-    ensures constructors { (list : ListTree) (files : List (List ℕ)) (judged : Judged) (p : Package) → IsConverted list files judged p → (class : ClassTree) (id : Member) → IsInsnOf p.files judged.codes class (jop.Call 0xB7 id) → is_constructor id.name ≡ true → IsNamed (world p) (Fixed true (resolved_method (world p) id)) }
+    ensures statics { (list : ListTree) (files : List (List ℕ)) (judged : Judged) (p : Package) → IsConverted list files judged p → (class : ClassTree) (id : Member) → IsInsnOf p.files judged.codes class (jop.Call jvm.invokestatic id) → IsNamed (world p) (Fixed false (resolved_method (world p) id)) }
+    ensures constructors { (list : ListTree) (files : List (List ℕ)) (judged : Judged) (p : Package) → IsConverted list files judged p → (class : ClassTree) (id : Member) → IsInsnOf p.files judged.codes class (jop.Call jvm.invokespecial id) → is_constructor id.name ≡ true → IsNamed (world p) (Fixed true (resolved_method (world p) id)) }
 {}

@@ -8,6 +8,7 @@ ghost use Rattle.cjc_bytes.specs.AccessFlags.{is_interface, is_private};
 ghost use Rattle.cjc_bytes.specs.declared.fault.MemberId.{MemberId as Member};
 ghost use Rattle.cjc_by_name.specs.OnePackage.{Hit, is_constructor, of_class};
 ghost use Rattle.cjc_classfile.specs.declared.tree.ClassTree.{ClassTree};
+ghost use Rattle.cjc_code.specs.Jvm as jvm;
 ghost use Rattle.cjc_code.specs.declared.insn.JOp.TheVariants as jop;
 ghost use Rattle.cjc_components.specs.Package.{Package, world};
 ghost use Rattle.cjc_judge.specs.declared.judged.Judged.{Judged};
@@ -33,11 +34,11 @@ use cjc_written_laws::{converted_classes_keep_rules, converted_files_are_sound};
 pub fn virtual_calls_are_named()
     ensures named { (list : ListTree) (files : List (List ℕ)) (judged : Judged) (p : Package)
         → IsConverted list files judged p → (class : ClassTree) (id : Member)
-        → IsInsnOf p.files judged.codes class (jop.Call 0xB6 id)
+        → IsInsnOf p.files judged.codes class (jop.Call jvm.invokevirtual id)
         → IsNamed (world p) (OnObject (virtual_by (world p) id (class_named (world p) id.class))) }
     ensures words { (list : ListTree) (files : List (List ℕ)) (judged : Judged) (p : Package)
         → IsConverted list files judged p → (class : ClassTree) (id : Member)
-        → IsInsnOf p.files judged.codes class (jop.Call 0xB6 id)
+        → IsInsnOf p.files judged.codes class (jop.Call jvm.invokevirtual id)
         → TakesWords (world p) (OnObject (virtual_by (world p) id (class_named (world p) id.class))) }
 {
     asked_methods_have_tokens();
@@ -55,13 +56,13 @@ pub fn virtual_calls_are_named()
 pub fn super_calls_are_named()
     ensures named { (list : ListTree) (files : List (List ℕ)) (judged : Judged) (p : Package)
         → IsConverted list files judged p → ExportsImplement (world p) → (class : ClassTree) (id : Member)
-        → IsInsnOf p.files judged.codes class (jop.Call 0xB7 id)
+        → IsInsnOf p.files judged.codes class (jop.Call jvm.invokespecial id)
         → is_interface class.flags ≡ false → is_constructor id.name ≡ false
         → (hit : Hit) → method_found (world p) id ≡ Some hit → is_private hit.flags ≡ false
         → IsNamed (world p) (OnSuper (of_class class.name id)) }
     ensures words { (list : ListTree) (files : List (List ℕ)) (judged : Judged) (p : Package)
         → IsConverted list files judged p → (class : ClassTree) (id : Member)
-        → IsInsnOf p.files judged.codes class (jop.Call 0xB7 id)
+        → IsInsnOf p.files judged.codes class (jop.Call jvm.invokespecial id)
         → TakesWords (world p) (OnSuper (of_class class.name id)) }
 {
     converted_classes_keep_rules();

@@ -3,6 +3,7 @@ use Rattle.std.specs.Prelude.{ℕ, zero, suc, ◌^◌, ◌-◌, ◌==◌, ◌&&�
 use Rattle.std.specs.Int.{w32, int_shr, int_bit_and, int_bit_or, int_bit_xor}
 use Rattle.std.specs.Int.RustNames.{int_div, int_rem, int_lt, int_le}
 use Rattle.cjc_words.specs.Words.{wide, shift_distance, unsigned_shift}
+use Rattle.cjc_code.specs.Jvm as jvm
 
 -- 0
 abbrev pub is_zero : ℤ → Bool
@@ -24,17 +25,17 @@ pub data Operation : Type 0 where
 -- of the dividend, and shifts go by the low five bits of their distance
 abbrev pub operation : ℕ → Operation
 operation op =
-    if op == 0x60 then Gives (λ x y. x +ℤ y)
-    else if op == 0x64 then Gives (λ x y. x -ℤ y)
-    else if op == 0x68 then Gives (λ x y. x *ℤ y)
-    else if op == 0x6C then Divides int_div
-    else if op == 0x70 then Divides int_rem
-    else if op == 0x78 then Gives (λ x d. x *ℤ pos (2 ^ shift_distance d))
-    else if op == 0x7A then Gives (λ x d. int_shr x (shift_distance d))
-    else if op == 0x7C then Gives (λ x d. unsigned_shift x (shift_distance d))
-    else if op == 0x7E then Gives (int_bit_and w32)
-    else if op == 0x80 then Gives (int_bit_or w32)
-    else if op == 0x82 then Gives (int_bit_xor w32)
+    if op == jvm.iadd then Gives (λ x y. x +ℤ y)
+    else if op == jvm.isub then Gives (λ x y. x -ℤ y)
+    else if op == jvm.imul then Gives (λ x y. x *ℤ y)
+    else if op == jvm.idiv then Divides int_div
+    else if op == jvm.irem then Divides int_rem
+    else if op == jvm.ishl then Gives (λ x d. x *ℤ pos (2 ^ shift_distance d))
+    else if op == jvm.ishr then Gives (λ x d. int_shr x (shift_distance d))
+    else if op == jvm.iushr then Gives (λ x d. unsigned_shift x (shift_distance d))
+    else if op == jvm.iand then Gives (int_bit_and w32)
+    else if op == jvm.ior then Gives (int_bit_or w32)
+    else if op == jvm.ixor then Gives (int_bit_xor w32)
     else Neither
 
 -- ineg
@@ -62,10 +63,10 @@ pub data Condition : Type 0 where
 -- by the opcode
 abbrev pub condition : ℕ → Condition
 condition op =
-    if nat_le 0x99 op && nat_le op 0x9E then OfNumber (λ x. relation (op - 0x99) x (pos 0))
-    else if nat_le 0x9F op && nat_le op 0xA4 then OfNumbers (relation (op - 0x9F))
-    else if op == 0xA5 then AreSame true
-    else if op == 0xA6 then AreSame false
-    else if op == 0xC6 then IsNull true
-    else if op == 0xC7 then IsNull false
+    if nat_le jvm.ifeq op && nat_le op jvm.ifle then OfNumber (λ x. relation (op - jvm.ifeq) x (pos 0))
+    else if nat_le jvm.if_icmpeq op && nat_le op jvm.if_icmple then OfNumbers (relation (op - jvm.if_icmpeq))
+    else if op == jvm.if_acmpeq then AreSame true
+    else if op == jvm.if_acmpne then AreSame false
+    else if op == jvm.ifnull then IsNull true
+    else if op == jvm.ifnonnull then IsNull false
     else Nothing

@@ -8,6 +8,7 @@ use Rattle.cjc_code.specs.declared.insn.JInsn.{JInsn}
 use Rattle.cjc_code.specs.declared.insn.JCase.{JCase}
 use Rattle.cjc_code.specs.declared.insn.JOp.{JOp}
 use Rattle.cjc_code.specs.declared.insn.JOp.TheVariants as jop
+use Rattle.cjc_code.specs.Jvm as jvm
 use Rattle.cjc_script.specs.declared.value.Value.{Value}
 use Rattle.cjc_script.specs.declared.value.Value.TheVariants.{Num, Null, Obj}
 use Rattle.cjc_script.specs.declared.report.FieldValue.{FieldValue}
@@ -167,14 +168,14 @@ pub data Moves : Type 0 where
 -- iaload, aaload, baload, saload
 abbrev pub loads : ℕ → Option Moves
 loads op =
-    if op == 0x2E then Some AnInt else if op == 0x32 then Some AReference
-    else if op == 0x33 then Some AByte else if op == 0x35 then Some AShort else None
+    if op == jvm.iaload then Some AnInt else if op == jvm.aaload then Some AReference
+    else if op == jvm.baload then Some AByte else if op == jvm.saload then Some AShort else None
 
 -- iastore, aastore, bastore, sastore
 abbrev pub stores : ℕ → Option Moves
 stores op =
-    if op == 0x4F then Some AnInt else if op == 0x53 then Some AReference
-    else if op == 0x54 then Some AByte else if op == 0x56 then Some AShort else None
+    if op == jvm.iastore then Some AnInt else if op == jvm.aastore then Some AReference
+    else if op == jvm.bastore then Some AByte else if op == jvm.sastore then Some AShort else None
 
 -- whether it moves references
 abbrev pub of_references : Moves → Bool
@@ -311,10 +312,10 @@ module _ (l : Linked) (m : Method) (at : ℕ) (locals : List (Option Value)) (st
   -- pop, pop2, dup, dup_x1, dup_x2, dup2, dup2_x1, dup2_x2, swap
   abbrev pub after_stack : ℕ → List Value → Effect
   after_stack op stack =
-      if op == 0x57 then after_pop 1 stack else if op == 0x58 then after_pop 2 stack
-      else if op == 0x59 then after_copy 1 1 stack else if op == 0x5A then after_copy 1 2 stack else if op == 0x5B then after_copy 1 3 stack
-      else if op == 0x5C then after_copy 2 2 stack else if op == 0x5D then after_copy 2 3 stack else if op == 0x5E then after_copy 2 4 stack
-      else if op == 0x5F then after_swap stack else Stick
+      if op == jvm.pop then after_pop 1 stack else if op == jvm.pop2 then after_pop 2 stack
+      else if op == jvm.dup then after_copy 1 1 stack else if op == jvm.dup_x1 then after_copy 1 2 stack else if op == jvm.dup_x2 then after_copy 1 3 stack
+      else if op == jvm.dup2 then after_copy 2 2 stack else if op == jvm.dup2_x1 then after_copy 2 3 stack else if op == jvm.dup2_x2 then after_copy 2 4 stack
+      else if op == jvm.swap then after_swap stack else Stick
 
   -- iload, aload
   abbrev pub after_load : (refs : Bool) → (k : ℕ) → List Value → Effect
@@ -339,13 +340,13 @@ module _ (l : Linked) (m : Method) (at : ℕ) (locals : List (Option Value)) (st
   -- arithmetic, shifts and logic
   abbrev pub after_arithmetic : ℕ → List Value → Effect
   after_arithmetic op stack =
-      if op == 0x74 then one_number stack (λ x rest. onward (Num (negation x) ∷ rest)) else after_operation (operation op) stack
+      if op == jvm.ineg then one_number stack (λ x rest. onward (Num (negation x) ∷ rest)) else after_operation (operation op) stack
 
   -- i2b, i2s
   abbrev pub after_narrowing : ℕ → List Value → Effect
   after_narrowing op stack =
-      if op == 0x91 then one_number stack (λ x rest. onward (Num (low_byte x) ∷ rest))
-      else if op == 0x93 then one_number stack (λ x rest. onward (Num (low_word x) ∷ rest)) else Stick
+      if op == jvm.i2b then one_number stack (λ x rest. onward (Num (low_byte x) ∷ rest))
+      else if op == jvm.i2s then one_number stack (λ x rest. onward (Num (low_word x) ∷ rest)) else Stick
 
   -- ---- jumps
 
@@ -363,9 +364,9 @@ module _ (l : Linked) (m : Method) (at : ℕ) (locals : List (Option Value)) (st
   -- ireturn, areturn, return
   abbrev pub at_return : ℕ → List Value → Effect
   at_return op stack =
-      if op == 0xAC then one_number stack (λ x rest. Leave (Some (Num x)))
-      else if op == 0xB0 then one_value stack (λ v rest. only_if (is_kind true v) (Leave (Some v)))
-      else if op == 0xB1 then Leave None else Stick
+      if op == jvm.ireturn then one_number stack (λ x rest. Leave (Some (Num x)))
+      else if op == jvm.areturn then one_value stack (λ v rest. only_if (is_kind true v) (Leave (Some v)))
+      else if op == jvm.return then Leave None else Stick
 
   -- ---- arrays
 

@@ -5,6 +5,7 @@
 
 ghost use Rattle.std.specs.Prelude.{◌≡◌, ◌≢◌, ◌≤◌, ℕ, ℤ, codes, pos, negsuc, replicate, slice_get, length, take, reverse, nat_le, nat_lt, ◌++◌, false, true, List, Option, Some, None, [], ◌∷◌};
 ghost use Rattle.cjc_bytes.specs.declared.fault.MemberId.{MemberId};
+ghost use Rattle.cjc_code.specs.Jvm as jvm;
 ghost use Rattle.cjc_code.specs.declared.insn.JOp.TheVariants as jop;
 ghost use Rattle.cjc_script.specs.declared.value.Value.{Value};
 ghost use Rattle.cjc_script.specs.declared.value.Value.TheVariants.{Num, Null, Obj};
@@ -133,56 +134,56 @@ pub fn ends_are_met()
 /// For every record of look-ups: what rows of the instructions give of a stack, where they are stuck, and what raises
 /// whatever else is there.
 pub fn rows_give_their_results()
-    ensures pop { (l : Linked) (store : Store) → effect l (roomy 20) 2 [] store (jop.Stack 0x57) (Num (pos 1) ∷ Null ∷ []) ≡ Go 3 (Null ∷ []) [] store }
-    ensures pop2 { (l : Linked) (store : Store) → effect l (roomy 20) 2 [] store (jop.Stack 0x58) (Num (pos 1) ∷ Null ∷ Obj 3 ∷ []) ≡ Go 3 (Obj 3 ∷ []) [] store }
-    ensures dup { (l : Linked) (store : Store) → effect l (roomy 20) 2 [] store (jop.Stack 0x59) (Num (pos 1) ∷ Null ∷ []) ≡ Go 3 (Num (pos 1) ∷ Num (pos 1) ∷ Null ∷ []) [] store }
-    ensures dup_x1 { (l : Linked) (store : Store) → effect l (roomy 20) 2 [] store (jop.Stack 0x5A) (Num (pos 1) ∷ Null ∷ Obj 3 ∷ []) ≡ Go 3 (Num (pos 1) ∷ Null ∷ Num (pos 1) ∷ Obj 3 ∷ []) [] store }
-    ensures dup_x2 { (l : Linked) (store : Store) → effect l (roomy 20) 2 [] store (jop.Stack 0x5B) (Num (pos 1) ∷ Null ∷ Obj 3 ∷ Obj 4 ∷ []) ≡ Go 3 (Num (pos 1) ∷ Null ∷ Obj 3 ∷ Num (pos 1) ∷ Obj 4 ∷ []) [] store }
-    ensures dup2 { (l : Linked) (store : Store) → effect l (roomy 20) 2 [] store (jop.Stack 0x5C) (Num (pos 1) ∷ Null ∷ []) ≡ Go 3 (Num (pos 1) ∷ Null ∷ Num (pos 1) ∷ Null ∷ []) [] store }
-    ensures dup2_x1 { (l : Linked) (store : Store) → effect l (roomy 20) 2 [] store (jop.Stack 0x5D) (Num (pos 1) ∷ Null ∷ Obj 3 ∷ []) ≡ Go 3 (Num (pos 1) ∷ Null ∷ Obj 3 ∷ Num (pos 1) ∷ Null ∷ []) [] store }
-    ensures dup2_x2 { (l : Linked) (store : Store) → effect l (roomy 20) 2 [] store (jop.Stack 0x5E) (Num (pos 1) ∷ Null ∷ Obj 3 ∷ Obj 4 ∷ []) ≡ Go 3 (Num (pos 1) ∷ Null ∷ Obj 3 ∷ Obj 4 ∷ Num (pos 1) ∷ Null ∷ []) [] store }
-    ensures swap { (l : Linked) (store : Store) → effect l (roomy 20) 2 [] store (jop.Stack 0x5F) (Num (pos 1) ∷ Null ∷ Obj 3 ∷ []) ≡ Go 3 (Null ∷ Num (pos 1) ∷ Obj 3 ∷ []) [] store }
-    ensures no_room { (l : Linked) (store : Store) → effect l (roomy 1) 2 [] store (jop.Stack 0x59) (Num (pos 1) ∷ []) ≡ Stick }
-    ensures missing { (l : Linked) (store : Store) → effect l (roomy 20) 2 [] store (jop.Stack 0x5A) (Num (pos 1) ∷ []) ≡ Stick }
-    ensures iadd { (l : Linked) (store : Store) → effect l (roomy 20) 2 [] store (jop.Arith 0x60) (Num (pos 1) ∷ Num (pos 2147483647) ∷ []) ≡ Go 3 (Num (negsuc 2147483647) ∷ []) [] store }
-    ensures isub { (l : Linked) (store : Store) → effect l (roomy 20) 2 [] store (jop.Arith 0x64) (Num (pos 1) ∷ Num (negsuc 2147483647) ∷ []) ≡ Go 3 (Num (pos 2147483647) ∷ []) [] store }
-    ensures imul { (l : Linked) (store : Store) → effect l (roomy 20) 2 [] store (jop.Arith 0x68) (Num (pos 65536) ∷ Num (pos 65536) ∷ []) ≡ Go 3 (Num (pos 0) ∷ []) [] store }
-    ensures idiv { (l : Linked) (store : Store) → effect l (roomy 20) 2 [] store (jop.Arith 0x6C) (Num (pos 2) ∷ Num (negsuc 6) ∷ []) ≡ Go 3 (Num (negsuc 2) ∷ []) [] store }
-    ensures idiv_least { (l : Linked) (store : Store) → effect l (roomy 20) 2 [] store (jop.Arith 0x6C) (Num (negsuc 0) ∷ Num (negsuc 2147483647) ∷ []) ≡ Go 3 (Num (negsuc 2147483647) ∷ []) [] store }
-    ensures irem { (l : Linked) (store : Store) → effect l (roomy 20) 2 [] store (jop.Arith 0x70) (Num (pos 2) ∷ Num (negsuc 6) ∷ []) ≡ Go 3 (Num (negsuc 0) ∷ []) [] store }
-    ensures ineg { (l : Linked) (store : Store) → effect l (roomy 20) 2 [] store (jop.Arith 0x74) (Num (negsuc 2147483647) ∷ []) ≡ Go 3 (Num (negsuc 2147483647) ∷ []) [] store }
-    ensures ishl { (l : Linked) (store : Store) → effect l (roomy 20) 2 [] store (jop.Arith 0x78) (Num (pos 35) ∷ Num (pos 3) ∷ []) ≡ Go 3 (Num (pos 24) ∷ []) [] store }
-    ensures ishr { (l : Linked) (store : Store) → effect l (roomy 20) 2 [] store (jop.Arith 0x7A) (Num (pos 34) ∷ Num (negsuc 6) ∷ []) ≡ Go 3 (Num (negsuc 1) ∷ []) [] store }
-    ensures iushr { (l : Linked) (store : Store) → effect l (roomy 20) 2 [] store (jop.Arith 0x7C) (Num (pos 28) ∷ Num (negsuc 0) ∷ []) ≡ Go 3 (Num (pos 15) ∷ []) [] store }
-    ensures iand { (l : Linked) (store : Store) → effect l (roomy 20) 2 [] store (jop.Arith 0x7E) (Num (negsuc 1) ∷ Num (pos 7) ∷ []) ≡ Go 3 (Num (pos 6) ∷ []) [] store }
-    ensures ior { (l : Linked) (store : Store) → effect l (roomy 20) 2 [] store (jop.Arith 0x80) (Num (pos 4) ∷ Num (pos 3) ∷ []) ≡ Go 3 (Num (pos 7) ∷ []) [] store }
-    ensures ixor { (l : Linked) (store : Store) → effect l (roomy 20) 2 [] store (jop.Arith 0x82) (Num (negsuc 0) ∷ Num (pos 5) ∷ []) ≡ Go 3 (Num (negsuc 5) ∷ []) [] store }
-    ensures i2b { (l : Linked) (store : Store) → effect l (roomy 20) 2 [] store (jop.Narrow 0x91) (Num (pos 200) ∷ []) ≡ Go 3 (Num (negsuc 55) ∷ []) [] store }
-    ensures i2s { (l : Linked) (store : Store) → effect l (roomy 20) 2 [] store (jop.Narrow 0x93) (Num (pos 70000) ∷ []) ≡ Go 3 (Num (pos 4464) ∷ []) [] store }
+    ensures pop { (l : Linked) (store : Store) → effect l (roomy 20) 2 [] store (jop.Stack jvm.pop) (Num (pos 1) ∷ Null ∷ []) ≡ Go 3 (Null ∷ []) [] store }
+    ensures pop2 { (l : Linked) (store : Store) → effect l (roomy 20) 2 [] store (jop.Stack jvm.pop2) (Num (pos 1) ∷ Null ∷ Obj 3 ∷ []) ≡ Go 3 (Obj 3 ∷ []) [] store }
+    ensures dup { (l : Linked) (store : Store) → effect l (roomy 20) 2 [] store (jop.Stack jvm.dup) (Num (pos 1) ∷ Null ∷ []) ≡ Go 3 (Num (pos 1) ∷ Num (pos 1) ∷ Null ∷ []) [] store }
+    ensures dup_x1 { (l : Linked) (store : Store) → effect l (roomy 20) 2 [] store (jop.Stack jvm.dup_x1) (Num (pos 1) ∷ Null ∷ Obj 3 ∷ []) ≡ Go 3 (Num (pos 1) ∷ Null ∷ Num (pos 1) ∷ Obj 3 ∷ []) [] store }
+    ensures dup_x2 { (l : Linked) (store : Store) → effect l (roomy 20) 2 [] store (jop.Stack jvm.dup_x2) (Num (pos 1) ∷ Null ∷ Obj 3 ∷ Obj 4 ∷ []) ≡ Go 3 (Num (pos 1) ∷ Null ∷ Obj 3 ∷ Num (pos 1) ∷ Obj 4 ∷ []) [] store }
+    ensures dup2 { (l : Linked) (store : Store) → effect l (roomy 20) 2 [] store (jop.Stack jvm.dup2) (Num (pos 1) ∷ Null ∷ []) ≡ Go 3 (Num (pos 1) ∷ Null ∷ Num (pos 1) ∷ Null ∷ []) [] store }
+    ensures dup2_x1 { (l : Linked) (store : Store) → effect l (roomy 20) 2 [] store (jop.Stack jvm.dup2_x1) (Num (pos 1) ∷ Null ∷ Obj 3 ∷ []) ≡ Go 3 (Num (pos 1) ∷ Null ∷ Obj 3 ∷ Num (pos 1) ∷ Null ∷ []) [] store }
+    ensures dup2_x2 { (l : Linked) (store : Store) → effect l (roomy 20) 2 [] store (jop.Stack jvm.dup2_x2) (Num (pos 1) ∷ Null ∷ Obj 3 ∷ Obj 4 ∷ []) ≡ Go 3 (Num (pos 1) ∷ Null ∷ Obj 3 ∷ Obj 4 ∷ Num (pos 1) ∷ Null ∷ []) [] store }
+    ensures swap { (l : Linked) (store : Store) → effect l (roomy 20) 2 [] store (jop.Stack jvm.swap) (Num (pos 1) ∷ Null ∷ Obj 3 ∷ []) ≡ Go 3 (Null ∷ Num (pos 1) ∷ Obj 3 ∷ []) [] store }
+    ensures no_room { (l : Linked) (store : Store) → effect l (roomy 1) 2 [] store (jop.Stack jvm.dup) (Num (pos 1) ∷ []) ≡ Stick }
+    ensures missing { (l : Linked) (store : Store) → effect l (roomy 20) 2 [] store (jop.Stack jvm.dup_x1) (Num (pos 1) ∷ []) ≡ Stick }
+    ensures iadd { (l : Linked) (store : Store) → effect l (roomy 20) 2 [] store (jop.Arith jvm.iadd) (Num (pos 1) ∷ Num (pos 2147483647) ∷ []) ≡ Go 3 (Num (negsuc 2147483647) ∷ []) [] store }
+    ensures isub { (l : Linked) (store : Store) → effect l (roomy 20) 2 [] store (jop.Arith jvm.isub) (Num (pos 1) ∷ Num (negsuc 2147483647) ∷ []) ≡ Go 3 (Num (pos 2147483647) ∷ []) [] store }
+    ensures imul { (l : Linked) (store : Store) → effect l (roomy 20) 2 [] store (jop.Arith jvm.imul) (Num (pos 65536) ∷ Num (pos 65536) ∷ []) ≡ Go 3 (Num (pos 0) ∷ []) [] store }
+    ensures idiv { (l : Linked) (store : Store) → effect l (roomy 20) 2 [] store (jop.Arith jvm.idiv) (Num (pos 2) ∷ Num (negsuc 6) ∷ []) ≡ Go 3 (Num (negsuc 2) ∷ []) [] store }
+    ensures idiv_least { (l : Linked) (store : Store) → effect l (roomy 20) 2 [] store (jop.Arith jvm.idiv) (Num (negsuc 0) ∷ Num (negsuc 2147483647) ∷ []) ≡ Go 3 (Num (negsuc 2147483647) ∷ []) [] store }
+    ensures irem { (l : Linked) (store : Store) → effect l (roomy 20) 2 [] store (jop.Arith jvm.irem) (Num (pos 2) ∷ Num (negsuc 6) ∷ []) ≡ Go 3 (Num (negsuc 0) ∷ []) [] store }
+    ensures ineg { (l : Linked) (store : Store) → effect l (roomy 20) 2 [] store (jop.Arith jvm.ineg) (Num (negsuc 2147483647) ∷ []) ≡ Go 3 (Num (negsuc 2147483647) ∷ []) [] store }
+    ensures ishl { (l : Linked) (store : Store) → effect l (roomy 20) 2 [] store (jop.Arith jvm.ishl) (Num (pos 35) ∷ Num (pos 3) ∷ []) ≡ Go 3 (Num (pos 24) ∷ []) [] store }
+    ensures ishr { (l : Linked) (store : Store) → effect l (roomy 20) 2 [] store (jop.Arith jvm.ishr) (Num (pos 34) ∷ Num (negsuc 6) ∷ []) ≡ Go 3 (Num (negsuc 1) ∷ []) [] store }
+    ensures iushr { (l : Linked) (store : Store) → effect l (roomy 20) 2 [] store (jop.Arith jvm.iushr) (Num (pos 28) ∷ Num (negsuc 0) ∷ []) ≡ Go 3 (Num (pos 15) ∷ []) [] store }
+    ensures iand { (l : Linked) (store : Store) → effect l (roomy 20) 2 [] store (jop.Arith jvm.iand) (Num (negsuc 1) ∷ Num (pos 7) ∷ []) ≡ Go 3 (Num (pos 6) ∷ []) [] store }
+    ensures ior { (l : Linked) (store : Store) → effect l (roomy 20) 2 [] store (jop.Arith jvm.ior) (Num (pos 4) ∷ Num (pos 3) ∷ []) ≡ Go 3 (Num (pos 7) ∷ []) [] store }
+    ensures ixor { (l : Linked) (store : Store) → effect l (roomy 20) 2 [] store (jop.Arith jvm.ixor) (Num (negsuc 0) ∷ Num (pos 5) ∷ []) ≡ Go 3 (Num (negsuc 5) ∷ []) [] store }
+    ensures i2b { (l : Linked) (store : Store) → effect l (roomy 20) 2 [] store (jop.Narrow jvm.i2b) (Num (pos 200) ∷ []) ≡ Go 3 (Num (negsuc 55) ∷ []) [] store }
+    ensures i2s { (l : Linked) (store : Store) → effect l (roomy 20) 2 [] store (jop.Narrow jvm.i2s) (Num (pos 70000) ∷ []) ≡ Go 3 (Num (pos 4464) ∷ []) [] store }
     ensures iinc { (l : Linked) (store : Store) → effect l (roomy 20) 2 (Some (Num (negsuc 2147483647)) ∷ []) store (jop.Inc 0 (negsuc 0)) [] ≡ Go 3 [] (Some (Num (pos 2147483647)) ∷ []) store }
     ensures istore { (l : Linked) (store : Store) → effect l (roomy 20) 2 (None ∷ None ∷ []) store (jop.Store false 1) (Num (pos 1) ∷ Null ∷ []) ≡ Go 3 (Null ∷ []) (None ∷ Some (Num (pos 1)) ∷ []) store }
     ensures astore { (l : Linked) (store : Store) → effect l (roomy 20) 2 (None ∷ None ∷ []) store (jop.Store true 0) (Null ∷ []) ≡ Go 3 [] (Some Null ∷ None ∷ []) store }
     ensures aload { (l : Linked) (store : Store) → effect l (roomy 20) 2 (Some (Obj 3) ∷ []) store (jop.Load true 0) [] ≡ Go 3 (Obj 3 ∷ []) (Some (Obj 3) ∷ []) store }
     ensures iload_of_reference { (l : Linked) (store : Store) → effect l (roomy 20) 2 (Some Null ∷ []) store (jop.Load false 0) [] ≡ Stick }
     ensures astore_of_number { (l : Linked) (store : Store) → effect l (roomy 20) 2 (None ∷ []) store (jop.Store true 0) (Num (pos 1) ∷ []) ≡ Stick }
-    ensures ifeq { (l : Linked) (store : Store) → effect l (roomy 20) 2 [] store (jop.If 0x99 9) (Num (pos 0) ∷ []) ≡ Go 1 [] [] store }
-    ensures ifne_not { (l : Linked) (store : Store) → effect l (roomy 20) 2 [] store (jop.If 0x9A 9) (Num (pos 0) ∷ []) ≡ Go 3 [] [] store }
-    ensures iflt { (l : Linked) (store : Store) → effect l (roomy 20) 2 [] store (jop.If 0x9B 9) (Num (negsuc 0) ∷ []) ≡ Go 1 [] [] store }
-    ensures ifge_not { (l : Linked) (store : Store) → effect l (roomy 20) 2 [] store (jop.If 0x9C 9) (Num (negsuc 0) ∷ []) ≡ Go 3 [] [] store }
-    ensures ifgt_not { (l : Linked) (store : Store) → effect l (roomy 20) 2 [] store (jop.If 0x9D 9) (Num (pos 0) ∷ []) ≡ Go 3 [] [] store }
-    ensures ifle { (l : Linked) (store : Store) → effect l (roomy 20) 2 [] store (jop.If 0x9E 9) (Num (pos 0) ∷ []) ≡ Go 1 [] [] store }
-    ensures if_icmpeq_not { (l : Linked) (store : Store) → effect l (roomy 20) 2 [] store (jop.If 0x9F 9) (Num (pos 2) ∷ Num (pos 1) ∷ []) ≡ Go 3 [] [] store }
-    ensures if_icmpne { (l : Linked) (store : Store) → effect l (roomy 20) 2 [] store (jop.If 0xA0 9) (Num (pos 2) ∷ Num (pos 1) ∷ []) ≡ Go 1 [] [] store }
-    ensures if_icmplt { (l : Linked) (store : Store) → effect l (roomy 20) 2 [] store (jop.If 0xA1 9) (Num (pos 2) ∷ Num (pos 1) ∷ []) ≡ Go 1 [] [] store }
-    ensures if_icmpge_not { (l : Linked) (store : Store) → effect l (roomy 20) 2 [] store (jop.If 0xA2 9) (Num (pos 2) ∷ Num (pos 1) ∷ []) ≡ Go 3 [] [] store }
-    ensures if_icmpgt_not { (l : Linked) (store : Store) → effect l (roomy 20) 2 [] store (jop.If 0xA3 9) (Num (pos 2) ∷ Num (pos 1) ∷ []) ≡ Go 3 [] [] store }
-    ensures if_icmple { (l : Linked) (store : Store) → effect l (roomy 20) 2 [] store (jop.If 0xA4 9) (Num (pos 2) ∷ Num (pos 1) ∷ []) ≡ Go 1 [] [] store }
-    ensures if_acmpeq { (l : Linked) (store : Store) → effect l (roomy 20) 2 [] store (jop.If 0xA5 9) (Obj 3 ∷ Obj 3 ∷ []) ≡ Go 1 [] [] store }
-    ensures if_acmpne { (l : Linked) (store : Store) → effect l (roomy 20) 2 [] store (jop.If 0xA6 9) (Null ∷ Obj 3 ∷ []) ≡ Go 1 [] [] store }
-    ensures ifnull_not { (l : Linked) (store : Store) → effect l (roomy 20) 2 [] store (jop.If 0xC6 9) (Obj 3 ∷ []) ≡ Go 3 [] [] store }
-    ensures ifnonnull { (l : Linked) (store : Store) → effect l (roomy 20) 2 [] store (jop.If 0xC7 9) (Obj 3 ∷ []) ≡ Go 1 [] [] store }
-    ensures if_acmpeq_of_number { (l : Linked) (store : Store) → effect l (roomy 20) 2 [] store (jop.If 0xA5 9) (Num (pos 1) ∷ Num (pos 1) ∷ []) ≡ Stick }
-    ensures ifeq_of_reference { (l : Linked) (store : Store) → effect l (roomy 20) 2 [] store (jop.If 0x99 9) (Null ∷ []) ≡ Stick }
+    ensures ifeq { (l : Linked) (store : Store) → effect l (roomy 20) 2 [] store (jop.If jvm.ifeq 9) (Num (pos 0) ∷ []) ≡ Go 1 [] [] store }
+    ensures ifne_not { (l : Linked) (store : Store) → effect l (roomy 20) 2 [] store (jop.If jvm.ifne 9) (Num (pos 0) ∷ []) ≡ Go 3 [] [] store }
+    ensures iflt { (l : Linked) (store : Store) → effect l (roomy 20) 2 [] store (jop.If jvm.iflt 9) (Num (negsuc 0) ∷ []) ≡ Go 1 [] [] store }
+    ensures ifge_not { (l : Linked) (store : Store) → effect l (roomy 20) 2 [] store (jop.If jvm.ifge 9) (Num (negsuc 0) ∷ []) ≡ Go 3 [] [] store }
+    ensures ifgt_not { (l : Linked) (store : Store) → effect l (roomy 20) 2 [] store (jop.If jvm.ifgt 9) (Num (pos 0) ∷ []) ≡ Go 3 [] [] store }
+    ensures ifle { (l : Linked) (store : Store) → effect l (roomy 20) 2 [] store (jop.If jvm.ifle 9) (Num (pos 0) ∷ []) ≡ Go 1 [] [] store }
+    ensures if_icmpeq_not { (l : Linked) (store : Store) → effect l (roomy 20) 2 [] store (jop.If jvm.if_icmpeq 9) (Num (pos 2) ∷ Num (pos 1) ∷ []) ≡ Go 3 [] [] store }
+    ensures if_icmpne { (l : Linked) (store : Store) → effect l (roomy 20) 2 [] store (jop.If jvm.if_icmpne 9) (Num (pos 2) ∷ Num (pos 1) ∷ []) ≡ Go 1 [] [] store }
+    ensures if_icmplt { (l : Linked) (store : Store) → effect l (roomy 20) 2 [] store (jop.If jvm.if_icmplt 9) (Num (pos 2) ∷ Num (pos 1) ∷ []) ≡ Go 1 [] [] store }
+    ensures if_icmpge_not { (l : Linked) (store : Store) → effect l (roomy 20) 2 [] store (jop.If jvm.if_icmpge 9) (Num (pos 2) ∷ Num (pos 1) ∷ []) ≡ Go 3 [] [] store }
+    ensures if_icmpgt_not { (l : Linked) (store : Store) → effect l (roomy 20) 2 [] store (jop.If jvm.if_icmpgt 9) (Num (pos 2) ∷ Num (pos 1) ∷ []) ≡ Go 3 [] [] store }
+    ensures if_icmple { (l : Linked) (store : Store) → effect l (roomy 20) 2 [] store (jop.If jvm.if_icmple 9) (Num (pos 2) ∷ Num (pos 1) ∷ []) ≡ Go 1 [] [] store }
+    ensures if_acmpeq { (l : Linked) (store : Store) → effect l (roomy 20) 2 [] store (jop.If jvm.if_acmpeq 9) (Obj 3 ∷ Obj 3 ∷ []) ≡ Go 1 [] [] store }
+    ensures if_acmpne { (l : Linked) (store : Store) → effect l (roomy 20) 2 [] store (jop.If jvm.if_acmpne 9) (Null ∷ Obj 3 ∷ []) ≡ Go 1 [] [] store }
+    ensures ifnull_not { (l : Linked) (store : Store) → effect l (roomy 20) 2 [] store (jop.If jvm.ifnull 9) (Obj 3 ∷ []) ≡ Go 3 [] [] store }
+    ensures ifnonnull { (l : Linked) (store : Store) → effect l (roomy 20) 2 [] store (jop.If jvm.ifnonnull 9) (Obj 3 ∷ []) ≡ Go 1 [] [] store }
+    ensures if_acmpeq_of_number { (l : Linked) (store : Store) → effect l (roomy 20) 2 [] store (jop.If jvm.if_acmpeq 9) (Num (pos 1) ∷ Num (pos 1) ∷ []) ≡ Stick }
+    ensures ifeq_of_reference { (l : Linked) (store : Store) → effect l (roomy 20) 2 [] store (jop.If jvm.ifeq 9) (Null ∷ []) ≡ Stick }
     ensures goto { (l : Linked) (store : Store) → effect l (roomy 20) 2 [] store (jop.Goto 9) (Num (pos 1) ∷ []) ≡ Go 1 (Num (pos 1) ∷ []) [] store }
     ensures table_first { (l : Linked) (store : Store) → effect l (roomy 20) 2 [] store (jop.TableSwitch 0 (negsuc 0) (9 ∷ 0 ∷ 9 ∷ [])) (Num (negsuc 0) ∷ []) ≡ Go 1 [] [] store }
     ensures table_last { (l : Linked) (store : Store) → effect l (roomy 20) 2 [] store (jop.TableSwitch 0 (negsuc 0) (9 ∷ 0 ∷ 9 ∷ [])) (Num (pos 1) ∷ []) ≡ Go 1 [] [] store }
@@ -190,11 +191,11 @@ pub fn rows_give_their_results()
     ensures table_above { (l : Linked) (store : Store) → effect l (roomy 20) 2 [] store (jop.TableSwitch 0 (negsuc 0) (9 ∷ 0 ∷ 9 ∷ [])) (Num (pos 2) ∷ []) ≡ Go 0 [] [] store }
     ensures lookup { (l : Linked) (store : Store) → effect l (roomy 20) 2 [] store (jop.LookupSwitch 0 (record { value = pos 70000; target = 9 } ∷ [])) (Num (pos 70000) ∷ []) ≡ Go 1 [] [] store }
     ensures lookup_other { (l : Linked) (store : Store) → effect l (roomy 20) 2 [] store (jop.LookupSwitch 0 (record { value = pos 70000; target = 9 } ∷ [])) (Num (pos 4464) ∷ []) ≡ Go 0 [] [] store }
-    ensures bastore { (l : Linked) → effect l (roomy 20) 2 [] two_arrays (jop.ArrayStore 0x54) (Num (pos 258) ∷ Num (pos 0) ∷ Obj 0 ∷ []) ≡ Go 3 [] [] (arrays_with (pos 2) (pos 0)) }
-    ensures sastore { (l : Linked) → effect l (roomy 20) 2 [] two_arrays (jop.ArrayStore 0x56) (Num (pos 70000) ∷ Num (pos 0) ∷ Obj 1 ∷ []) ≡ Go 3 [] [] (arrays_with (pos 0) (pos 4464)) }
-    ensures other_array { (l : Linked) → effect l (roomy 20) 2 [] two_arrays (jop.ArrayLoad 0x35) (Num (pos 0) ∷ Obj 0 ∷ []) ≡ Stick }
-    ensures idiv_by_zero { (l : Linked) (m : Method) (at : ℕ) (locals : List (Option Value)) (store : Store) (x : ℤ) (rest : List Value) → effect l m at locals store (jop.Arith 0x6C) (Num (pos 0) ∷ Num x ∷ rest) ≡ Raise Arithmetic }
-    ensures irem_by_zero { (l : Linked) (m : Method) (at : ℕ) (locals : List (Option Value)) (store : Store) (x : ℤ) (rest : List Value) → effect l m at locals store (jop.Arith 0x70) (Num (pos 0) ∷ Num x ∷ rest) ≡ Raise Arithmetic }
+    ensures bastore { (l : Linked) → effect l (roomy 20) 2 [] two_arrays (jop.ArrayStore jvm.bastore) (Num (pos 258) ∷ Num (pos 0) ∷ Obj 0 ∷ []) ≡ Go 3 [] [] (arrays_with (pos 2) (pos 0)) }
+    ensures sastore { (l : Linked) → effect l (roomy 20) 2 [] two_arrays (jop.ArrayStore jvm.sastore) (Num (pos 70000) ∷ Num (pos 0) ∷ Obj 1 ∷ []) ≡ Go 3 [] [] (arrays_with (pos 0) (pos 4464)) }
+    ensures other_array { (l : Linked) → effect l (roomy 20) 2 [] two_arrays (jop.ArrayLoad jvm.saload) (Num (pos 0) ∷ Obj 0 ∷ []) ≡ Stick }
+    ensures idiv_by_zero { (l : Linked) (m : Method) (at : ℕ) (locals : List (Option Value)) (store : Store) (x : ℤ) (rest : List Value) → effect l m at locals store (jop.Arith jvm.idiv) (Num (pos 0) ∷ Num x ∷ rest) ≡ Raise Arithmetic }
+    ensures irem_by_zero { (l : Linked) (m : Method) (at : ℕ) (locals : List (Option Value)) (store : Store) (x : ℤ) (rest : List Value) → effect l m at locals store (jop.Arith jvm.irem) (Num (pos 0) ∷ Num x ∷ rest) ≡ Raise Arithmetic }
     ensures negative_size { (l : Linked) (m : Method) (at : ℕ) (locals : List (Option Value)) (store : Store) (n : ℕ) (rest : List Value) → effect l m at locals store (jop.NewArray 10) (Num (negsuc n) ∷ rest) ≡ Raise NegativeSize }
     ensures length_of_null { (l : Linked) (m : Method) (at : ℕ) (locals : List (Option Value)) (store : Store) (rest : List Value) → effect l m at locals store jop.ArrayLength (Null ∷ rest) ≡ Raise NullPointer }
     ensures null_thrown { (l : Linked) (m : Method) (at : ℕ) (locals : List (Option Value)) (store : Store) (rest : List Value) → effect l m at locals store jop.Throw (Null ∷ rest) ≡ Raise NullPointer }

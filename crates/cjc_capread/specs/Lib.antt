@@ -1,3 +1,4 @@
+pub mod Card
 pub mod Opcodes
 pub mod Parts
 pub mod ClassRefs

@@ -1,6 +1,7 @@
 //! The components of a CAP file: what they say, as trees, and which bytes spell them.
 #![tactic(auto)]
 
+pub mod card;
 mod class;
 mod component;
 mod descriptor;

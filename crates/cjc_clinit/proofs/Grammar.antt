@@ -14,7 +14,8 @@ use Rattle.cjc_clinit.specs.declared.stage.Held.{Held}
 use Rattle.cjc_clinit.specs.declared.stage.Stage.{Stage}
 use Rattle.cjc_clinit.specs.declared.stage.Stage.TheVariants as stages
 use Rattle.cjc_clinit.specs.Fields.{Contents, ANumber, ANull, AnArray, fits, held_by}
-use Rattle.cjc_clinit.specs.Initialiser.{dup, return, element_kind, store, most_items, place_for, Stores, Makes, Put, Initialises, IsBeginning}
+use Rattle.cjc_code.specs.Jvm.{dup, return}
+use Rattle.cjc_clinit.specs.Initialiser.{element_kind, store, most_items, place_for, Stores, Makes, Put, Initialises, IsBeginning}
 use Rattle.cjc_clinit.specs.Initialiser.Stores.{none, one}
 use Rattle.cjc_clinit.specs.Initialiser.Makes.{of_number, of_null, of_array}
 use Rattle.cjc_clinit.specs.Image.{own_field, array_in, arrays_of}

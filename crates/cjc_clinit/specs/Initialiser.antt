@@ -12,6 +12,7 @@ use Rattle.cjc_classfile.specs.declared.tree.MethodTree.{MethodTree}
 use Rattle.cjc_code.specs.declared.insn.JInsn.{JInsn}
 use Rattle.cjc_code.specs.declared.insn.JOp.{JOp}
 use Rattle.cjc_code.specs.declared.insn.JOp.TheVariants as jop
+use Rattle.cjc_code.specs.Jvm as jvm
 use Rattle.cjc_world.specs.declared.found.Found.{Found}
 use Rattle.cjc_world.specs.Files.{Files}
 use Rattle.cjc_world.specs.Classes.{all_classes}
@@ -26,14 +27,6 @@ is_initialiser m = bytes_eq m.name (codes "<clinit>") && bytes_eq m.desc (codes 
 
 -- ---- the instructions
 
--- the opcode of dup
-abbrev pub dup : ℕ
-dup = 0x59
-
--- the return of a method without result
-abbrev pub return : ℕ
-return = 0xB1
-
 -- newarray's numbers of types: boolean 4, byte 8, short 9, int 10
 abbrev pub element_kind : ℕ → Option Kind
 element_kind number =
@@ -42,9 +35,9 @@ element_kind number =
 
 -- an array's own store: bastore, sastore, iastore
 abbrev pub store : Kind → ℕ
-store kinds.Short = 0x56
-store kinds.Int = 0x4F
-store _ = 0x54
+store kinds.Short = jvm.sastore
+store kinds.Int = jvm.iastore
+store _ = jvm.bastore
 
 -- the most items of an array
 abbrev pub most_items : ℕ
@@ -87,7 +80,7 @@ place_for files number c fields contents id = if takes contents id.desc then ope
 pub data Stores (kind : Kind) : (before : List ℤ) → List JOp → (after : List ℤ) → Type 0 where
   none : {items : List ℤ} → Stores kind items [] items
   one : {items : List ℤ} {i : ℕ} {z : ℤ} {ops : List JOp} {after : List ℤ} → i < length items → fits kind z ≡ true → Stores kind (slice_set items i z) ops after
-      → Stores kind items (jop.Stack dup ∷ jop.Number (pos i) ∷ jop.Number z ∷ jop.ArrayStore (store kind) ∷ ops) after
+      → Stores kind items (jop.Stack jvm.dup ∷ jop.Number (pos i) ∷ jop.Number z ∷ jop.ArrayStore (store kind) ∷ ops) after
 
 -- instructions that leave this on the stack
 pub data Makes : List JOp → Contents → Type 0 where
@@ -104,7 +97,7 @@ pub record Put : Type 0 where
 
 -- An initialiser of the class of this number: its statements, and what the fields hold before and after them.
 pub data Initialises (files : Files) (number : ℕ) (c : ClassTree) : (before : List Held) → List JOp → List Put → (after : List Held) → Type 0 where
-  ends : {fields : List Held} → Initialises files number c fields (jop.Return return ∷ []) [] fields
+  ends : {fields : List Held} → Initialises files number c fields (jop.Return jvm.return ∷ []) [] fields
   puts : {fields after : List Held} {made ops : List JOp} {contents : Contents} {id : MemberId} {k : ℕ} {rest : List Put} → Makes made contents → place_for files number c fields contents id ≡ Some k
       → Initialises files number c (slice_set fields k (held_by contents)) ops rest after
       → Initialises files number c fields (made ++ (jop.Static true id ∷ ops)) (record { place = k; field = id; contents = contents } ∷ rest) after
@@ -115,7 +108,7 @@ pub data Initialises (files : Files) (number : ℕ) (c : ClassTree) : (before : 
 -- statement puts, which may be no instruction or all of them.
 pub data IsBeginning (files : Files) (number : ℕ) (c : ClassTree) : (before : List Held) → List JOp → Type 0 where
   begins : {fields : List Held} {ops : List JOp} (more : List JOp) (contents : Contents) → Makes (ops ++ more) contents → IsBeginning files number c fields ops
-  ends : {fields : List Held} → IsBeginning files number c fields (jop.Return return ∷ [])
+  ends : {fields : List Held} → IsBeginning files number c fields (jop.Return jvm.return ∷ [])
   puts : {fields : List Held} {made ops : List JOp} (contents : Contents) (id : MemberId) (k : ℕ) → Makes made contents → place_for files number c fields contents id ≡ Some k
       → IsBeginning files number c (slice_set fields k (held_by contents)) ops → IsBeginning files number c fields (made ++ (jop.Static true id ∷ ops))
 

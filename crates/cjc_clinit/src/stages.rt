@@ -7,12 +7,8 @@ ghost use Rattle.cjc_clinit.specs.Working.Reading.{after_newarray, after_null, a
 use crate::fields::{array_desc, fits, fits_kind, is_reference, number_kind};
 use crate::stage::{Held, Stage};
 use cjc_bytes::{Kind, NoMemory, Row};
-use cjc_code::JOp;
+use cjc_code::{JOp, jvm};
 use std::alloc::Global;
-
-const DUP: u8 = 0x59;
-
-const RETURN: u8 = 0xB1;
 
 const MOST_ITEMS: u32 = 32_767;
 
@@ -34,9 +30,9 @@ fn store(kind: Kind) -> u8
     ensures { result ≡ store kind }
 {
     match kind {
-        Kind::Short => 0x56,
-        Kind::Int => 0x4F,
-        _ => 0x54,
+        Kind::Short => jvm::SASTORE,
+        Kind::Int => jvm::IASTORE,
+        _ => jvm::BASTORE,
     }
 }
 
@@ -117,7 +113,7 @@ fn after_return(stage: Stage, opcode: u8) -> Option<Stage>
 {
     match stage {
         Stage::Free => {
-            if opcode == RETURN {
+            if opcode == jvm::RETURN {
                 Some(Stage::Ended)
             } else {
                 None
@@ -132,7 +128,7 @@ fn copied(opcode: u8, kind: Kind, items: Row<i32>) -> Option<Stage>
     ensures { result ≡ after_stack opcode (Stage.Array kind items) }
 {
     let count = items.items().len();
-    if opcode == DUP && count > 0 {
+    if opcode == jvm::DUP && count > 0 {
         Some(Stage::Copied(kind, items))
     } else {
         None

@@ -21,7 +21,8 @@ use Rattle.cjc_by_name.specs.Linked.{Linked, Method}
 use Rattle.cjc_clinit.specs.declared.stage.Held.{Held}
 use Rattle.cjc_clinit.specs.Fields.{Contents, array_desc, fits_kind, held_by, is_reference, number_kind, takes}
 use Rattle.cjc_clinit.specs.Image.{field_id, own_field}
-use Rattle.cjc_clinit.specs.Initialiser.{return, open_place, Initialises, Makes, Put}
+use Rattle.cjc_code.specs.Jvm.{return}
+use Rattle.cjc_clinit.specs.Initialiser.{open_place, Initialises, Makes, Put}
 use Rattle.cjc_clinit.specs.Initialiser.Initialises.{ends, puts}
 use Rattle.cjc_clinit.specs.Initialiser.Makes.{of_number, of_null, of_array}
 use Rattle.cjc_clinit_laws.specs.Statements.{HaveRoomFor, Reaches, ops_from, store_with, value_by}

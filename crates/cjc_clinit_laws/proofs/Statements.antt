@@ -24,7 +24,8 @@ use Rattle.cjc_by_name.specs.Linked.{Linked, Method, Static}
 use Rattle.cjc_by_name.specs.OnePackage.{static_array, array_desc}
 use Rattle.cjc_clinit.specs.Fields.{Contents, fits, lies_in}
 use Rattle.cjc_clinit.specs.Image.{array_in}
-use Rattle.cjc_clinit.specs.Initialiser.{dup, element_kind, store, ops_of, Stores, Makes}
+use Rattle.cjc_code.specs.Jvm.{dup}
+use Rattle.cjc_clinit.specs.Initialiser.{element_kind, store, ops_of, Stores, Makes}
 use Rattle.cjc_clinit.specs.Initialiser.Stores.{none, one}
 use Rattle.cjc_clinit.specs.Initialiser.Makes.{of_number, of_null, of_array}
 use Rattle.cjc_clinit_laws.specs.Statements.{HaveRoomFor, Reaches, ops_from, store_with, value_by}

@@ -1,3 +1,4 @@
+pub mod Jvm
 pub mod Table
 pub mod Instruction
 pub mod Cut

@@ -6,6 +6,7 @@ mod cutting;
 mod decoding;
 mod insn;
 mod items;
+pub mod jvm;
 mod laws;
 mod method_code;
 mod named;

@@ -5,11 +5,12 @@ use Rattle.cjc_ncode.specs.declared.narrow.NInsn.{NInsn}
 use Rattle.cjc_ncode.specs.declared.narrow.NInsn.TheVariants as insns
 use Rattle.cjc_layout.specs.Sizes.{AllLead}
 use Rattle.cjc_components.specs.Package.{LaidMethod}
+use Rattle.cjc_capread.specs.Card as card
 
 -- what stands behind it is not run after it: a goto, a switch, a return or athrow
 abbrev pub ends : NInsn → Bool
 ends (insns.Op op) = ends_code op
-ends (insns.Jump op target) = op == 0x70
+ends (insns.Jump op target) = op == card.goto
 ends (insns.Switch op other low cases) = true
 ends _ = false
 

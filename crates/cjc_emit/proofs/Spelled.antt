@@ -14,7 +14,8 @@ use Rattle.cjc_ncode.specs.declared.narrow.NInsn.TheVariants as insns
 use Rattle.cjc_ncode.specs.declared.narrow.PoolKey.{PoolKey}
 use Rattle.cjc_ncode.specs.declared.narrow.PoolKey.TheVariants as keys
 use Rattle.cjc_lower.specs.Naming.{Naming}
-use Rattle.cjc_lower.specs.Laid.{distance, invokeinterface, laid, matches, newarray, offsets, switch_as, untabled, wide_jump}
+use Rattle.cjc_capread.specs.Card.{invokeinterface, newarray}
+use Rattle.cjc_lower.specs.Laid.{distance, laid, matches, offsets, switch_as, untabled, wide_jump}
 use Rattle.cjc_lower.specs.Placed.{bytes_by, bytes_of, IsSpellable}
 use Rattle.cjc_layout.specs.Forms.{HasForm, bare, push, local, increase, words, jump, range, lookup, named, by_interface, new_array, casts, asks}
 use Rattle.cjc_layout.proofs.Opcodes.{lookup_opcode}

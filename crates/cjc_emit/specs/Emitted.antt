@@ -10,7 +10,8 @@ use Rattle.cjc_ncode.specs.declared.narrow.PoolKey.{PoolKey}
 use Rattle.cjc_ncode.specs.declared.narrow.PoolKey.TheVariants as keys
 use Rattle.cjc_ncode.specs.PoolOrder.{same_key}
 use Rattle.cjc_lower.specs.Naming.{Naming}
-use Rattle.cjc_lower.specs.Laid.{invokeinterface, laid}
+use Rattle.cjc_capread.specs.Card.{invokeinterface}
+use Rattle.cjc_lower.specs.Laid.{laid}
 use Rattle.cjc_lower.specs.Placed.{IsSpellable, Placed, extended_header, insn_size, method_bytes, offset_of, short_header}
 use Rattle.cjc_layout.specs.Forms.{HasForm}
 use Rattle.cjc_emit.specs.declared.emitted.MethodBytes.{MethodBytes}

@@ -4,6 +4,7 @@ use Rattle.std.specs.Int.{w32, cast_unsigned}
 use Rattle.cjc_bytes.specs.declared.fault.MemberId.{MemberId}
 use Rattle.cjc_capread.specs.declared.opcode.OpInfo.{OpInfo}
 use Rattle.cjc_capread.specs.Opcodes.{op_info}
+use Rattle.cjc_capread.specs.Card as card
 use Rattle.cjc_ncode.specs.declared.narrow.NCase.{NCase}
 use Rattle.cjc_ncode.specs.declared.narrow.NInsn.{NInsn}
 use Rattle.cjc_ncode.specs.declared.narrow.NInsn.TheVariants as insns
@@ -79,8 +80,8 @@ module _ (to : ℕ → ℕ) (at : ℕ) where
   -- what stands behind the default, by the opcode
   unfoldable pub table_bytes : (op : ℕ) → (low : ℤ) → List NCase → List ℕ
   table_bytes op low cases =
-      if op == 0x73 then range_bytes 2 low cases else (if op == 0x74 then range_bytes 4 low cases
-      else (if op == 0x75 then lookup_bytes 2 cases else lookup_bytes 4 cases))
+      if op == card.stableswitch then range_bytes 2 low cases else (if op == card.itableswitch then range_bytes 4 low cases
+      else (if op == card.slookupswitch then lookup_bytes 2 cases else lookup_bytes 4 cases))
 
   -- a switch: its opcode, the distance to the default's target, and what stands behind that
   abbrev pub switch_bytes : (op other : ℕ) → (low : ℤ) → List NCase → List ℕ
@@ -100,7 +101,7 @@ class_in ks (Some c) = index_in ks (keys.Class c)
 module _ (ks : List PoolKey) (token_of : MemberId → Option ℕ) where
   -- a call of an interface's method
   abbrev pub call_bytes : (nargs : ℕ) → MemberId → List ℕ
-  call_bytes nargs m = 0x8E ∷ nargs ∷ (low_bytes 2 (index_in ks (keys.Class m.class)) ++ known (token_of m) ∷ [])
+  call_bytes nargs m = card.invokeinterface ∷ nargs ∷ (low_bytes 2 (index_in ks (keys.Class m.class)) ++ known (token_of m) ∷ [])
 
   module _ (to : ℕ → ℕ) where
     -- the bytes of an instruction at this offset, where its jump is wide or not
@@ -114,7 +115,7 @@ module _ (ks : List PoolKey) (token_of : MemberId → Option ℕ) where
     written at wide (insns.Switch op other low cases) = switch_bytes to at op other low cases
     written at wide (insns.Named op key) = with_one op (index_in ks key)
     written at wide (insns.Interface nargs m) = call_bytes nargs m
-    written at wide (insns.NewArray kind) = 0x90 ∷ kind ∷ []
+    written at wide (insns.NewArray kind) = card.newarray ∷ kind ∷ []
     written at wide (insns.TypeTest op kind class) = with_two op kind (class_in ks class)
 
     -- instructions from the k-th on, at these places

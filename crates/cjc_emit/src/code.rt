@@ -9,6 +9,7 @@ use crate::operands::{jump_opcode, put_with_one, put_with_two};
 use crate::pool::PoolLookup;
 use crate::switches::{label_at, put_switch};
 use cjc_bytes::{Bytes, MemberId, NoMemory};
+use cjc_capread::card;
 use cjc_ncode::NInsn;
 
 fn known_index(found: Option<u16>) -> u32
@@ -48,7 +49,7 @@ fn put_call<P: PoolLookup>(
 ) -> Result<(), NoMemory>
     ensures { OnOk result (out.new ≡ out.old ++ call_bytes (P.pool_keys pool.now) (P.method_token pool.now) nargs method.now) }
 {
-    out.push(0x8E)?;
+    out.push(card::INVOKEINTERFACE)?;
     out.push(nargs)?;
     put_low(out, 2, known_index(pool.class_index(method.class.items())))?;
     out.push(known_token(pool.interface_token(method)))?;
@@ -91,7 +92,7 @@ fn put<P: PoolLookup>(
         NInsn::Named { op, key } => put_with_one(out, *op, known_index(pool.index(key))),
         NInsn::Interface { nargs, method } => put_call(out, pool, *nargs, method),
         NInsn::NewArray(kind) => {
-            out.push(0x90)?;
+            out.push(card::NEWARRAY)?;
             out.push(*kind)?;
             Ok(())
         }

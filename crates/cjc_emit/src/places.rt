@@ -6,7 +6,7 @@ ghost use Rattle.cjc_emit.specs.Emitted.{index_place, insn_places};
 ghost use Rattle.cjc_emit.specs.Working.{all_marked};
 
 use cjc_bytes::{NoMemory, Row};
-use cjc_capread::{OpInfo, op};
+use cjc_capread::{OpInfo, card, op};
 use cjc_ncode::NInsn;
 
 /// Puts the place of the index of an instruction into that of its two lists that its width has.
@@ -38,7 +38,7 @@ fn mark(ones: &mut Row<u32>, twos: &mut Row<u32>, at: u32, insn: &NInsn) -> Resu
 {
     match insn {
         NInsn::Named { op: opcode, .. } => mark_index(ones, twos, at, op(*opcode)),
-        NInsn::Interface { .. } => mark_index(ones, twos, at, op(0x8E)),
+        NInsn::Interface { .. } => mark_index(ones, twos, at, op(card::INVOKEINTERFACE)),
         NInsn::TypeTest {
             op: opcode,
             class: Some(_),

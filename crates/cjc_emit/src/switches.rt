@@ -7,6 +7,7 @@ ghost use Rattle.cjc_emit.specs.Working.{bits, low_bytes, label_at, lookup_bytes
 
 use crate::numbers::{distance_bits, last_bits, put_low};
 use cjc_bytes::{Bytes, NoMemory};
+use cjc_capread::card;
 use cjc_ncode::NCase;
 
 /// The offset of a label in bytes from the first instruction, or the end.
@@ -125,9 +126,9 @@ fn put_table(
     ensures { OnOk result (out.new ≡ out.old ++ table_bytes (label_at places.now end) at op low cases.now) }
 {
     match op {
-        0x73 => put_range(out, places, end, at, 2, low, cases),
-        0x74 => put_range(out, places, end, at, 4, low, cases),
-        0x75 => put_lookup(out, places, end, at, 2, cases),
+        card::STABLESWITCH => put_range(out, places, end, at, 2, low, cases),
+        card::ITABLESWITCH => put_range(out, places, end, at, 4, low, cases),
+        card::SLOOKUPSWITCH => put_lookup(out, places, end, at, 2, cases),
         _ => put_lookup(out, places, end, at, 4, cases),
     }
 }

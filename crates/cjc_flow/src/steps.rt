@@ -14,7 +14,7 @@ use crate::intervals::{Intervals, full_interval};
 use crate::state::{self, Ranges};
 use crate::values;
 use cjc_bytes::{MemberId, NoMemory, Row};
-use cjc_code::JOp;
+use cjc_code::{JOp, jvm};
 use cjc_range::Interval;
 use cjc_types::insns;
 use std::alloc::Global;
@@ -49,16 +49,16 @@ fn calculated(opcode: u8, x: Interval, y: Interval) -> Interval
     ensures { result ≡ two_operands opcode x y }
 {
     match opcode {
-        0x60 => x.add(y),
-        0x64 => x.sub(y),
-        0x68 => x.mul(y),
-        0x6C => x.div(y),
-        0x70 => x.rem(y),
-        0x78 => x.shl(y),
-        0x7A => x.shr(y),
-        0x7C => x.ushr(y),
-        0x7E => and(x, y),
-        0x80 | 0x82 => or(x, y),
+        jvm::IADD => x.add(y),
+        jvm::ISUB => x.sub(y),
+        jvm::IMUL => x.mul(y),
+        jvm::IDIV => x.div(y),
+        jvm::IREM => x.rem(y),
+        jvm::ISHL => x.shl(y),
+        jvm::ISHR => x.shr(y),
+        jvm::IUSHR => x.ushr(y),
+        jvm::IAND => and(x, y),
+        jvm::IOR | jvm::IXOR => or(x, y),
         _ => full_interval(),
     }
 }
@@ -66,7 +66,7 @@ fn calculated(opcode: u8, x: Interval, y: Interval) -> Interval
 fn arithmetic(opcode: u8, stack: &Intervals) -> Interval
     ensures { result ≡ arithmetic_by opcode stack.now }
 {
-    if opcode == 0x74 {
+    if opcode == jvm::INEG {
         stack.get(0).neg()
     } else {
         calculated(opcode, stack.get(1), stack.get(0))
@@ -77,7 +77,7 @@ fn arithmetic(opcode: u8, stack: &Intervals) -> Interval
 fn narrowed(opcode: u8, x: Interval) -> Interval
     ensures { result ≡ narrowed_by opcode x }
 {
-    if opcode == 0x91 {
+    if opcode == jvm::I2B {
         x.to_byte()
     } else {
         x.to_short()

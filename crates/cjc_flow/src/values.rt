@@ -8,6 +8,7 @@ ghost use Rattle.cjc_types.specs.Types.{is_void as is_void_kind, parts};
 
 use crate::intervals::full_interval;
 use cjc_bytes::{Bytes, Kind, NoMemory, Row};
+use cjc_code::jvm;
 use cjc_range::Interval;
 use cjc_types::{Cell, parsed};
 use std::alloc::Global;
@@ -146,8 +147,8 @@ pub(crate) fn element(opcode: u8, array: &Cell) -> Interval
     ensures { result ≡ element_range opcode array.now }
 {
     match opcode {
-        0x33 => byte_element(array),
-        0x35 => short(),
+        jvm::BALOAD => byte_element(array),
+        jvm::SALOAD => short(),
         _ => full_interval(),
     }
 }

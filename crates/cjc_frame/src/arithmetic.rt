@@ -1,6 +1,7 @@
 //! Arithmetic, shifts and logic on int, i2b and i2s (Java Virtual Machine Specification, 6.5).
 
 ghost use Rattle.std.specs.Prelude.{◌≡◌, ◌<◌, length, IfOk};
+ghost use Rattle.cjc_code.specs.Jvm as jvm;
 ghost use Rattle.cjc_by_name.specs.Arithmetic.{operation};
 ghost use Rattle.cjc_by_name.specs.Effects.{after_operation, after_arithmetic, after_narrowing};
 ghost use Rattle.cjc_frame.specs.Deeds.{Follows};
@@ -10,6 +11,7 @@ use crate::calculation::{Calculation, calculate};
 use crate::deed::{Deed, Exception};
 use crate::number::{byte_of, negation_of, short_of};
 use cjc_bytes::NoMemory;
+use cjc_code::jvm;
 use cjc_script::Value;
 
 impl<'a> Activation<'a> {
@@ -34,7 +36,7 @@ impl<'a> Activation<'a> {
     // ineg.
     fn negate(&mut self) -> Result<Deed<'a>, NoMemory>
         requires { self.old.at < length self.old.method.insns }
-        ensures { IfOk result (λ deed. Follows (λ l m at locals store. after_arithmetic l m at locals store 0x74) deed self.old self.new) }
+        ensures { IfOk result (λ deed. Follows (λ l m at locals store. after_arithmetic l m at locals store jvm.ineg) deed self.old self.new) }
     {
         match self.number() {
             Some(x) => {
@@ -50,7 +52,7 @@ impl<'a> Activation<'a> {
         requires { self.old.at < length self.old.method.insns }
         ensures { IfOk result (λ deed. Follows (λ l m at locals store. after_arithmetic l m at locals store op) deed self.old self.new) }
     {
-        if op == 0x74 {
+        if op == jvm::INEG {
             return Ok(self.negate()?);
         }
         Ok(self.operate(op)?)
@@ -62,11 +64,11 @@ impl<'a> Activation<'a> {
         ensures { IfOk result (λ deed. Follows (λ l m at locals store. after_narrowing l m at locals store op) deed self.old self.new) }
     {
         match (op, self.number()) {
-            (0x91, Some(x)) => {
+            (jvm::I2B, Some(x)) => {
                 self.put(1, Value::Num(byte_of(x)))?;
                 Ok(Deed::Go)
             }
-            (0x93, Some(x)) => {
+            (jvm::I2S, Some(x)) => {
                 self.put(1, Value::Num(short_of(x)))?;
                 Ok(Deed::Go)
             }

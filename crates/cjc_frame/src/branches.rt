@@ -8,7 +8,7 @@ ghost use Rattle.cjc_frame.specs.Deeds.{Follows};
 use crate::activation::{Activation, is_kind};
 use crate::deed::Deed;
 use crate::number::relation;
-use cjc_code::JCase;
+use cjc_code::{JCase, jvm};
 use cjc_script::Value;
 
 /// Whether two references are the same.
@@ -135,12 +135,12 @@ impl<'a> Activation<'a> {
         ensures { Follows (λ l m at locals store. after_branch l m at locals store (condition op) target) result self.old self.new }
     {
         match op {
-            0x99..=0x9E => self.branch_on_number(op - 0x99, target),
-            0x9F..=0xA4 => self.branch_on_numbers(op - 0x9F, target),
-            0xA5 => self.branch_on_references(true, target),
-            0xA6 => self.branch_on_references(false, target),
-            0xC6 => self.branch_on_null(true, target),
-            0xC7 => self.branch_on_null(false, target),
+            jvm::IFEQ..=jvm::IFLE => self.branch_on_number(op - jvm::IFEQ, target),
+            jvm::IF_ICMPEQ..=jvm::IF_ICMPLE => self.branch_on_numbers(op - jvm::IF_ICMPEQ, target),
+            jvm::IF_ACMPEQ => self.branch_on_references(true, target),
+            jvm::IF_ACMPNE => self.branch_on_references(false, target),
+            jvm::IFNULL => self.branch_on_null(true, target),
+            jvm::IFNONNULL => self.branch_on_null(false, target),
             _ => Deed::Stick,
         }
     }

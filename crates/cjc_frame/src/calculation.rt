@@ -8,6 +8,7 @@ use crate::number::{
     and_of, difference_of, left_shift_of, or_of, product_of, quotient_of, remainder_of,
     right_shift_of, sum_of, unsigned_shift_of, xor_of,
 };
+use cjc_code::jvm;
 
 /// What an instruction of two numbers gives of them.
 #[derive(Clone, Copy)]
@@ -24,19 +25,19 @@ pub fn calculate(op: u8, x: i32, y: i32) -> Calculation
     ensures { result ≡ calculation (operation op) x y }
 {
     match op {
-        0x60 => Calculation::Number(sum_of(x, y)),
-        0x64 => Calculation::Number(difference_of(x, y)),
-        0x68 => Calculation::Number(product_of(x, y)),
-        0x6C if y == 0 => Calculation::ByZero,
-        0x6C => Calculation::Number(quotient_of(x, y)),
-        0x70 if y == 0 => Calculation::ByZero,
-        0x70 => Calculation::Number(remainder_of(x, y)),
-        0x78 => Calculation::Number(left_shift_of(x, y)),
-        0x7A => Calculation::Number(right_shift_of(x, y)),
-        0x7C => Calculation::Number(unsigned_shift_of(x, y)),
-        0x7E => Calculation::Number(and_of(x, y)),
-        0x80 => Calculation::Number(or_of(x, y)),
-        0x82 => Calculation::Number(xor_of(x, y)),
+        jvm::IADD => Calculation::Number(sum_of(x, y)),
+        jvm::ISUB => Calculation::Number(difference_of(x, y)),
+        jvm::IMUL => Calculation::Number(product_of(x, y)),
+        jvm::IDIV if y == 0 => Calculation::ByZero,
+        jvm::IDIV => Calculation::Number(quotient_of(x, y)),
+        jvm::IREM if y == 0 => Calculation::ByZero,
+        jvm::IREM => Calculation::Number(remainder_of(x, y)),
+        jvm::ISHL => Calculation::Number(left_shift_of(x, y)),
+        jvm::ISHR => Calculation::Number(right_shift_of(x, y)),
+        jvm::IUSHR => Calculation::Number(unsigned_shift_of(x, y)),
+        jvm::IAND => Calculation::Number(and_of(x, y)),
+        jvm::IOR => Calculation::Number(or_of(x, y)),
+        jvm::IXOR => Calculation::Number(xor_of(x, y)),
         _ => Calculation::Nothing,
     }
 }

@@ -1,17 +1,19 @@
 //! ireturn, areturn, return and athrow (Java Virtual Machine Specification, 6.5).
 
 ghost use Rattle.std.specs.Prelude.{◌≡◌};
+ghost use Rattle.cjc_code.specs.Jvm as jvm;
 ghost use Rattle.cjc_by_name.specs.Effects.{one_value, at_return, on_throw};
 ghost use Rattle.cjc_frame.specs.Deeds.{Follows};
 
 use crate::activation::{Activation, is_kind};
 use crate::deed::{Deed, Exception};
+use cjc_code::jvm;
 use cjc_script::Value;
 
 impl<'a> Activation<'a> {
     // A reference is returned.
     fn leave_with_reference(&self) -> Deed<'a>
-        ensures { Follows (λ l m at locals store. at_return l m at locals store 0xB0) result self.now self.now }
+        ensures { Follows (λ l m at locals store. at_return l m at locals store jvm.areturn) result self.now self.now }
     {
         match self.value() {
             Some(value) if is_kind(true, value) => Deed::Leave(Some(value)),
@@ -25,12 +27,12 @@ impl<'a> Activation<'a> {
         ensures { Follows (λ l m at locals store. at_return l m at locals store op) result self.now self.now }
     {
         match op {
-            0xAC => match self.number() {
+            jvm::IRETURN => match self.number() {
                 Some(x) => Deed::Leave(Some(Value::Num(x))),
                 None => Deed::Stick,
             },
-            0xB0 => self.leave_with_reference(),
-            0xB1 => Deed::Leave(None),
+            jvm::ARETURN => self.leave_with_reference(),
+            jvm::RETURN => Deed::Leave(None),
             _ => Deed::Stick,
         }
     }

@@ -7,6 +7,7 @@ ghost use Rattle.cjc_frame.specs.Deeds.{Follows};
 use crate::activation::Activation;
 use crate::deed::Deed;
 use cjc_bytes::NoMemory;
+use cjc_code::jvm;
 use cjc_script::Value;
 
 impl<'a> Activation<'a> {
@@ -91,15 +92,15 @@ impl<'a> Activation<'a> {
         ensures { IfOk result (λ deed. Follows (λ l m at locals store. after_stack l m at locals store op) deed self.old self.new) }
     {
         match op {
-            0x57 => Ok(self.pop(1)),
-            0x58 => Ok(self.pop(2)),
-            0x59 => self.copy_one(1),
-            0x5A => self.copy_one(2),
-            0x5B => self.copy_one(3),
-            0x5C => self.copy_two(2),
-            0x5D => self.copy_two(3),
-            0x5E => self.copy_two(4),
-            0x5F => self.swap(),
+            jvm::POP => Ok(self.pop(1)),
+            jvm::POP2 => Ok(self.pop(2)),
+            jvm::DUP => self.copy_one(1),
+            jvm::DUP_X1 => self.copy_one(2),
+            jvm::DUP_X2 => self.copy_one(3),
+            jvm::DUP2 => self.copy_two(2),
+            jvm::DUP2_X1 => self.copy_two(3),
+            jvm::DUP2_X2 => self.copy_two(4),
+            jvm::SWAP => self.swap(),
             _ => Ok(Deed::Stick),
         }
     }

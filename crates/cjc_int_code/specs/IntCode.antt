@@ -7,6 +7,7 @@ use Rattle.cjc_classfile.specs.Code.{CodeTree}
 use Rattle.cjc_code.specs.declared.insn.JInsn.{JInsn}
 use Rattle.cjc_code.specs.declared.insn.JOp.{JOp}
 use Rattle.cjc_code.specs.declared.insn.JOp.TheVariants as jop
+use Rattle.cjc_code.specs.Jvm as jvm
 use Rattle.cjc_script.specs.Sorts.{Sort, Boolean, Byte, Short, Int, Reference, Signature, field_sort, signature_of, shape_named}
 use Rattle.cjc_bytecode.specs.Arguments.{widths}
 use Rattle.cjc_ncode.specs.declared.narrow.NCase.{NCase}
@@ -15,6 +16,7 @@ use Rattle.cjc_ncode.specs.declared.narrow.NInsn.TheVariants.{Op, Push, Inc, Wor
 use Rattle.cjc_ncode.specs.declared.narrow.NMethod.{NMethod}
 use Rattle.cjc_ncode.specs.declared.narrow.PoolKey.TheVariants as keys
 use Rattle.cjc_ncode.specs.Written.{Resolution, local, is_byte, arithmetic, condition, leaving, pair_case, static_access, field_access, call_by, element_number, type_test, catches_at}
+use Rattle.cjc_capread.specs.Card as card
 
 -- what the least tables say of the frame before an instruction
 pub record Before : Type 0 where
@@ -59,26 +61,26 @@ is_short _ = false
 
 -- s2i behind a value of such a type, i2s before it is stored or handed over
 abbrev pub widened : Sort → List NInsn
-widened sort = if is_short sort then Op 0x5C ∷ [] else []
+widened sort = if is_short sort then Op card.s2i ∷ [] else []
 
 -- i2s in front of a store or a hand-over of a value of such a type
 abbrev pub narrowed : Sort → List NInsn
-narrowed sort = if is_short sort then Op 0x5E ∷ [] else []
+narrowed sort = if is_short sort then Op card.i2s ∷ [] else []
 
 -- iconst_m1 to iconst_5, else bipush, else sipush, else iipush
 abbrev pub pushed : ℤ → NInsn
-pushed (pos n) = if nat_le n 5 then Op (0x0A + n) else (if nat_le n 127 then Push 0x12 (pos n) else (if nat_le n 32767 then Push 0x13 (pos n) else Push 0x14 (pos n)))
-pushed (negsuc n) = if n == 0 then Op 0x09 else (if nat_le n 127 then Push 0x12 (negsuc n) else (if nat_le n 32767 then Push 0x13 (negsuc n) else Push 0x14 (negsuc n)))
+pushed (pos n) = if nat_le n 5 then Op (card.iconst_0 + n) else (if nat_le n 127 then Push card.bipush (pos n) else (if nat_le n 32767 then Push card.sipush (pos n) else Push card.iipush (pos n)))
+pushed (negsuc n) = if n == 0 then Op card.iconst_m1 else (if nat_le n 127 then Push card.bipush (negsuc n) else (if nat_le n 32767 then Push card.sipush (negsuc n) else Push card.iipush (negsuc n)))
 
 -- iload, aload, istore and astore of a word and, of a number, the one behind it
 abbrev pub loads : (reference : Bool) → (word : ℕ) → List NInsn
-loads false n = local 0x20 0x17 n
-loads true n = local 0x18 0x15 n
+loads false n = local card.iload_0 card.iload n
+loads true n = local card.aload_0 card.aload n
 
 -- istore or astore of the word; an istore takes the word behind it too
 abbrev pub stores : (reference : Bool) → (word : ℕ) → List NInsn
-stores false n = local 0x33 0x2A n
-stores true n = local 0x2B 0x28 n
+stores false n = local card.istore_0 card.istore n
+stores true n = local card.astore_0 card.astore n
 
 -- a type whose values are references
 abbrev pub is_reference : Sort → Bool
@@ -90,7 +92,7 @@ is_reference _ = false
 -- an argument that begins at a word goes to a local
 abbrev pub moved : Frame → Sort → (word l : ℕ) → List NInsn
 moved f sort word l =
-    (if is_short sort then local 0x1C 0x16 word else loads (is_reference sort) word) ++ widened sort ++ stores (is_reference sort) (first_word f l)
+    (if is_short sort then local card.sload_0 card.sload word else loads (is_reference sort) word) ++ widened sort ++ stores (is_reference sort) (first_word f l)
 
 -- those from a word and a local on
 abbrev pub moved_from : Frame → (word l : ℕ) → List Sort → List NInsn
@@ -106,26 +108,26 @@ prologue f = moved_from f 0 0 f.params
 -- An index of two words becomes one. One that may lie outside 16 bits becomes -1 where it does: dup2 dup2 i2s s2i icmp ifeq, over pop2
 -- and iconst_m1, to i2s. `here` is the place of the first.
 abbrev pub guard : (inside : Bool) → (here : ℕ) → List NInsn
-guard true here = Op 0x5E ∷ []
-guard false here = Op 0x3E ∷ Op 0x3E ∷ Op 0x5E ∷ Op 0x5C ∷ Op 0x5F ∷ Jump 0x60 (here + 8) ∷ Op 0x3C ∷ Op 0x09 ∷ Op 0x5E ∷ []
+guard true here = Op card.i2s ∷ []
+guard false here = Op card.dup2 ∷ Op card.dup2 ∷ Op card.i2s ∷ Op card.s2i ∷ Op card.icmp ∷ Jump card.ifeq (here + 8) ∷ Op card.pop2 ∷ Op card.iconst_m1 ∷ Op card.i2s ∷ []
 
 -- iaload, aaload, baload, saload
 abbrev pub element_read : (op : ℕ) → List NInsn
-element_read op = if op == 0x2E then Op 0x27 ∷ [] else (if op == 0x32 then Op 0x24 ∷ [] else (if op == 0x33 then Op 0x25 ∷ Op 0x5C ∷ [] else Op 0x26 ∷ Op 0x5C ∷ []))
+element_read op = if op == jvm.iaload then Op card.iaload ∷ [] else (if op == jvm.aaload then Op card.aaload ∷ [] else (if op == jvm.baload then Op card.baload ∷ Op card.s2i ∷ [] else Op card.saload ∷ Op card.s2i ∷ []))
 
 -- the value goes below the index, which becomes one word, and above it again
 abbrev pub index_of_one : (inside : Bool) → (here : ℕ) → List NInsn
-index_of_one inside here = Words 0x40 1 2 ∷ (guard inside (here + 1) ++ Words 0x40 1 1 ∷ [])
+index_of_one inside here = Words card.swap_x 1 2 ∷ (guard inside (here + 1) ++ Words card.swap_x 1 1 ∷ [])
 
 -- the same with a value of two words
 abbrev pub index_of_two : (inside : Bool) → (here : ℕ) → List NInsn
-index_of_two inside here = Words 0x40 2 2 ∷ (guard inside (here + 1) ++ Words 0x40 1 2 ∷ [])
+index_of_two inside here = Words card.swap_x 2 2 ∷ (guard inside (here + 1) ++ Words card.swap_x 1 2 ∷ [])
 
 -- iastore, aastore, bastore, sastore
 abbrev pub element_written : (op : ℕ) → (inside : Bool) → (here : ℕ) → List NInsn
 element_written op inside here =
-    if op == 0x4F then index_of_two inside here ++ Op 0x3A ∷ [] else (if op == 0x53 then index_of_one inside here ++ Op 0x37 ∷ []
-    else Op 0x5E ∷ (index_of_one inside (here + 1) ++ Op (if op == 0x54 then 0x38 else 0x39) ∷ []))
+    if op == jvm.iastore then index_of_two inside here ++ Op card.iastore ∷ [] else (if op == jvm.aastore then index_of_one inside here ++ Op card.aastore ∷ []
+    else Op card.i2s ∷ (index_of_one inside (here + 1) ++ Op (if op == jvm.bastore then card.bastore else card.sastore) ∷ []))
 
 -- ---- the stack
 
@@ -135,27 +137,27 @@ words n references = sum_by (λ (r : Bool). if r then 1 else 2) (take n referenc
 
 -- pop of a reference, pop2 of a number
 abbrev pub dropped : Bool → NInsn
-dropped reference = Op (if reference then 0x3B else 0x3C)
+dropped reference = Op (if reference then card.pop else card.pop2)
 
 -- dup, dup2, or dup_x of more words
 abbrev pub copied : (words : ℕ) → NInsn
-copied w = if w == 1 then Op 0x3D else (if w == 2 then Op 0x3E else Words 0x3F w 0)
+copied w = if w == 1 then Op card.dup else (if w == 2 then Op card.dup2 else Words card.dup_x w 0)
 
 -- pop, pop2, dup, dup2; dup_x1, dup_x2, dup2_x1, dup2_x2, swap
 abbrev pub on_stack : (op : ℕ) → List Bool → List NInsn
 on_stack op references =
-    if op == 0x57 then map dropped (take 1 references) else (if op == 0x58 then map dropped (take 2 references)
-    else (if op == 0x59 then copied (words 1 references) ∷ [] else (if op == 0x5C then copied (words 2 references) ∷ []
-    else (if op == 0x5A then Words 0x3F (words 1 references) (words 2 references) ∷ [] else (if op == 0x5B then Words 0x3F (words 1 references) (words 3 references) ∷ []
-    else (if op == 0x5D then Words 0x3F (words 2 references) (words 3 references) ∷ [] else (if op == 0x5E then Words 0x3F (words 2 references) (words 4 references) ∷ []
-    else Words 0x40 (words 1 references) (words 2 references - words 1 references) ∷ [])))))))
+    if op == jvm.pop then map dropped (take 1 references) else (if op == jvm.pop2 then map dropped (take 2 references)
+    else (if op == jvm.dup then copied (words 1 references) ∷ [] else (if op == jvm.dup2 then copied (words 2 references) ∷ []
+    else (if op == jvm.dup_x1 then Words card.dup_x (words 1 references) (words 2 references) ∷ [] else (if op == jvm.dup_x2 then Words card.dup_x (words 1 references) (words 3 references) ∷ []
+    else (if op == jvm.dup2_x1 then Words card.dup_x (words 2 references) (words 3 references) ∷ [] else (if op == jvm.dup2_x2 then Words card.dup_x (words 2 references) (words 4 references) ∷ []
+    else Words card.swap_x (words 1 references) (words 2 references - words 1 references) ∷ [])))))))
 
 -- ---- jumps and switches
 
 -- ifeq to ifle compare with iconst_0, if_icmpeq to if_icmple both numbers; the others see references
 abbrev pub jumped : (op target : ℕ) → List NInsn
 jumped op target =
-    if nat_le op 0x9E then Op 0x0A ∷ Op 0x5F ∷ Jump (0x60 + (op - 0x99)) target ∷ [] else (if nat_le op 0xA4 then Op 0x5F ∷ Jump (0x60 + (op - 0x9F)) target ∷ []
+    if nat_le op jvm.ifle then Op card.iconst_0 ∷ Op card.icmp ∷ Jump (card.ifeq + (op - jvm.ifeq)) target ∷ [] else (if nat_le op jvm.if_icmple then Op card.icmp ∷ Jump (card.ifeq + (op - jvm.if_icmpeq)) target ∷ []
     else Jump (condition op) target ∷ [])
 
 -- every case of a table, from a low value on
@@ -203,7 +205,7 @@ taken_back f j (sort ∷ sorts) = loads (is_reference sort) (scratch f j) ++ nar
 -- how the parameters of a call are cut: by scratch pairs, by i2s of the last alone, or not at all
 abbrev pub handed_over : Frame → List Sort → List NInsn
 handed_over f params =
-    if is_by_scratch params then put_aside f 0 params ++ taken_back f 0 params else (if list_any is_short params then Op 0x5E ∷ [] else [])
+    if is_by_scratch params then put_aside f 0 params ++ taken_back f 0 params else (if list_any is_short params then Op card.i2s ∷ [] else [])
 
 -- s2i behind a call whose result has one word
 abbrev pub widened_result : Option Sort → List NInsn
@@ -217,15 +219,15 @@ called_with f r op m (Some types) = handed_over f types.params ++ call_by r op m
 
 -- an int, or a value of one word
 abbrev pub returned : Option Sort → List NInsn
-returned (Some Int) = Op 0x79 ∷ []
-returned result = Op 0x5E ∷ Op 0x78 ∷ []
+returned (Some Int) = Op card.ireturn ∷ []
+returned result = Op card.i2s ∷ Op card.sreturn ∷ []
 
 -- ---- an instruction
 
 -- What is written for an instruction, where `place` gives the place of what is written for an offset and `here` is its own.
 abbrev pub written : Frame → Resolution → (place : ℕ → ℕ) → Before → (here : ℕ) → JOp → List NInsn
 written f r place b here jop.Nop = []
-written f r place b here jop.Null = Op 0x01 ∷ []
+written f r place b here jop.Null = Op card.aconst_null ∷ []
 written f r place b here (jop.Number z) = pushed z ∷ []
 written f r place b here (jop.Load refs l) = loads refs (first_word f l)
 written f r place b here (jop.Store refs l) = stores refs (first_word f l)
@@ -233,23 +235,23 @@ written f r place b here (jop.ArrayLoad op) = guard b.is_index_inside here ++ el
 written f r place b here (jop.ArrayStore op) = element_written op b.is_index_inside here
 written f r place b here (jop.Stack op) = on_stack op b.references
 written f r place b here (jop.Arith op) = Op (arithmetic op + 1) ∷ []
-written f r place b here (jop.Inc l by) = Inc (if is_byte by then 0x5A else 0x97) (first_word f l) by ∷ []
-written f r place b here (jop.Narrow op) = Op (if op == 0x91 then 0x5D else 0x5E) ∷ Op 0x5C ∷ []
+written f r place b here (jop.Inc l by) = Inc (if is_byte by then card.iinc else card.iinc_w) (first_word f l) by ∷ []
+written f r place b here (jop.Narrow op) = Op (if op == jvm.i2b then card.i2b else card.i2s) ∷ Op card.s2i ∷ []
 written f r place b here (jop.If op target) = jumped op (place target)
-written f r place b here (jop.Goto target) = Jump 0x70 (place target) ∷ []
-written f r place b here (jop.TableSwitch other low targets) = Switch 0x74 (place other) low (table_cases place low targets) ∷ []
-written f r place b here (jop.LookupSwitch other cases) = Switch 0x76 (place other) (pos 0) (map (pair_case place) cases) ∷ []
-written f r place b here (jop.Return op) = if op == 0xAC then returned f.result else Op (leaving op) ∷ []
+written f r place b here (jop.Goto target) = Jump card.goto (place target) ∷ []
+written f r place b here (jop.TableSwitch other low targets) = Switch card.itableswitch (place other) low (table_cases place low targets) ∷ []
+written f r place b here (jop.LookupSwitch other cases) = Switch card.ilookupswitch (place other) (pos 0) (map (pair_case place) cases) ∷ []
+written f r place b here (jop.Return op) = if op == jvm.ireturn then returned f.result else Op (leaving op) ∷ []
 written f r place b here (jop.Static put field) = if put then static_put r field else static_get r field (r.constant field)
 written f r place b here (jop.Field put field) = if put then field_put r field else field_get r field
 written f r place b here (jop.Call op m) = called_with f r op m (signature_of m.desc)
-written f r place b here (jop.New class) = Named 0x8F (keys.Class class) ∷ []
-written f r place b here (jop.NewArray kind) = Op 0x5E ∷ NewArray (element_number kind) ∷ []
-written f r place b here (jop.ANewArray class) = Op 0x5E ∷ Named 0x91 (keys.Class class) ∷ []
-written f r place b here jop.ArrayLength = Op 0x92 ∷ Op 0x5C ∷ []
-written f r place b here jop.Throw = Op 0x93 ∷ []
-written f r place b here (jop.CheckCast class) = type_test 0x94 (shape_named class)
-written f r place b here (jop.InstanceOf class) = type_test 0x95 (shape_named class) ++ Op 0x5C ∷ []
+written f r place b here (jop.New class) = Named card.new (keys.Class class) ∷ []
+written f r place b here (jop.NewArray kind) = Op card.i2s ∷ NewArray (element_number kind) ∷ []
+written f r place b here (jop.ANewArray class) = Op card.i2s ∷ Named card.anewarray (keys.Class class) ∷ []
+written f r place b here jop.ArrayLength = Op card.arraylength ∷ Op card.s2i ∷ []
+written f r place b here jop.Throw = Op card.athrow ∷ []
+written f r place b here (jop.CheckCast class) = type_test card.checkcast (shape_named class)
+written f r place b here (jop.InstanceOf class) = type_test card.instanceof (shape_named class) ++ Op card.s2i ∷ []
 
 -- ---- a method
 
@@ -306,20 +308,20 @@ widest jop.Null = 1
 widest (jop.Number z) = 5
 widest (jop.Load refs l) = 2
 widest (jop.Store refs l) = 2
-widest (jop.ArrayLoad op) = if op == 0x2E then 12 else (if op == 0x32 then 12 else 13)
-widest (jop.ArrayStore op) = if op == 0x4F then 16 else (if op == 0x53 then 16 else 17)
+widest (jop.ArrayLoad op) = if op == jvm.iaload then 12 else (if op == jvm.aaload then 12 else 13)
+widest (jop.ArrayStore op) = if op == jvm.iastore then 16 else (if op == jvm.aastore then 16 else 17)
 widest (jop.Stack op) = 2
 widest (jop.Arith op) = 1
 widest (jop.Inc l by) = 4
 widest (jop.Narrow op) = 2
-widest (jop.If op target) = if nat_le op 0x9E then 5 else (if nat_le op 0xA4 then 4 else 3)
+widest (jop.If op target) = if nat_le op jvm.ifle then 5 else (if nat_le op jvm.if_icmple then 4 else 3)
 widest (jop.Goto target) = 3
 widest (jop.TableSwitch other low targets) = 11 + 2 * length targets
 widest (jop.LookupSwitch other cases) = 5 + 6 * length cases
-widest (jop.Return op) = if op == 0xAC then 2 else 1
+widest (jop.Return op) = if op == jvm.ireturn then 2 else 1
 widest (jop.Static put f) = 4
 widest (jop.Field put f) = 4
-widest (jop.Call op m) = (if op == 0xB9 then 6 else 4) + 5 * params_by (signature_of m.desc)
+widest (jop.Call op m) = (if op == jvm.invokeinterface then 6 else 4) + 5 * params_by (signature_of m.desc)
 widest (jop.New class) = 3
 widest (jop.NewArray kind) = 4
 widest (jop.ANewArray class) = 4

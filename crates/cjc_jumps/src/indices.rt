@@ -2,6 +2,7 @@
 //! Virtual Machine Specification 2.2.2, chapter 7). It knows the code of methods and the constant pool.
 
 ghost use Rattle.std.specs.Prelude.{◌≡◌, ◌++◌, ◌&&◌, flat_map, IfOk, IfSome, map, OnOk, option_map, slice_get};
+ghost use Rattle.cjc_capread.specs.Card as card;
 ghost use Rattle.cjc_codes.specs.Bodies.{AreBodies, AllAt, IsAt, IsBody, code_of, placed_of};
 ghost use Rattle.cjc_decode.specs.Decoded.{values};
 ghost use Rattle.cjc_jumps.specs.Offsets.{AreNear, IsNear, index_in, index_operand, index_place_in, index_size_in, index_spot, natural, operand_at, optional};
@@ -10,7 +11,7 @@ ghost use Rattle.cjc_sentences.specs.Instructions.{indices, is_entry_for, is_nee
 ghost use Rattle.cjc_sentences.specs.Spots.{first, lies_between};
 
 use cjc_bytes::{NoMemory, Row};
-use cjc_capread::PoolEntry;
+use cjc_capread::{PoolEntry, card};
 use cjc_codes::{At, Body};
 use cjc_decode::{Operands, Shape};
 use cjc_lookup::{earlier, unless};
@@ -62,9 +63,9 @@ fn is_type_of_numbers(operands: Operands) -> bool
 
 /// Whether an instruction is checkcast or instanceof of such an array.
 fn names_no_class(opcode: u8, operands: Operands) -> bool
-    ensures { result ≡ (lies_between 0x94 0x95 opcode && is_type_of_numbers (values operands)) }
+    ensures { result ≡ (lies_between card.checkcast card.instanceof opcode && is_type_of_numbers (values operands)) }
 {
-    (opcode == 0x94 || opcode == 0x95) && is_type_of_numbers(operands)
+    (opcode == card::CHECKCAST || opcode == card::INSTANCEOF) && is_type_of_numbers(operands)
 }
 
 /// The operand that is the index by an instruction's shape.
@@ -189,15 +190,21 @@ fn is_needed_by(entry: &PoolEntry, opcode: u8) -> bool
 {
     match entry {
         PoolEntry::Classref(_) => {
-            opcode == 0x8E || opcode == 0x8F || opcode == 0x91 || opcode == 0x94 || opcode == 0x95
+            opcode == card::INVOKEINTERFACE
+                || opcode == card::NEW
+                || opcode == card::ANEWARRAY
+                || opcode == card::CHECKCAST
+                || opcode == card::INSTANCEOF
         }
         PoolEntry::InstanceFieldref { .. } => {
-            (opcode >= 0x83 && opcode <= 0x8A) || (opcode >= 0xA9 && opcode <= 0xB8)
+            (opcode >= card::GETFIELD_A && opcode <= card::PUTFIELD_I)
+                || (opcode >= card::GETFIELD_A_W && opcode <= card::PUTFIELD_I_THIS)
         }
-        PoolEntry::VirtualMethodref { .. } => opcode == 0x8B,
-        PoolEntry::SuperMethodref { .. } => opcode == 0x8C,
-        PoolEntry::StaticFieldref(_) => opcode >= 0x7B && opcode <= 0x82,
-        PoolEntry::StaticMethodref(_) => opcode == 0x8C || opcode == 0x8D,
+        PoolEntry::VirtualMethodref { .. } => opcode == card::INVOKEVIRTUAL,
+        PoolEntry::SuperMethodref { .. } => opcode == card::INVOKESPECIAL,
+        PoolEntry::StaticFieldref(_) => opcode >= card::GETSTATIC_A && opcode <= card::PUTSTATIC_I,
+        PoolEntry::StaticMethodref(_) => opcode == card::INVOKESPECIAL
+            || opcode == card::INVOKESTATIC,
     }
 }
 

@@ -9,6 +9,7 @@ ghost use Rattle.cjc_jumps.specs.Offsets.{is_switch, natural, offsets_in};
 ghost use Rattle.cjc_sentences.specs.Instructions.{code_spots, default_of, ends_code, in_code, is_empty, is_jump, jumps_land, lands};
 ghost use Rattle.cjc_sentences.specs.Spots.{first, in_info, unless};
 
+use cjc_capread::card;
 use cjc_codes::{At, Body};
 use cjc_decode::{Kind, Operands, Shape, Table, entry_size, operand};
 use cjc_lookup::{earlier, is_among, unless};
@@ -21,7 +22,8 @@ const METHOD: u8 = 7;
 fn is_jump(opcode: u8) -> bool
     ensures { result ≡ is_jump opcode }
 {
-    (opcode >= 0x60 && opcode <= 0x71) || (opcode >= 0x98 && opcode <= 0xA8)
+    (opcode >= card::IFEQ && opcode <= card::JSR)
+        || (opcode >= card::IFEQ_W && opcode <= card::GOTO_W)
 }
 
 /// Whether what stands behind an instruction is not run after it: goto, jsr, ret, the switches and returns, athrow,
@@ -29,7 +31,10 @@ fn is_jump(opcode: u8) -> bool
 fn ends_code(opcode: u8) -> bool
     ensures { result ≡ ends_code opcode }
 {
-    (opcode >= 0x70 && opcode <= 0x7A) || opcode == 0x93 || opcode == 0xA8 || opcode >= 0xFE
+    (opcode >= card::GOTO && opcode <= card::RETURN)
+        || opcode == card::ATHROW
+        || opcode == card::GOTO_W
+        || opcode >= card::IMPDEP1
 }
 
 /// Where a jump this far from an offset goes; none where that is before the start.

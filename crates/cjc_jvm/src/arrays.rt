@@ -7,6 +7,7 @@ ghost use Rattle.cjc_heap.specs.Kinds.{effect_moves};
 
 use crate::deeds::deed_of;
 use cjc_bytes::NoMemory;
+use cjc_code::jvm;
 use cjc_frame::number::byte_of;
 use cjc_frame::{Activation, Deed};
 use cjc_heap::{Heap, Moves};
@@ -53,10 +54,10 @@ pub fn array_load<'a>(
     ensures { IfOk result (λ deed. FollowsOn (λ l m at locals store. after_array_load l m at locals store (loads op)) deed frame.old frame.new heap.now heap.now) }
 {
     match op {
-        0x2E => load_element(frame, heap, Moves::Int),
-        0x32 => load_element(frame, heap, Moves::Reference),
-        0x33 => load_element(frame, heap, Moves::Byte),
-        0x35 => load_element(frame, heap, Moves::Short),
+        jvm::IALOAD => load_element(frame, heap, Moves::Int),
+        jvm::AALOAD => load_element(frame, heap, Moves::Reference),
+        jvm::BALOAD => load_element(frame, heap, Moves::Byte),
+        jvm::SALOAD => load_element(frame, heap, Moves::Short),
         _ => Ok(Deed::Stick),
     }
 }

@@ -13,6 +13,7 @@ use crate::deeds::deed_of;
 use crate::lookups::LookUps;
 use crate::shapes::class_within;
 use crate::types::is_of;
+use cjc_code::jvm;
 use cjc_frame::number::{byte_of, short_of};
 use cjc_frame::{Activation, Deed, Exception, is_kind};
 use cjc_heap::{ArrayKind, Halt, Heap, HeapElement, Moves};
@@ -137,10 +138,10 @@ pub fn array_store<'a, L: LookUps>(
     ensures len { length heap.new ≡ length heap.old }
 {
     match op {
-        0x4F => store_element(links, frame, heap, Moves::Int),
-        0x53 => store_element(links, frame, heap, Moves::Reference),
-        0x54 => store_element(links, frame, heap, Moves::Byte),
-        0x56 => store_element(links, frame, heap, Moves::Short),
+        jvm::IASTORE => store_element(links, frame, heap, Moves::Int),
+        jvm::AASTORE => store_element(links, frame, heap, Moves::Reference),
+        jvm::BASTORE => store_element(links, frame, heap, Moves::Byte),
+        jvm::SASTORE => store_element(links, frame, heap, Moves::Short),
         _ => Deed::Stick,
     }
 }

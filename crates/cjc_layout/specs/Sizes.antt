@@ -4,7 +4,7 @@ use Rattle.cjc_capread.specs.Opcodes.{Form, Fields, Table, Lookup, form, width, 
 use Rattle.cjc_ncode.specs.declared.narrow.NCase.{NCase}
 use Rattle.cjc_ncode.specs.declared.narrow.NInsn.{NInsn}
 use Rattle.cjc_ncode.specs.declared.narrow.NInsn.TheVariants as narrow
-use Rattle.cjc_lower.specs.Laid.{invokeinterface, newarray}
+use Rattle.cjc_capread.specs.Card.{invokeinterface, newarray}
 
 -- The bytes of an instruction of this form: its opcode and its operands; of a switch the default's offset, its bounds or the number of its cases, and an offset for each case, in a lookup switch behind its match.
 abbrev pub size_by : Option Form → (cases : ℕ) → ℕ

@@ -1,6 +1,7 @@
 -- Sizes, offsets and the choice of wide jumps as the private functions of the layout give them.
 use Rattle.std.specs.Prelude.{◌≡◌, ℕ, zero, suc, ◌+◌, ◌*◌, ◌<◌, ◌≤◌, List, [], ◌∷◌, length, Option, Some, None, Bool, true, false, not, nat_le, nat_lt, ◌==◌, if◌then◌else◌, slice_get, slice_index}
 use Rattle.cjc_capread.specs.declared.opcode.OpInfo.{OpInfo}
+use Rattle.cjc_capread.specs.Card as card
 use Rattle.cjc_ncode.specs.declared.narrow.NInsn.{NInsn}
 use Rattle.cjc_ncode.specs.declared.narrow.NInsn.TheVariants as narrow
 use Rattle.cjc_ncode.specs.declared.narrow.NCatch.{NCatch}
@@ -8,7 +9,7 @@ use Rattle.cjc_layout.specs.Legal.{is_near, IsLegal, IsWithin}
 
 -- the bytes of a switch
 abbrev pub switch_size : (op cases : ℕ) → ℕ
-switch_size op cases = if op == 0x73 then 7 + 2 * cases else (if op == 0x74 then 11 + 2 * cases else (if op == 0x75 then 5 + 4 * cases else 5 + 6 * cases))
+switch_size op cases = if op == card.stableswitch then 7 + 2 * cases else (if op == card.itableswitch then 11 + 2 * cases else (if op == card.slookupswitch then 5 + 4 * cases else 5 + 6 * cases))
 
 -- the length that the table of opcodes says, and 1 of what is no opcode
 abbrev pub length_by : Option OpInfo → ℕ

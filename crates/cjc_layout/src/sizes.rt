@@ -6,7 +6,7 @@ ghost use Rattle.cjc_layout.specs.Sizes.{size_by, insn_size, widest_size};
 ghost use Rattle.cjc_layout.specs.Working.{switch_size, length_by};
 
 use cjc_bytes::NoMemory;
-use cjc_capread::op;
+use cjc_capread::{card, op};
 use cjc_ncode::NInsn;
 use std::alloc::Global;
 
@@ -16,9 +16,9 @@ fn switch_size(opcode: u8, cases: usize) -> usize
     ensures { result ≡ switch_size opcode cases }
 {
     match opcode {
-        0x73 => 7 + 2 * cases,
-        0x74 => 11 + 2 * cases,
-        0x75 => 5 + 4 * cases,
+        card::STABLESWITCH => 7 + 2 * cases,
+        card::ITABLESWITCH => 11 + 2 * cases,
+        card::SLOOKUPSWITCH => 5 + 4 * cases,
         _ => 5 + 6 * cases,
     }
 }
@@ -60,8 +60,8 @@ fn narrow_size(insn: &NInsn) -> usize
         NInsn::Jump { .. } => 2,
         NInsn::Switch { op, cases, .. } => size_of(*op, cases.items().len()),
         NInsn::Named { op, .. } => size_of(*op, 0),
-        NInsn::Interface { .. } => size_of(0x8E, 0),
-        NInsn::NewArray(_) => size_of(0x90, 0),
+        NInsn::Interface { .. } => size_of(card::INVOKEINTERFACE, 0),
+        NInsn::NewArray(_) => size_of(card::NEWARRAY, 0),
         NInsn::TypeTest { op, .. } => size_of(*op, 0),
     }
 }

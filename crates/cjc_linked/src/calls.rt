@@ -14,6 +14,7 @@ ghost use Rattle.cjc_linked.specs.Found.{hit_of};
 use crate::hits::{Owner, owner_of};
 use crate::links::Links;
 use cjc_bytes::{MemberId, is_interface, is_private, is_static};
+use cjc_code::jvm;
 use cjc_jvm::{Call, Callee};
 use cjc_world::{Found, Known};
 
@@ -173,16 +174,17 @@ impl<'w, 'a> Links<'w, 'a> {
     fn call_by(&self, op: u8, name: &[u8], method: FoundMethod<'w, 'a>) -> Option<Call<'_>>
         ensures { (holder : List ℕ) (id : Id) → id.name ≡ name.now → IsCall id result (call_by self.now.files (all_classes self.now.files) (select_in (all_classes self.now.files)) holder op id method.entry.found (hit_of method.entry.owner)) }
     {
-        if op == 0xB7 {
+        if op == jvm::INVOKESPECIAL {
             return self.special_call(name, method);
         }
         if is_constructor(name) {
             return None;
         }
         match op {
-            0xB6 if is_selectable(method.owner.flags) => Some(Call::OnObject),
-            0xB8 => self.static_call(method),
-            0xB9 if is_interface(method.owner.class.flags()) && is_selectable(method.owner.flags) =>
+            jvm::INVOKEVIRTUAL if is_selectable(method.owner.flags) => Some(Call::OnObject),
+            jvm::INVOKESTATIC => self.static_call(method),
+            jvm::INVOKEINTERFACE
+                if is_interface(method.owner.class.flags()) && is_selectable(method.owner.flags) =>
                 { Some(Call::OnObject) }
             _ => None,
         }
@@ -292,15 +294,15 @@ impl<'w, 'a> Links<'w, 'a> {
     ) -> Option<Callee<'s>>
         ensures { option_map (λ c. callee_of c id.now) result ≡ selection_of (call_by self.now.files (all_classes self.now.files) (select_in (all_classes self.now.files)) holder.now op id.now method.entry.found (hit_of method.entry.owner)) type_name.now }
     {
-        if op == 0xB7 {
+        if op == jvm::INVOKESPECIAL {
             return self.special_callee(holder, id, method, type_name);
         }
         if is_constructor(id.name.items()) {
             return None;
         }
         match op {
-            0xB6 => self.virtual_callee(id, method, type_name),
-            0xB9 => self.called_of_interface(id, method, type_name),
+            jvm::INVOKEVIRTUAL => self.virtual_callee(id, method, type_name),
+            jvm::INVOKEINTERFACE => self.called_of_interface(id, method, type_name),
             _ => None,
         }
     }

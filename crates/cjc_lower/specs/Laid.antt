@@ -2,6 +2,7 @@
 use Rattle.std.specs.Prelude.{◌≡◌, ℕ, suc, ◌+◌, ◌-◌, ◌*◌, List, [], ◌∷◌, length, Option, Some, None, Bool, nat_le, if◌then◌else◌, ℤ, pos, negsuc, ◌+ℤ◌, ◌-ℤ◌}
 use Rattle.cjc_bytes.specs.declared.fault.MemberId.{MemberId}
 use Rattle.cjc_capread.specs.Decode.{Instruction}
+use Rattle.cjc_capread.specs.Card as card
 use Rattle.cjc_script.specs.Sorts.{Element, Booleans, Bytes, Shorts, Ints}
 use Rattle.cjc_bytecode.specs.Calculations.{Calculation, Test}
 use Rattle.cjc_bytecode.specs.Meanings.{Meaning, Plain, Branches, Ranged, Paired, Uses, Casts, Asks, Use, meaning}
@@ -19,14 +20,6 @@ distance from to = if nat_le from to then pos (to - from) else negsuc (from - su
 -- an instruction without a table
 abbrev pub untabled : ℕ → List ℤ → Instruction
 untabled opcode operands = record { opcode = opcode; operands = operands; table = [] }
-
--- the opcode of a call of an interface's method
-abbrev pub invokeinterface : ℕ
-invokeinterface = 0x8E
-
--- the opcode that makes an array of numbers
-abbrev pub newarray : ℕ
-newarray = 0x90
 
 -- the wide form of a jump stands so many opcodes behind the narrow one
 abbrev pub wide_jump : ℕ → ℕ
@@ -72,8 +65,8 @@ module _ (n : Naming) (to : ℕ → ℕ) where
   laid at wide (insns.Jump op target) = untabled (if wide then wide_jump op else op) (distance at (to target) ∷ [])
   laid at wide (insns.Switch op other low cases) = switch_as (meaning op) at op other low cases
   laid at wide (insns.Named op key) = untabled op (pos (n.index key) ∷ [])
-  laid at wide (insns.Interface nargs m) = untabled invokeinterface (pos nargs ∷ pos (n.index (keys.Class m.class)) ∷ pos (n.interface_token m) ∷ [])
-  laid at wide (insns.NewArray kind) = untabled newarray (pos kind ∷ [])
+  laid at wide (insns.Interface nargs m) = untabled card.invokeinterface (pos nargs ∷ pos (n.index (keys.Class m.class)) ∷ pos (n.interface_token m) ∷ [])
+  laid at wide (insns.NewArray kind) = untabled card.newarray (pos kind ∷ [])
   laid at wide (insns.TypeTest op kind class) = untabled op (pos kind ∷ pos (class_index n class) ∷ [])
 
 -- ---- instructions that can be laid out

@@ -1,6 +1,7 @@
 -- The classes that are made, each as the items of its file.
 use Rattle.std.specs.Prelude.{ℕ, ◌+◌, ◌-◌, ◌%◌, ◌==◌, if◌then◌else◌, List, [], ◌∷◌, ◌++◌, codes, decimal}
 use Rattle.cjc_bytes.specs.AccessFlags.{acc_public, acc_static, acc_super}
+use Rattle.cjc_code.specs.Jvm as jvm
 use Rattle.cjc_make.specs.declared.instruction.Instruction.{Instruction}
 use Rattle.cjc_make.specs.declared.instruction.Instruction.TheVariants.{Alone, Followed}
 use Rattle.cjc_make.specs.declared.class_file.Method.{Method}
@@ -19,55 +20,55 @@ superclass_name i = if i % 4 == 0 then codes "java/lang/Object" else class_name 
 
 -- push local variable 0, a reference
 abbrev pub aload_0 : Instruction
-aload_0 = Alone 0x2A
+aload_0 = Alone jvm.aload_0
 
 -- push local variable 0, a number
 abbrev pub iload_0 : Instruction
-iload_0 = Alone 0x1A
+iload_0 = Alone jvm.iload_0
 
 -- push local variable 1, a number
 abbrev pub iload_1 : Instruction
-iload_1 = Alone 0x1B
+iload_1 = Alone jvm.iload_1
 
 -- push a number of 16 bits
 abbrev pub sipush : ℕ → Instruction
-sipush n = Followed 0x11 n
+sipush n = Followed jvm.sipush n
 
 -- add two numbers
 abbrev pub iadd : Instruction
-iadd = Alone 0x60
+iadd = Alone jvm.iadd
 
 -- exclusive or of two numbers
 abbrev pub ixor : Instruction
-ixor = Alone 0x82
+ixor = Alone jvm.ixor
 
 -- cut a number to 16 bits
 abbrev pub i2s : Instruction
-i2s = Alone 0x93
+i2s = Alone jvm.i2s
 
 -- end with a number as the result
 abbrev pub ireturn : Instruction
-ireturn = Alone 0xAC
+ireturn = Alone jvm.ireturn
 
 -- end without result
 abbrev pub return_void : Instruction
-return_void = Alone 0xB1
+return_void = Alone jvm.return
 
 -- make an object of the class at an index
 abbrev pub new_object : ℕ → Instruction
-new_object c = Followed 0xBB c
+new_object c = Followed jvm.new c
 
 -- push the top of the stack once more
 abbrev pub dup : Instruction
-dup = Alone 0x59
+dup = Alone jvm.dup
 
 -- call the constructor at an index
 abbrev pub invokespecial : ℕ → Instruction
-invokespecial m = Followed 0xB7 m
+invokespecial m = Followed jvm.invokespecial m
 
 -- call the virtual method at an index
 abbrev pub invokevirtual : ℕ → Instruction
-invokevirtual m = Followed 0xB6 m
+invokevirtual m = Followed jvm.invokevirtual m
 
 -- ---- the class
 

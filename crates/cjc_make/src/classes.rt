@@ -7,12 +7,10 @@ ghost use Rattle.cjc_make.specs.ClassFile.{method_bytes, constant_bytes, two, fo
 ghost use Rattle.cjc_make.specs.Classes.{class_name, superclass_name, constants, constructor, mixes, calls, class_named, class_with};
 
 use crate::class_file::{Code, Entry, Method, put_entries, put_method};
-use crate::instruction::{
-    ALOAD_0, DUP, I2S, IADD, ILOAD_0, ILOAD_1, INVOKESPECIAL, INVOKEVIRTUAL, IRETURN, IXOR,
-    Instruction, NEW, RETURN, SIPUSH,
-};
+use crate::instruction::Instruction;
 use crate::texts::put_class_name;
 use cjc_bytes::{ACC_PUBLIC, ACC_STATIC, ACC_SUPER, Bytes, NoMemory, Out};
+use cjc_code::jvm;
 use std::alloc::Global;
 
 /// The name of class i.
@@ -70,9 +68,9 @@ fn put_constructor(alloc: Global, out: &mut Out) -> Result<(), NoMemory>
         max_stack: 1,
         max_locals: 1,
         instructions: &[
-            Instruction::Alone(ALOAD_0),
-            Instruction::Followed(INVOKESPECIAL, 9),
-            Instruction::Alone(RETURN),
+            Instruction::Alone(jvm::ALOAD_0),
+            Instruction::Followed(jvm::INVOKESPECIAL, 9),
+            Instruction::Alone(jvm::RETURN),
         ],
     };
     let method = Method {
@@ -93,14 +91,14 @@ fn put_mixes(alloc: Global, out: &mut Out, addend: u16, mask: u16) -> Result<(),
         max_stack: 2,
         max_locals: 2,
         instructions: &[
-            Instruction::Alone(ILOAD_1),
-            Instruction::Followed(SIPUSH, addend),
-            Instruction::Alone(IADD),
-            Instruction::Alone(I2S),
-            Instruction::Followed(SIPUSH, mask),
-            Instruction::Alone(IXOR),
-            Instruction::Alone(I2S),
-            Instruction::Alone(IRETURN),
+            Instruction::Alone(jvm::ILOAD_1),
+            Instruction::Followed(jvm::SIPUSH, addend),
+            Instruction::Alone(jvm::IADD),
+            Instruction::Alone(jvm::I2S),
+            Instruction::Followed(jvm::SIPUSH, mask),
+            Instruction::Alone(jvm::IXOR),
+            Instruction::Alone(jvm::I2S),
+            Instruction::Alone(jvm::IRETURN),
         ],
     };
     let method = Method {
@@ -121,12 +119,12 @@ fn put_calls(alloc: Global, out: &mut Out) -> Result<(), NoMemory>
         max_stack: 2,
         max_locals: 1,
         instructions: &[
-            Instruction::Followed(NEW, 2),
-            Instruction::Alone(DUP),
-            Instruction::Followed(INVOKESPECIAL, 13),
-            Instruction::Alone(ILOAD_0),
-            Instruction::Followed(INVOKEVIRTUAL, 15),
-            Instruction::Alone(IRETURN),
+            Instruction::Followed(jvm::NEW, 2),
+            Instruction::Alone(jvm::DUP),
+            Instruction::Followed(jvm::INVOKESPECIAL, 13),
+            Instruction::Alone(jvm::ILOAD_0),
+            Instruction::Followed(jvm::INVOKEVIRTUAL, 15),
+            Instruction::Alone(jvm::IRETURN),
         ],
     };
     let method = Method {

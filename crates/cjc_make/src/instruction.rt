@@ -7,29 +7,3 @@ pub(crate) enum Instruction {
     Alone(u8),
     Followed(u8, u16),
 }
-
-pub(crate) const SIPUSH: u8 = 0x11;
-
-pub(crate) const ILOAD_0: u8 = 0x1A;
-
-pub(crate) const ILOAD_1: u8 = 0x1B;
-
-pub(crate) const ALOAD_0: u8 = 0x2A;
-
-pub(crate) const DUP: u8 = 0x59;
-
-pub(crate) const IADD: u8 = 0x60;
-
-pub(crate) const IXOR: u8 = 0x82;
-
-pub(crate) const I2S: u8 = 0x93;
-
-pub(crate) const IRETURN: u8 = 0xAC;
-
-pub(crate) const RETURN: u8 = 0xB1;
-
-pub(crate) const INVOKEVIRTUAL: u8 = 0xB6;
-
-pub(crate) const INVOKESPECIAL: u8 = 0xB7;
-
-pub(crate) const NEW: u8 = 0xBB;

@@ -14,7 +14,7 @@ use Rattle.cjc_ncode.specs.declared.narrow.NMethod.{NMethod}
 use Rattle.cjc_ncode.specs.declared.narrow.PoolKey.{PoolKey}
 use Rattle.cjc_ncode.specs.PoolOrder.{same_key}
 use Rattle.cjc_lower.specs.Naming.{Naming}
-use Rattle.cjc_lower.specs.Laid.{invokeinterface}
+use Rattle.cjc_capread.specs.Card.{invokeinterface}
 use Rattle.cjc_lower.specs.Handlers as Lower
 use Rattle.cjc_lower.specs.Package.{all_bytes, all_handlers}
 use Rattle.cjc_lower.specs.Placed.{Placed, bytes_before, code_bytes, extended_header, insn_size, method_bytes, offset_of, short_header}

@@ -9,6 +9,7 @@ ghost use Rattle.cjc_bytes.specs.declared.settings.Settings.{Settings};
 ghost use Rattle.cjc_by_name.specs.Linked.{Method};
 ghost use Rattle.cjc_by_name.specs.Effects.{Fault, exception_class};
 ghost use Rattle.cjc_classfile.specs.declared.tree.ClassTree.{ClassTree};
+ghost use Rattle.cjc_code.specs.Jvm as jvm;
 ghost use Rattle.cjc_code.specs.declared.insn.JOp.TheVariants as jop;
 ghost use Rattle.cjc_code.specs.declared.method_code.MethodCode.{MethodCode};
 ghost use Rattle.cjc_narrow_finds.specs.Whole.{Accepts, HoldsFor, IsWhole};
@@ -32,21 +33,21 @@ pub fn own_exceptions_are_imported()
 /// A static call in the package's code reaches a method with tables, or an imported one.
 pub fn static_calls_reach_methods()
     ensures { (list : List ℕ) (files : Files) (codes : List MethodCode) (settings : Settings) (tables : Tables) → IsWhole list files codes settings tables
-        → (class : ClassTree) (id : MemberId) → IsInsnOf files codes class (jop.Call 0xB8 id) → IsStaticOn files tables id }
+        → (class : ClassTree) (id : MemberId) → IsInsnOf files codes class (jop.Call jvm.invokestatic id) → IsStaticOn files tables id }
 {}
 
 /// A call on a receiver in the package's code reaches a method with tables, or an imported one, on every object
 /// or array that may be its receiver by a type table that breaks no rule there.
 pub fn receivers_have_their_methods()
     ensures virtually { (list : List ℕ) (files : Files) (codes : List MethodCode) (settings : Settings) (tables : Tables) → IsWhole list files codes settings tables
-        → (image : StaticImage) (near : List MemberId) (b : Body) (stack : List Cell) (class : ClassTree) (id : MemberId) → IsInsnOf files codes class (jop.Call 0xB6 id) → Accepts files b 0xB6 id stack
-        → IsReceiverOn files (look_ups files image near tables) tables class.name stack 0xB6 id }
+        → (image : StaticImage) (near : List MemberId) (b : Body) (stack : List Cell) (class : ClassTree) (id : MemberId) → IsInsnOf files codes class (jop.Call jvm.invokevirtual id) → Accepts files b jvm.invokevirtual id stack
+        → IsReceiverOn files (look_ups files image near tables) tables class.name stack jvm.invokevirtual id }
     ensures specially { (list : List ℕ) (files : Files) (codes : List MethodCode) (settings : Settings) (tables : Tables) → IsWhole list files codes settings tables
-        → (image : StaticImage) (near : List MemberId) (b : Body) (stack : List Cell) (class : ClassTree) (id : MemberId) → b.class ≡ class.name → IsInsnOf files codes class (jop.Call 0xB7 id) → Accepts files b 0xB7 id stack
-        → IsReceiverOn files (look_ups files image near tables) tables class.name stack 0xB7 id }
+        → (image : StaticImage) (near : List MemberId) (b : Body) (stack : List Cell) (class : ClassTree) (id : MemberId) → b.class ≡ class.name → IsInsnOf files codes class (jop.Call jvm.invokespecial id) → Accepts files b jvm.invokespecial id stack
+        → IsReceiverOn files (look_ups files image near tables) tables class.name stack jvm.invokespecial id }
     ensures by_interface { (list : List ℕ) (files : Files) (codes : List MethodCode) (settings : Settings) (tables : Tables) → IsWhole list files codes settings tables
-        → (image : StaticImage) (near : List MemberId) (b : Body) (stack : List Cell) (class : ClassTree) (id : MemberId) → IsInsnOf files codes class (jop.Call 0xB9 id) → Accepts files b 0xB9 id stack
-        → IsReceiverOn files (look_ups files image near tables) tables class.name stack 0xB9 id }
+        → (image : StaticImage) (near : List MemberId) (b : Body) (stack : List Cell) (class : ClassTree) (id : MemberId) → IsInsnOf files codes class (jop.Call jvm.invokeinterface id) → Accepts files b jvm.invokeinterface id stack
+        → IsReceiverOn files (look_ups files image near tables) tables class.name stack jvm.invokeinterface id }
 {}
 
 /// For what a script names no method is found, or what the package declares: its types are one word each and

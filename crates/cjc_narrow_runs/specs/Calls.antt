@@ -17,6 +17,7 @@ use Rattle.cjc_by_name.specs.OnePackage.{Hit, method_hit, is_constructor, is_ini
 use Rattle.cjc_shrink.specs.Relation.{IsMadeOf}
 use Rattle.cjc_table_rules.specs.Kinds.{is_one_of}
 use Rattle.cjc_table_rules.specs.Calls.{IsWordDesc, types_of, count_of}
+use Rattle.cjc_code.specs.Jvm as jvm
 use Rattle.cjc_narrow_runs.specs.Tables.{Tables}
 use Rattle.cjc_narrow_runs.specs.Types.{IsThere}
 use Rattle.cjc_narrow_runs.specs.Begun.{IsBegun}
@@ -48,13 +49,13 @@ pub data IsChosen (files : Files) (tables : Tables) (id : MemberId) (type : List
 -- How a call on a receiver chooses: of which class receivers are, and what is chosen by the type of one.
 pub data Chooses (files : Files) (holder : List ℕ) (id : MemberId) (place : Found) (hit : Hit) : (op : ℕ) → (class : List ℕ) → (choice : List ℕ → Option Callee) → Type 0 where
   -- invokevirtual: what is selected on it
-  on_class : is_constructor id.name ≡ false → is_selectable hit.flags ≡ true → Chooses files holder id place hit 0xB6 id.class (λ type. selected_from files (all_classes files) (select_in (all_classes files)) type id)
+  on_class : is_constructor id.name ≡ false → is_selectable hit.flags ≡ true → Chooses files holder id place hit jvm.invokevirtual id.class (λ type. selected_from files (all_classes files) (select_in (all_classes files)) type id)
   -- invokespecial: a constructor or private method itself
-  itself : is_static hit.flags ≡ false → (is_constructor id.name || is_private hit.flags) ≡ true → Chooses files holder id place hit 0xB7 id.class (λ type. (let owner = hit.owner in callee_at files owner.name id place))
+  itself : is_static hit.flags ≡ false → (is_constructor id.name || is_private hit.flags) ≡ true → Chooses files holder id place hit jvm.invokespecial id.class (λ type. (let owner = hit.owner in callee_at files owner.name id place))
   -- or what is selected above the class that holds the code
-  above_holder : (callee : Callee) → is_static hit.flags ≡ false → (is_constructor id.name || is_private hit.flags) ≡ false → option_and_then (λ super. selected_from files (all_classes files) (select_in (all_classes files)) super id) (first_super (class_named (all_classes files) holder)) ≡ Some callee → Chooses files holder id place hit 0xB7 holder (λ type. option_and_then (λ super. selected_from files (all_classes files) (select_in (all_classes files)) super id) (first_super (class_named (all_classes files) holder)))
+  above_holder : (callee : Callee) → is_static hit.flags ≡ false → (is_constructor id.name || is_private hit.flags) ≡ false → option_and_then (λ super. selected_from files (all_classes files) (select_in (all_classes files)) super id) (first_super (class_named (all_classes files) holder)) ≡ Some callee → Chooses files holder id place hit jvm.invokespecial holder (λ type. option_and_then (λ super. selected_from files (all_classes files) (select_in (all_classes files)) super id) (first_super (class_named (all_classes files) holder)))
   -- invokeinterface
-  by_interface : is_constructor id.name ≡ false → (let owner = hit.owner in is_interface owner.flags && is_selectable hit.flags) ≡ true → Chooses files holder id place hit 0xB9 id.class (λ type. (let owner = hit.owner in interface_callee files (all_classes files) (select_in (all_classes files)) owner.name type id (class_named (all_classes files) (receiver type))))
+  by_interface : is_constructor id.name ≡ false → (let owner = hit.owner in is_interface owner.flags && is_selectable hit.flags) ≡ true → Chooses files holder id place hit jvm.invokeinterface id.class (λ type. (let owner = hit.owner in interface_callee files (all_classes files) (select_in (all_classes files)) owner.name type id (class_named (all_classes files) (receiver type))))
 
 -- A static call.
 pub record IsStaticOn (files : Files) (tables : Tables) (id : MemberId) : Type 0 where

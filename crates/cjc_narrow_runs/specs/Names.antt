@@ -6,6 +6,7 @@ use Rattle.cjc_range.specs.Span.{Holds, full}
 use Rattle.cjc_code.specs.declared.insn.JInsn.{JInsn}
 use Rattle.cjc_code.specs.declared.insn.JOp.{JOp}
 use Rattle.cjc_code.specs.declared.insn.JOp.TheVariants as jop
+use Rattle.cjc_code.specs.Jvm as jvm
 use Rattle.cjc_fixpoint.specs.Tables.{HasRow}
 use Rattle.cjc_script.specs.Sorts.{Shape, shape_named, field_sort}
 use Rattle.cjc_world.specs.Classes.{Class, all_classes, class_named}
@@ -65,7 +66,7 @@ module _ (files : Files) (image : StaticImage) (near : List MemberId) (tables : 
     shorts : IsNamed stack (jop.NewArray 9)
     a_cast : {type : List ℕ} (kind : Shape (List ℕ)) → shape_named type ≡ Some kind → IsThere (all_classes files) kind → IsNamed stack (jop.CheckCast type)
     a_test : {type : List ℕ} (kind : Shape (List ℕ)) → shape_named type ≡ Some kind → IsThere (all_classes files) kind → IsNamed stack (jop.InstanceOf type)
-    a_static_call : {id : MemberId} → IsStaticOn files tables id → IsNamed stack (jop.Call 0xB8 id)
+    a_static_call : {id : MemberId} → IsStaticOn files tables id → IsNamed stack (jop.Call jvm.invokestatic id)
     a_call_on_receiver : {op : ℕ} {id : MemberId} → IsReceiverOn files (look_ups files image near tables) tables (let id = m.id in id.class) stack op id → IsNamed stack (jop.Call op id)
 
   -- each reached instruction

@@ -8,10 +8,12 @@ use Rattle.cjc_code.specs.declared.insn.JInsn.{JInsn}
 use Rattle.cjc_code.specs.declared.insn.JCase.{JCase}
 use Rattle.cjc_code.specs.declared.insn.JOp.{JOp}
 use Rattle.cjc_code.specs.declared.insn.JOp.TheVariants as jop
+use Rattle.cjc_code.specs.Jvm as jvm
 use Rattle.cjc_script.specs.Sorts.{Sort, Boolean, Byte, Short, Int, Signature, Shape, OfClass, OfNumbers, OfReferences, Booleans, Bytes, Shorts, Ints, field_sort, signature_of, shape_named}
 use Rattle.cjc_bytecode.specs.Arguments.{widths}
 use Rattle.cjc_bytecode.specs.Numbers.{is_word}
 use Rattle.cjc_words.specs.Words.{low_word}
+use Rattle.cjc_capread.specs.Card as card
 use Rattle.cjc_ncode.specs.declared.narrow.NCase.{NCase}
 use Rattle.cjc_ncode.specs.declared.narrow.NInsn.{NInsn}
 use Rattle.cjc_ncode.specs.declared.narrow.NInsn.TheVariants.{Op, Push, Local, Inc, Words, Jump, Switch, Named, Interface, NewArray, TypeTest}
@@ -38,8 +40,8 @@ pub record Resolution : Type 0 where
 
 -- sconst_m1 to sconst_5, else bspush, else sspush
 abbrev pub pushed_word : ℤ → NInsn
-pushed_word (pos n) = if nat_le n 5 then Op (0x03 + n) else (if nat_le n 127 then Push 0x10 (pos n) else Push 0x11 (pos n))
-pushed_word (negsuc n) = if n == 0 then Op 0x02 else (if nat_le n 127 then Push 0x10 (negsuc n) else Push 0x11 (negsuc n))
+pushed_word (pos n) = if nat_le n 5 then Op (card.sconst_0 + n) else (if nat_le n 127 then Push card.bspush (pos n) else Push card.sspush (pos n))
+pushed_word (negsuc n) = if n == 0 then Op card.sconst_m1 else (if nat_le n 127 then Push card.bspush (negsuc n) else Push card.sspush (negsuc n))
 
 -- the low word of a number
 abbrev pub pushed : ℤ → List NInsn
@@ -57,35 +59,35 @@ is_byte z = int_le (negsuc 127) z && int_le z (pos 127)
 
 -- aaload, baload, saload; aastore, bastore, sastore
 abbrev pub array_load : ℕ → ℕ
-array_load op = if op == 0x32 then 0x24 else (if op == 0x33 then 0x25 else 0x26)
+array_load op = if op == jvm.aaload then card.aaload else (if op == jvm.baload then card.baload else card.saload)
 
 -- the same for stores
 abbrev pub array_store : ℕ → ℕ
-array_store op = if op == 0x53 then 0x37 else (if op == 0x54 then 0x38 else 0x39)
+array_store op = if op == jvm.aastore then card.aastore else (if op == jvm.bastore then card.bastore else card.sastore)
 
 -- pop, pop2, dup, dup2; dup_x1, dup_x2, dup2_x1, dup2_x2, swap
 abbrev pub on_stack : ℕ → NInsn
 on_stack op =
-    if op == 0x57 then Op 0x3B else (if op == 0x58 then Op 0x3C else (if op == 0x59 then Op 0x3D else (if op == 0x5C then Op 0x3E
-    else (if op == 0x5A then Words 0x3F 1 2 else (if op == 0x5B then Words 0x3F 1 3 else (if op == 0x5D then Words 0x3F 2 3
-    else (if op == 0x5E then Words 0x3F 2 4 else Words 0x40 1 1)))))))
+    if op == jvm.pop then Op card.pop else (if op == jvm.pop2 then Op card.pop2 else (if op == jvm.dup then Op card.dup else (if op == jvm.dup2 then Op card.dup2
+    else (if op == jvm.dup_x1 then Words card.dup_x 1 2 else (if op == jvm.dup_x2 then Words card.dup_x 1 3 else (if op == jvm.dup2_x1 then Words card.dup_x 2 3
+    else (if op == jvm.dup2_x2 then Words card.dup_x 2 4 else Words card.swap_x 1 1)))))))
 
 -- iadd, isub, imul, idiv, irem, ineg, ishl, ishr, iushr, iand, ior, ixor
 abbrev pub arithmetic : ℕ → ℕ
 arithmetic op =
-    if op == 0x60 then 0x41 else (if op == 0x64 then 0x43 else (if op == 0x68 then 0x45 else (if op == 0x6C then 0x47
-    else (if op == 0x70 then 0x49 else (if op == 0x74 then 0x4B else (if op == 0x78 then 0x4D else (if op == 0x7A then 0x4F
-    else (if op == 0x7C then 0x51 else (if op == 0x7E then 0x53 else (if op == 0x80 then 0x55 else 0x57))))))))))
+    if op == jvm.iadd then card.sadd else (if op == jvm.isub then card.ssub else (if op == jvm.imul then card.smul else (if op == jvm.idiv then card.sdiv
+    else (if op == jvm.irem then card.srem else (if op == jvm.ineg then card.sneg else (if op == jvm.ishl then card.sshl else (if op == jvm.ishr then card.sshr
+    else (if op == jvm.iushr then card.sushr else (if op == jvm.iand then card.sand else (if op == jvm.ior then card.sor else card.sxor))))))))))
 
 -- ifeq to ifle, if_icmpeq to if_icmple, if_acmpeq, if_acmpne, ifnull, ifnonnull
 abbrev pub condition : ℕ → ℕ
 condition op =
-    if nat_le op 0x9E then op - 0x99 + 0x60 else (if nat_le op 0xA4 then op - 0x9F + 0x6A
-    else (if op == 0xA5 then 0x68 else (if op == 0xA6 then 0x69 else (if op == 0xC6 then 0x66 else 0x67))))
+    if nat_le op jvm.ifle then op - jvm.ifeq + card.ifeq else (if nat_le op jvm.if_icmple then op - jvm.if_icmpeq + card.if_scmpeq
+    else (if op == jvm.if_acmpeq then card.if_acmpeq else (if op == jvm.if_acmpne then card.if_acmpne else (if op == jvm.ifnull then card.ifnull else card.ifnonnull))))
 
 -- ireturn, areturn, return
 abbrev pub leaving : ℕ → ℕ
-leaving op = if op == 0xAC then 0x78 else (if op == 0xB0 then 0x77 else 0x7A)
+leaving op = if op == jvm.ireturn then card.sreturn else (if op == jvm.areturn then card.areturn else card.return)
 
 -- how far the opcode of a type stands behind that of references
 abbrev pub behind_reference : Sort → ℕ
@@ -119,19 +121,19 @@ low_of (c ∷ cases) = c.value
 
 -- pop and a goto to the default where no case is left
 abbrev pub switched : (op other : ℕ) → (low : ℤ) → List NCase → List NInsn
-switched op other low [] = Op 0x3B ∷ Jump 0x70 other ∷ []
+switched op other low [] = Op card.pop ∷ Jump card.goto other ∷ []
 switched op other low (c ∷ cases) = Switch op other low (c ∷ cases) ∷ []
 
 -- ---- names
 
 -- getstatic or putstatic of a type
 abbrev pub static_access : (put : Bool) → Sort → ℕ
-static_access put sort = (if put then 0x7F else 0x7B) + behind_reference sort
+static_access put sort = (if put then card.putstatic_a else card.getstatic_a) + behind_reference sort
 
 -- getfield or putfield of a type, in the form of one byte or two
 abbrev pub field_access : (put near : Bool) → Sort → ℕ
 field_access put near sort =
-    (if near then (if put then 0x87 else 0x83) else (if put then 0xB1 else 0xA9)) + behind_reference sort
+    (if near then (if put then card.putfield_a else card.getfield_a) else (if put then card.putfield_a_w else card.getfield_a_w)) + behind_reference sort
 
 -- a constant is pushed
 abbrev pub static_by : Resolution → (put : Bool) → MemberId → Option ℤ → List NInsn
@@ -140,7 +142,7 @@ static_by r put f None = Named (static_access put (field_sort f.desc)) (keys.Sta
 
 -- a call by its key
 abbrev pub called : Resolution → (op : ℕ) → MemberId → NInsn
-called r op m = if op == 0xB6 then Named 0x8B (r.virtual m) else (if op == 0xB7 then Named 0x8C (r.special m) else Named 0x8D (r.static m))
+called r op m = if op == jvm.invokevirtual then Named card.invokevirtual (r.virtual m) else (if op == jvm.invokespecial then Named card.invokespecial (r.special m) else Named card.invokestatic (r.static m))
 
 -- the words of the parameters, and the receiver
 abbrev pub words_by : Option Signature → ℕ
@@ -153,7 +155,7 @@ nargs_of m = words_by (signature_of m.desc)
 
 -- a call of any kind
 abbrev pub call_by : Resolution → (op : ℕ) → MemberId → List NInsn
-call_by r op m = (if op == 0xB9 then Interface (nargs_of m) (r.interface m) else called r op m) ∷ []
+call_by r op m = (if op == jvm.invokeinterface then Interface (nargs_of m) (r.interface m) else called r op m) ∷ []
 
 -- boolean 4, byte 8, short 9, int 10 of a class file
 abbrev pub element_number : ℕ → ℕ
@@ -174,33 +176,33 @@ type_test op (Some (OfNumbers Ints)) = TypeTest op 13 None ∷ []
 -- What is written for an instruction, where `place` gives the place of what is written for an offset.
 abbrev pub written : Resolution → (place : ℕ → ℕ) → JOp → List NInsn
 written r place jop.Nop = []
-written r place jop.Null = Op 0x01 ∷ []
+written r place jop.Null = Op card.aconst_null ∷ []
 written r place (jop.Number z) = pushed z
-written r place (jop.Load false l) = local 0x1C 0x16 l
-written r place (jop.Load true l) = local 0x18 0x15 l
-written r place (jop.Store false l) = local 0x2F 0x29 l
-written r place (jop.Store true l) = local 0x2B 0x28 l
+written r place (jop.Load false l) = local card.sload_0 card.sload l
+written r place (jop.Load true l) = local card.aload_0 card.aload l
+written r place (jop.Store false l) = local card.sstore_0 card.sstore l
+written r place (jop.Store true l) = local card.astore_0 card.astore l
 written r place (jop.ArrayLoad op) = Op (array_load op) ∷ []
 written r place (jop.ArrayStore op) = Op (array_store op) ∷ []
 written r place (jop.Stack op) = on_stack op ∷ []
 written r place (jop.Arith op) = Op (arithmetic op) ∷ []
-written r place (jop.Inc l by) = Inc (if is_byte by then 0x59 else 0x96) l by ∷ []
-written r place (jop.Narrow op) = if op == 0x91 then Op 0x5B ∷ [] else []
+written r place (jop.Inc l by) = Inc (if is_byte by then card.sinc else card.sinc_w) l by ∷ []
+written r place (jop.Narrow op) = if op == jvm.i2b then Op card.s2b ∷ [] else []
 written r place (jop.If op target) = Jump (condition op) (place target) ∷ []
-written r place (jop.Goto target) = Jump 0x70 (place target) ∷ []
-written r place (jop.TableSwitch other low targets) = let cases = table_cases place low targets in switched 0x73 (place other) (low_of cases) cases
-written r place (jop.LookupSwitch other cases) = switched 0x75 (place other) (pos 0) (pair_cases place cases)
+written r place (jop.Goto target) = Jump card.goto (place target) ∷ []
+written r place (jop.TableSwitch other low targets) = let cases = table_cases place low targets in switched card.stableswitch (place other) (low_of cases) cases
+written r place (jop.LookupSwitch other cases) = switched card.slookupswitch (place other) (pos 0) (pair_cases place cases)
 written r place (jop.Return op) = Op (leaving op) ∷ []
 written r place (jop.Static put f) = static_by r put f (r.constant f)
 written r place (jop.Field put f) = Named (field_access put (r.is_near f) (field_sort f.desc)) (keys.Field (r.field f)) ∷ []
 written r place (jop.Call op m) = call_by r op m
-written r place (jop.New class) = Named 0x8F (keys.Class class) ∷ []
+written r place (jop.New class) = Named card.new (keys.Class class) ∷ []
 written r place (jop.NewArray kind) = NewArray (element_number kind) ∷ []
-written r place (jop.ANewArray class) = Named 0x91 (keys.Class class) ∷ []
-written r place jop.ArrayLength = Op 0x92 ∷ []
-written r place jop.Throw = Op 0x93 ∷ []
-written r place (jop.CheckCast class) = type_test 0x94 (shape_named class)
-written r place (jop.InstanceOf class) = type_test 0x95 (shape_named class)
+written r place (jop.ANewArray class) = Named card.anewarray (keys.Class class) ∷ []
+written r place jop.ArrayLength = Op card.arraylength ∷ []
+written r place jop.Throw = Op card.athrow ∷ []
+written r place (jop.CheckCast class) = type_test card.checkcast (shape_named class)
+written r place (jop.InstanceOf class) = type_test card.instanceof (shape_named class)
 
 -- ---- a method
 
@@ -242,10 +244,10 @@ widest (jop.Load refs l) = 2
 widest (jop.Store refs l) = 2
 widest (jop.ArrayLoad op) = 1
 widest (jop.ArrayStore op) = 1
-widest (jop.Stack op) = if nat_le op 0x59 then 1 else (if op == 0x5C then 1 else 2)
+widest (jop.Stack op) = if nat_le op jvm.dup then 1 else (if op == jvm.dup2 then 1 else 2)
 widest (jop.Arith op) = 1
 widest (jop.Inc l by) = 4
-widest (jop.Narrow op) = if op == 0x91 then 1 else 0
+widest (jop.Narrow op) = if op == jvm.i2b then 1 else 0
 widest (jop.If op target) = 3
 widest (jop.Goto target) = 3
 widest (jop.TableSwitch other low targets) = 7 + 2 * length targets
@@ -253,7 +255,7 @@ widest (jop.LookupSwitch other cases) = 5 + 4 * length cases
 widest (jop.Return op) = 1
 widest (jop.Static put f) = 3
 widest (jop.Field put f) = 3
-widest (jop.Call op m) = if op == 0xB9 then 5 else 3
+widest (jop.Call op m) = if op == jvm.invokeinterface then 5 else 3
 widest (jop.New class) = 3
 widest (jop.NewArray kind) = 3
 widest (jop.ANewArray class) = 3

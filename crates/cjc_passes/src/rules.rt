@@ -14,7 +14,7 @@ ghost use Rattle.cjc_range_flow.specs.Values.{is_boolean_array};
 ghost use Rattle.cjc_passes.specs.Working.Search.{arguments_rule as arguments_rule_of, arithmetic_rule as arithmetic_rule_of, comparison_rule as comparison_rule_of, element_rule as element_rule_of, kind_rule as kind_rule_of, lower as lower_of, lowest_rule as lowest_rule_of, part_rule, put_rule as put_rule_of, tested as tested_by};
 
 use cjc_bytes::{Bytes, Kind, MemberId};
-use cjc_code::JOp;
+use cjc_code::{JOp, jvm};
 use cjc_flow::Ranges;
 use cjc_range::Interval;
 use cjc_types::{Cell, Operands, parsed};
@@ -100,7 +100,7 @@ fn tests_references(opcode: u8) -> bool
     ensures { result ≡ tests_references_by opcode }
 {
     match opcode {
-        0xA5 | 0xA6 | 0xC6 | 0xC7 => true,
+        jvm::IF_ACMPEQ | jvm::IF_ACMPNE | jvm::IFNULL | jvm::IFNONNULL => true,
         _ => false,
     }
 }
@@ -108,7 +108,7 @@ fn tests_references(opcode: u8) -> bool
 fn compares(opcode: u8) -> bool
     ensures { result ≡ compares_by opcode }
 {
-    0x9F <= opcode && opcode <= 0xA6
+    jvm::IF_ICMPEQ <= opcode && opcode <= jvm::IF_ACMPNE
 }
 
 /// 601: a comparison of numbers.
@@ -129,13 +129,13 @@ fn comparison_rule(opcode: u8, before: &Ranges) -> Option<u16>
 fn divides(opcode: u8) -> bool
     ensures { result ≡ divides_by opcode }
 {
-    opcode == 0x6C || opcode == 0x70
+    opcode == jvm::IDIV || opcode == jvm::IREM
 }
 
 fn shifts_right(opcode: u8) -> bool
     ensures { result ≡ shifts_right_by opcode }
 {
-    opcode == 0x7A || opcode == 0x7C
+    opcode == jvm::ISHR || opcode == jvm::IUSHR
 }
 
 fn division_rule(opcode: u8, before: &Ranges) -> Option<u16>
@@ -202,7 +202,9 @@ fn element_rule(opcode: u8, types: &Operands, interval: Interval) -> Option<u16>
     ensures { result ≡ element_rule_of opcode (typed_operand types.now 2) interval }
 {
     match types.get(2) {
-        Some(array) if opcode == 0x54 && may_hold_booleans(array) => tested(609, 0, 1, interval),
+        Some(array) if opcode == jvm::BASTORE && may_hold_booleans(array) => tested(
+            609, 0, 1, interval,
+        ),
         _ => None,
     }
 }

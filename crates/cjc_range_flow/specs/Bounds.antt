@@ -8,6 +8,7 @@ use Rattle.cjc_range.specs.Span.{Span, span, byte_range, short_range}
 use Rattle.cjc_code.specs.declared.insn.JCase.{JCase}
 use Rattle.cjc_code.specs.declared.insn.JOp.{JOp}
 use Rattle.cjc_code.specs.declared.insn.JOp.TheVariants as jop
+use Rattle.cjc_code.specs.Jvm as jvm
 use Rattle.cjc_types.specs.declared.cell.Cell.{Cell}
 use Rattle.cjc_types.specs.declared.cell.Cell.TheVariants.{Number, Refs, Unusable}
 use Rattle.cjc_types.specs.Types.{parts}
@@ -22,11 +23,11 @@ index_range = span (negsuc 32768) (pos 65535)
 
 -- idiv and irem
 abbrev pub divides : (opcode : ℕ) → Bool
-divides opcode = (opcode == 0x6C) || (opcode == 0x70)
+divides opcode = (opcode == jvm.idiv) || (opcode == jvm.irem)
 
 -- ishr and iushr
 abbrev pub shifts_right : (opcode : ℕ) → Bool
-shifts_right opcode = (opcode == 0x7A) || (opcode == 0x7C)
+shifts_right opcode = (opcode == jvm.ishr) || (opcode == jvm.iushr)
 
 -- a cell that may be an array of booleans
 abbrev pub may_hold_booleans : Cell → Bool
@@ -59,4 +60,4 @@ pub data Bounds (b : Body) : JOp → (types : List Cell) → (rule k : ℕ) → 
   a_field : {types : List Cell} {field : MemberId} {rule : ℕ} {s : Span} → IsBoundOf (parts field.desc).result rule s → Bounds b (jop.Field true field) types rule 0 s
   an_argument : {types : List Cell} {opcode k : ℕ} {id : MemberId} {rule : ℕ} {s : Span} → k < length (parts id.desc).params → IsBoundOf (parameter id k) rule s → Bounds b (jop.Call opcode id) types rule k s
   a_result : {types : List Cell} {opcode rule : ℕ} {s : Span} → IsBoundOf (parts b.desc).result rule s → Bounds b (jop.Return opcode) types rule 0 s
-  a_boolean_element : {types : List Cell} → may_hold_booleans (operand types 2) ≡ true → Bounds b (jop.ArrayStore 0x54) types 609 0 boolean_range
+  a_boolean_element : {types : List Cell} → may_hold_booleans (operand types 2) ≡ true → Bounds b (jop.ArrayStore jvm.bastore) types 609 0 boolean_range

@@ -6,6 +6,7 @@ use Rattle.cjc_range.specs.Span.{Span, full}
 use Rattle.cjc_range.specs.Rows.{add_row, sub_row, mul_row, neg_row, div_row, rem_row, shl_row, shr_row, ushr_row, and_row, or_row, to_byte_row, to_short_row}
 use Rattle.cjc_code.specs.declared.insn.JOp.{JOp}
 use Rattle.cjc_code.specs.declared.insn.JOp.TheVariants as jop
+use Rattle.cjc_code.specs.Jvm as jvm
 use Rattle.cjc_types.specs.declared.cell.Cell.{Cell}
 use Rattle.cjc_types.specs.Types.{parts}
 use Rattle.cjc_types.specs.Steps.{takes, shuffled}
@@ -22,26 +23,26 @@ operand cells k = get_or cells k full
 -- arithmetic, shifts and logic of two operands
 abbrev pub two_operands : (opcode : ℕ) → (left right : Span) → Span
 two_operands opcode s t =
-    if opcode == 0x60 then add_row s t
-    else if opcode == 0x64 then sub_row s t
-    else if opcode == 0x68 then mul_row s t
-    else if opcode == 0x6C then div_row s t
-    else if opcode == 0x70 then rem_row s t
-    else if opcode == 0x78 then shl_row s t
-    else if opcode == 0x7A then shr_row s t
-    else if opcode == 0x7C then ushr_row s t
-    else if opcode == 0x7E then and_row s t
-    else if opcode == 0x80 then or_row s t
-    else if opcode == 0x82 then or_row s t
+    if opcode == jvm.iadd then add_row s t
+    else if opcode == jvm.isub then sub_row s t
+    else if opcode == jvm.imul then mul_row s t
+    else if opcode == jvm.idiv then div_row s t
+    else if opcode == jvm.irem then rem_row s t
+    else if opcode == jvm.ishl then shl_row s t
+    else if opcode == jvm.ishr then shr_row s t
+    else if opcode == jvm.iushr then ushr_row s t
+    else if opcode == jvm.iand then and_row s t
+    else if opcode == jvm.ior then or_row s t
+    else if opcode == jvm.ixor then or_row s t
     else full
 
 -- ineg has one operand
 abbrev pub arithmetic : (opcode : ℕ) → (stack : List Span) → Span
-arithmetic opcode s = if opcode == 0x74 then neg_row (operand s 0) else two_operands opcode (operand s 1) (operand s 0)
+arithmetic opcode s = if opcode == jvm.ineg then neg_row (operand s 0) else two_operands opcode (operand s 1) (operand s 0)
 
 -- i2b and i2s
 abbrev pub narrowed : (opcode : ℕ) → Span → Span
-narrowed opcode s = if opcode == 0x91 then to_byte_row s else to_short_row s
+narrowed opcode s = if opcode == jvm.i2b then to_byte_row s else to_short_row s
 
 -- iload gives the number of the local
 abbrev pub loaded : (refs : Bool) → Span → Span

@@ -10,6 +10,7 @@ use Rattle.cjc_types.specs.declared.cell.Cell.{Cell}
 use Rattle.cjc_types.specs.declared.cell.Cell.TheVariants.{Number, Refs, Unusable}
 use Rattle.cjc_types.specs.Types.{is_void}
 use Rattle.cjc_types.specs.Rules.{is_array_by}
+use Rattle.cjc_code.specs.Jvm as jvm
 
 -- the numbers of a boolean
 abbrev pub boolean_range : Span
@@ -54,6 +55,6 @@ byte_element_range Unusable = full
 -- what an array load by this opcode gives, from an array of these types: baload, saload; of the others full
 abbrev pub element_range : (opcode : ℕ) → (types : Cell) → Span
 element_range opcode types =
-    if opcode == 0x33 then byte_element_range types
-    else if opcode == 0x35 then short_range
+    if opcode == jvm.baload then byte_element_range types
+    else if opcode == jvm.saload then short_range
     else full

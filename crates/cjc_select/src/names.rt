@@ -1,6 +1,7 @@
 //! What is written for instructions that name a field or a method, by the look-ups of the world. Knows no label.
 
 ghost use Rattle.std.specs.Prelude.{◌≡◌, ◌++◌, ◌∷◌, [], IfOk, OnOk};
+ghost use Rattle.cjc_code.specs.Jvm as jvm;
 ghost use Rattle.cjc_ncode.specs.declared.narrow.NInsn.TheVariants.{Named};
 ghost use Rattle.cjc_ncode.specs.declared.narrow.PoolKey.TheVariants as keys;
 ghost use Rattle.cjc_ncode.specs.Written.{call_by, called, field_access, nargs_of, static_by};
@@ -10,6 +11,8 @@ ghost use Rattle.cjc_written.specs.Operands.{IsByte};
 ghost use Rattle.cjc_select.specs.Working.Names.{is_one_byte, resolution_of};
 
 use cjc_bytes::{MemberId, NoMemory, Row};
+use cjc_capread::card;
+use cjc_code::jvm;
 use cjc_keys::Numbers;
 use cjc_narrow::{constant_named, resolved_field, resolved_method, special_key, virtual_method};
 use cjc_ncode::{NInsn, PoolKey};
@@ -106,17 +109,26 @@ fn called(
 {
     let world = names.world;
     match op {
-        0xB6 => {
+        jvm::INVOKEVIRTUAL => {
             let key = PoolKey::Virtual(virtual_method(alloc, world, method)?);
-            Ok(NInsn::Named { op: 0x8B, key })
+            Ok(NInsn::Named {
+                op: card::INVOKEVIRTUAL,
+                key,
+            })
         }
-        0xB7 => {
+        jvm::INVOKESPECIAL => {
             let key = special_key(alloc, world, names.holder, method)?;
-            Ok(NInsn::Named { op: 0x8C, key })
+            Ok(NInsn::Named {
+                op: card::INVOKESPECIAL,
+                key,
+            })
         }
         _ => {
             let key = PoolKey::StaticMethod(resolved_method(alloc, world, method)?);
-            Ok(NInsn::Named { op: 0x8D, key })
+            Ok(NInsn::Named {
+                op: card::INVOKESTATIC,
+                key,
+            })
         }
     }
 }
@@ -130,10 +142,10 @@ pub(crate) fn put_call(
     op: u8,
     method: &MemberId,
 ) -> Result<(), NoMemory>
-    requires { op ≡ 0xB9 → IsByte (nargs_of method.now) }
+    requires { op ≡ jvm.invokeinterface → IsByte (nargs_of method.now) }
     ensures { OnOk result (out.new ≡ out.old ++ call_by (resolution_of names.now) op method.now) }
 {
-    if op == 0xB9 {
+    if op == jvm::INVOKEINTERFACE {
         let nargs = words_by(method.desc.items())? as u8;
         let method = resolved_method(alloc, names.world, method)?;
         return out.push(NInsn::Interface { nargs, method });

@@ -7,6 +7,7 @@ use Rattle.cjc_capread.specs.declared.tree.PoolEntry.{PoolEntry}
 use Rattle.cjc_capread.specs.declared.tree.PoolEntry.TheVariants.{Classref, InstanceFieldref, VirtualMethodref, SuperMethodref, StaticFieldref, StaticMethodref}
 use Rattle.cjc_capread.specs.Opcodes.{Operand, Index1, Index2, Form, Fields, Table, Lookup, form, info}
 use Rattle.cjc_capread.specs.Decode.{Instruction}
+use Rattle.cjc_capread.specs.Card as card
 use Rattle.cjc_sentences.specs.Spots.{Spot, in_info, unless, Placed, begins, lies_between}
 use Rattle.cjc_sentences.specs.Complete.{Complete}
 use Rattle.cjc_sentences.specs.Codes.{Code, codes}
@@ -31,7 +32,7 @@ switch_offsets _ i = []
 
 -- ifeq to goto, jsr, and ifeq_w to goto_w
 abbrev pub is_jump : (opcode : ℕ) → Bool
-is_jump op = lies_between 0x60 0x71 op || lies_between 0x98 0xA8 op
+is_jump op = lies_between card.ifeq card.jsr op || lies_between card.ifeq_w card.goto_w op
 
 -- how far an instruction may jump, in bytes from its opcode
 abbrev pub jumps : Instruction → List ℤ
@@ -51,7 +52,7 @@ jumps_land code p = list_all (lands code p.at) (jumps p.item)
 
 -- what stands behind an instruction is not run after it: goto, jsr, ret, the switches and returns, athrow, goto_w, impdep1, impdep2
 abbrev pub ends_code : (opcode : ℕ) → Bool
-ends_code op = lies_between 0x70 0x7A op || op == 0x93 || op == 0xA8 || lies_between 0xFE 0xFF op
+ends_code op = lies_between card.goto card.return op || op == card.athrow || op == card.goto_w || lies_between card.impdep1 card.impdep2 op
 
 -- of instructions from one on: a jump that doesn't land, and the last one where it falls off
 unfoldable pub in_code : Code → List (Placed Instruction) → List Spot
@@ -96,7 +97,7 @@ is_type_of_numbers _ = false
 
 -- checkcast and instanceof of such an array, which name no class
 abbrev pub names_no_class : Instruction → Bool
-names_no_class i = lies_between 0x94 0x95 i.opcode && is_type_of_numbers i.operands
+names_no_class i = lies_between card.checkcast card.instanceof i.opcode && is_type_of_numbers i.operands
 
 -- an instruction's index with its place behind the opcode, if it has one
 abbrev pub index_in : Placed Instruction → OpInfo → Option ℕ → List IndexOperand
@@ -119,17 +120,17 @@ all_indices c = flat_map (λ code. flat_map indices code.instructions) (codes c)
 -- the opcodes that need an entry of this tag
 abbrev pub is_needed_by : PoolEntry → (opcode : ℕ) → Bool
 -- invokeinterface, new, anewarray, checkcast, instanceof
-is_needed_by (Classref class) op = op == 0x8E || op == 0x8F || op == 0x91 || op == 0x94 || op == 0x95
+is_needed_by (Classref class) op = op == card.invokeinterface || op == card.new || op == card.anewarray || op == card.checkcast || op == card.instanceof
 -- getfield and putfield with the forms of wide index and of this
-is_needed_by (InstanceFieldref class token) op = lies_between 0x83 0x8A op || lies_between 0xA9 0xB8 op
+is_needed_by (InstanceFieldref class token) op = lies_between card.getfield_a card.putfield_i op || lies_between card.getfield_a_w card.putfield_i_this op
 -- invokevirtual
-is_needed_by (VirtualMethodref class token) op = op == 0x8B
+is_needed_by (VirtualMethodref class token) op = op == card.invokevirtual
 -- invokespecial
-is_needed_by (SuperMethodref class token) op = op == 0x8C
+is_needed_by (SuperMethodref class token) op = op == card.invokespecial
 -- getstatic and putstatic
-is_needed_by (StaticFieldref member) op = lies_between 0x7B 0x82 op
+is_needed_by (StaticFieldref member) op = lies_between card.getstatic_a card.putstatic_i op
 -- invokespecial, invokestatic
-is_needed_by (StaticMethodref member) op = op == 0x8C || op == 0x8D
+is_needed_by (StaticMethodref member) op = op == card.invokespecial || op == card.invokestatic
 
 -- a pool entry is there and has a tag that the opcode needs
 abbrev pub is_entry_for : Option PoolEntry → (opcode : ℕ) → Bool

@@ -2,6 +2,7 @@
 use Rattle.std.specs.Prelude.{◌≡◌, ℕ, List, [], ◌∷◌, Option, true, false}
 use Rattle.cjc_bytes.specs.declared.fault.MemberId.{MemberId}
 use Rattle.cjc_code.specs.declared.insn.JOp.TheVariants as jop
+use Rattle.cjc_code.specs.Jvm as jvm
 use Rattle.cjc_script.specs.declared.value.Value.{Value}
 use Rattle.cjc_bytecode.specs.Effects as narrow
 use Rattle.cjc_ncode.specs.declared.narrow.NInsn.{NInsn}
@@ -16,11 +17,11 @@ use Rattle.cjc_shrink.specs.Relation.{NMemory}
 -- By the opcode of the call and by what its member stands for: a static method, a constructor or a private method, a method of a
 -- superclass, a virtual method, a method of an interface.
 pub data Names (r : Resolution) : (op : ℕ) → MemberId → Callee → Type 0 where
-  a_static : {id method : MemberId} → r.static id ≡ keys.StaticMethod method → Names r 0xB8 id (Fixed false method)
-  a_direct : {id method : MemberId} → r.special id ≡ keys.StaticMethod method → Names r 0xB7 id (Fixed true method)
-  a_super : {id method : MemberId} → r.special id ≡ keys.Super method → Names r 0xB7 id (OnSuper method)
-  a_virtual : {id method : MemberId} → r.virtual id ≡ keys.Virtual method → Names r 0xB6 id (OnObject method)
-  an_interface : {id : MemberId} → Names r 0xB9 id (OnInterface (nargs_of id) (r.interface id))
+  a_static : {id method : MemberId} → r.static id ≡ keys.StaticMethod method → Names r jvm.invokestatic id (Fixed false method)
+  a_direct : {id method : MemberId} → r.special id ≡ keys.StaticMethod method → Names r jvm.invokespecial id (Fixed true method)
+  a_super : {id method : MemberId} → r.special id ≡ keys.Super method → Names r jvm.invokespecial id (OnSuper method)
+  a_virtual : {id method : MemberId} → r.virtual id ≡ keys.Virtual method → Names r jvm.invokevirtual id (OnObject method)
+  an_interface : {id : MemberId} → Names r jvm.invokeinterface id (OnInterface (nargs_of id) (r.interface id))
 
 -- both call, whatever frames they stand in
 pub record Invokes (by : Linked) (l : Named) (m : Method) (op : ℕ) (id : MemberId) (named : Callee) (insn : NInsn) (room at next : ℕ) (vs ws : List Value) (locals words : List (Option Value)) (store : Store) (memory : NMemory) : Type 0 where

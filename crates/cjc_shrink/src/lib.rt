@@ -9,6 +9,7 @@ ghost use Rattle.cjc_bytes.specs.declared.fault.MemberId.{MemberId};
 ghost use Rattle.cjc_range.specs.Span.{Span, span, Holds, Within, IsWord, short_range};
 ghost use Rattle.cjc_range.specs.Rows.{add_row, sub_row, mul_row, neg_row, div_row, rem_row, shl_row, shr_row, ushr_row, and_row, or_row, to_byte_row, to_short_row};
 ghost use Rattle.cjc_classfile.specs.declared.tree.Catch.{Catch};
+ghost use Rattle.cjc_code.specs.Jvm as jvm;
 ghost use Rattle.cjc_code.specs.declared.insn.JCase.{JCase};
 ghost use Rattle.cjc_code.specs.declared.insn.JInsn.{JInsn};
 ghost use Rattle.cjc_code.specs.declared.insn.JOp.TheVariants as jop;
@@ -55,19 +56,19 @@ ghost use Rattle.cjc_shrink.specs.Calls.{NFrame, NState, Frames, CallAgrees, IsS
 /// their numbers, and each result lies in the interval that its row gives. A quotient, a remainder and a number
 /// that is shifted to the right are so where the operands have 16 bits; a zero divisor raises.
 pub fn arithmetic_agrees()
-    ensures iadd { (by : Linked) (l : Named) (r : Resolution) (m : Method) (s t : Span) → RowAgrees by l r m (jop.Arith 0x60) (Range t ∷ Range s ∷ []) (Range (add_row s t) ∷ []) }
-    ensures isub { (by : Linked) (l : Named) (r : Resolution) (m : Method) (s t : Span) → RowAgrees by l r m (jop.Arith 0x64) (Range t ∷ Range s ∷ []) (Range (sub_row s t) ∷ []) }
-    ensures imul { (by : Linked) (l : Named) (r : Resolution) (m : Method) (s t : Span) → RowAgrees by l r m (jop.Arith 0x68) (Range t ∷ Range s ∷ []) (Range (mul_row s t) ∷ []) }
-    ensures ishl { (by : Linked) (l : Named) (r : Resolution) (m : Method) (s t : Span) → IsWord t → RowAgrees by l r m (jop.Arith 0x78) (Range t ∷ Range s ∷ []) (Range (shl_row s t) ∷ []) }
-    ensures iand { (by : Linked) (l : Named) (r : Resolution) (m : Method) (s t : Span) → IsWord s → IsWord t → RowAgrees by l r m (jop.Arith 0x7E) (Range t ∷ Range s ∷ []) (Range (and_row s t) ∷ []) }
-    ensures ior { (by : Linked) (l : Named) (r : Resolution) (m : Method) (s t : Span) → IsWord s → IsWord t → RowAgrees by l r m (jop.Arith 0x80) (Range t ∷ Range s ∷ []) (Range (or_row s t) ∷ []) }
-    ensures ixor { (by : Linked) (l : Named) (r : Resolution) (m : Method) (s t : Span) → IsWord s → IsWord t → RowAgrees by l r m (jop.Arith 0x82) (Range t ∷ Range s ∷ []) (Range (or_row s t) ∷ []) }
-    ensures idiv { (by : Linked) (l : Named) (r : Resolution) (m : Method) (s t : Span) → Within s short_range → Within t short_range → RowAgrees by l r m (jop.Arith 0x6C) (Range t ∷ Range s ∷ []) (Range (div_row s t) ∷ []) }
-    ensures irem { (by : Linked) (l : Named) (r : Resolution) (m : Method) (s t : Span) → IsWord s → IsWord t → Within s short_range → Within t short_range → RowAgrees by l r m (jop.Arith 0x70) (Range t ∷ Range s ∷ []) (Range (rem_row s t) ∷ []) }
-    ensures ishr { (by : Linked) (l : Named) (r : Resolution) (m : Method) (s t : Span) → IsWord s → IsWord t → Within s short_range → RowAgrees by l r m (jop.Arith 0x7A) (Range t ∷ Range s ∷ []) (Range (shr_row s t) ∷ []) }
-    ensures iushr { (by : Linked) (l : Named) (r : Resolution) (m : Method) (s t : Span) → IsWord s → IsWord t → Within s short_range → RowAgrees by l r m (jop.Arith 0x7C) (Range t ∷ Range s ∷ []) (Range (ushr_row s t) ∷ []) }
-    ensures i2b { (by : Linked) (l : Named) (r : Resolution) (m : Method) (s : Span) → RowAgrees by l r m (jop.Narrow 0x91) (Range s ∷ []) (Range (to_byte_row s) ∷ []) }
-    ensures ineg { (by : Linked) (l : Named) (r : Resolution) (m : Method) (s : Span) → RowAgrees by l r m (jop.Arith 0x74) (Range s ∷ []) (Range (neg_row s) ∷ []) }
+    ensures iadd { (by : Linked) (l : Named) (r : Resolution) (m : Method) (s t : Span) → RowAgrees by l r m (jop.Arith jvm.iadd) (Range t ∷ Range s ∷ []) (Range (add_row s t) ∷ []) }
+    ensures isub { (by : Linked) (l : Named) (r : Resolution) (m : Method) (s t : Span) → RowAgrees by l r m (jop.Arith jvm.isub) (Range t ∷ Range s ∷ []) (Range (sub_row s t) ∷ []) }
+    ensures imul { (by : Linked) (l : Named) (r : Resolution) (m : Method) (s t : Span) → RowAgrees by l r m (jop.Arith jvm.imul) (Range t ∷ Range s ∷ []) (Range (mul_row s t) ∷ []) }
+    ensures ishl { (by : Linked) (l : Named) (r : Resolution) (m : Method) (s t : Span) → IsWord t → RowAgrees by l r m (jop.Arith jvm.ishl) (Range t ∷ Range s ∷ []) (Range (shl_row s t) ∷ []) }
+    ensures iand { (by : Linked) (l : Named) (r : Resolution) (m : Method) (s t : Span) → IsWord s → IsWord t → RowAgrees by l r m (jop.Arith jvm.iand) (Range t ∷ Range s ∷ []) (Range (and_row s t) ∷ []) }
+    ensures ior { (by : Linked) (l : Named) (r : Resolution) (m : Method) (s t : Span) → IsWord s → IsWord t → RowAgrees by l r m (jop.Arith jvm.ior) (Range t ∷ Range s ∷ []) (Range (or_row s t) ∷ []) }
+    ensures ixor { (by : Linked) (l : Named) (r : Resolution) (m : Method) (s t : Span) → IsWord s → IsWord t → RowAgrees by l r m (jop.Arith jvm.ixor) (Range t ∷ Range s ∷ []) (Range (or_row s t) ∷ []) }
+    ensures idiv { (by : Linked) (l : Named) (r : Resolution) (m : Method) (s t : Span) → Within s short_range → Within t short_range → RowAgrees by l r m (jop.Arith jvm.idiv) (Range t ∷ Range s ∷ []) (Range (div_row s t) ∷ []) }
+    ensures irem { (by : Linked) (l : Named) (r : Resolution) (m : Method) (s t : Span) → IsWord s → IsWord t → Within s short_range → Within t short_range → RowAgrees by l r m (jop.Arith jvm.irem) (Range t ∷ Range s ∷ []) (Range (rem_row s t) ∷ []) }
+    ensures ishr { (by : Linked) (l : Named) (r : Resolution) (m : Method) (s t : Span) → IsWord s → IsWord t → Within s short_range → RowAgrees by l r m (jop.Arith jvm.ishr) (Range t ∷ Range s ∷ []) (Range (shr_row s t) ∷ []) }
+    ensures iushr { (by : Linked) (l : Named) (r : Resolution) (m : Method) (s t : Span) → IsWord s → IsWord t → Within s short_range → RowAgrees by l r m (jop.Arith jvm.iushr) (Range t ∷ Range s ∷ []) (Range (ushr_row s t) ∷ []) }
+    ensures i2b { (by : Linked) (l : Named) (r : Resolution) (m : Method) (s : Span) → RowAgrees by l r m (jop.Narrow jvm.i2b) (Range s ∷ []) (Range (to_byte_row s) ∷ []) }
+    ensures ineg { (by : Linked) (l : Named) (r : Resolution) (m : Method) (s : Span) → RowAgrees by l r m (jop.Arith jvm.ineg) (Range s ∷ []) (Range (neg_row s) ∷ []) }
 {}
 
 /// Null, a number and a local are pushed alike: of a number its low word.
@@ -80,25 +81,25 @@ pub fn pushes_agree()
 
 /// Cells that are on both stacks are copied alike.
 pub fn copies_agree()
-    ensures dup { (by : Linked) (l : Named) (r : Resolution) (m : Method) (a : Kind) → OnBoth (a ∷ []) → RowAgrees by l r m (jop.Stack 0x59) (a ∷ []) (a ∷ a ∷ []) }
-    ensures dup_x1 { (by : Linked) (l : Named) (r : Resolution) (m : Method) (a b : Kind) → OnBoth (a ∷ b ∷ []) → RowAgrees by l r m (jop.Stack 0x5A) (a ∷ b ∷ []) (a ∷ b ∷ a ∷ []) }
-    ensures dup_x2 { (by : Linked) (l : Named) (r : Resolution) (m : Method) (a b c : Kind) → OnBoth (a ∷ b ∷ c ∷ []) → RowAgrees by l r m (jop.Stack 0x5B) (a ∷ b ∷ c ∷ []) (a ∷ b ∷ c ∷ a ∷ []) }
-    ensures dup2 { (by : Linked) (l : Named) (r : Resolution) (m : Method) (a b : Kind) → OnBoth (a ∷ b ∷ []) → RowAgrees by l r m (jop.Stack 0x5C) (a ∷ b ∷ []) (a ∷ b ∷ a ∷ b ∷ []) }
-    ensures dup2_x1 { (by : Linked) (l : Named) (r : Resolution) (m : Method) (a b c : Kind) → OnBoth (a ∷ b ∷ c ∷ []) → RowAgrees by l r m (jop.Stack 0x5D) (a ∷ b ∷ c ∷ []) (a ∷ b ∷ c ∷ a ∷ b ∷ []) }
-    ensures dup2_x2 { (by : Linked) (l : Named) (r : Resolution) (m : Method) (a b c d : Kind) → OnBoth (a ∷ b ∷ c ∷ d ∷ []) → RowAgrees by l r m (jop.Stack 0x5E) (a ∷ b ∷ c ∷ d ∷ []) (a ∷ b ∷ c ∷ d ∷ a ∷ b ∷ []) }
+    ensures dup { (by : Linked) (l : Named) (r : Resolution) (m : Method) (a : Kind) → OnBoth (a ∷ []) → RowAgrees by l r m (jop.Stack jvm.dup) (a ∷ []) (a ∷ a ∷ []) }
+    ensures dup_x1 { (by : Linked) (l : Named) (r : Resolution) (m : Method) (a b : Kind) → OnBoth (a ∷ b ∷ []) → RowAgrees by l r m (jop.Stack jvm.dup_x1) (a ∷ b ∷ []) (a ∷ b ∷ a ∷ []) }
+    ensures dup_x2 { (by : Linked) (l : Named) (r : Resolution) (m : Method) (a b c : Kind) → OnBoth (a ∷ b ∷ c ∷ []) → RowAgrees by l r m (jop.Stack jvm.dup_x2) (a ∷ b ∷ c ∷ []) (a ∷ b ∷ c ∷ a ∷ []) }
+    ensures dup2 { (by : Linked) (l : Named) (r : Resolution) (m : Method) (a b : Kind) → OnBoth (a ∷ b ∷ []) → RowAgrees by l r m (jop.Stack jvm.dup2) (a ∷ b ∷ []) (a ∷ b ∷ a ∷ b ∷ []) }
+    ensures dup2_x1 { (by : Linked) (l : Named) (r : Resolution) (m : Method) (a b c : Kind) → OnBoth (a ∷ b ∷ c ∷ []) → RowAgrees by l r m (jop.Stack jvm.dup2_x1) (a ∷ b ∷ c ∷ []) (a ∷ b ∷ c ∷ a ∷ b ∷ []) }
+    ensures dup2_x2 { (by : Linked) (l : Named) (r : Resolution) (m : Method) (a b c d : Kind) → OnBoth (a ∷ b ∷ c ∷ d ∷ []) → RowAgrees by l r m (jop.Stack jvm.dup2_x2) (a ∷ b ∷ c ∷ d ∷ []) (a ∷ b ∷ c ∷ d ∷ a ∷ b ∷ []) }
 {}
 
 /// Cells that are on both stacks are dropped and exchanged alike.
 pub fn drops_agree()
-    ensures pop { (by : Linked) (l : Named) (r : Resolution) (m : Method) (a : Kind) → OnBoth (a ∷ []) → RowAgrees by l r m (jop.Stack 0x57) (a ∷ []) [] }
-    ensures pop2 { (by : Linked) (l : Named) (r : Resolution) (m : Method) (a b : Kind) → OnBoth (a ∷ b ∷ []) → RowAgrees by l r m (jop.Stack 0x58) (a ∷ b ∷ []) [] }
-    ensures swap { (by : Linked) (l : Named) (r : Resolution) (m : Method) (a b : Kind) → OnBoth (a ∷ b ∷ []) → RowAgrees by l r m (jop.Stack 0x5F) (a ∷ b ∷ []) (b ∷ a ∷ []) }
+    ensures pop { (by : Linked) (l : Named) (r : Resolution) (m : Method) (a : Kind) → OnBoth (a ∷ []) → RowAgrees by l r m (jop.Stack jvm.pop) (a ∷ []) [] }
+    ensures pop2 { (by : Linked) (l : Named) (r : Resolution) (m : Method) (a b : Kind) → OnBoth (a ∷ b ∷ []) → RowAgrees by l r m (jop.Stack jvm.pop2) (a ∷ b ∷ []) [] }
+    ensures swap { (by : Linked) (l : Named) (r : Resolution) (m : Method) (a b : Kind) → OnBoth (a ∷ b ∷ []) → RowAgrees by l r m (jop.Stack jvm.swap) (a ∷ b ∷ []) (b ∷ a ∷ []) }
 {}
 
 /// Nothing is written for nop and i2s, and no word changes: what i2s leaves of a number has the number's low word.
 pub fn nothing_changes_no_word()
     ensures nop { (by : Linked) (r : Resolution) (m : Method) → IsNotWritten by r m jop.Nop [] [] }
-    ensures i2s { (by : Linked) (r : Resolution) (m : Method) (s : Span) → IsNotWritten by r m (jop.Narrow 0x93) (Range s ∷ []) (Range (to_short_row s) ∷ []) }
+    ensures i2s { (by : Linked) (r : Resolution) (m : Method) (s : Span) → IsNotWritten by r m (jop.Narrow jvm.i2s) (Range s ∷ []) (Range (to_short_row s) ∷ []) }
 {}
 
 /// A local is written alike, and increased by a number of 16 bits.
@@ -118,12 +119,12 @@ pub fn references_are_met_alike()
 /// index outside and a reference that the array's class does not have raise. A byte or boolean keeps eight bits
 /// of a number and a short sixteen; a number that is put into an array that may be one of booleans is 0 or 1.
 pub fn elements_are_met_alike()
-    ensures baload { (by : Linked) (l : Named) (r : Resolution) (m : Method) (i t : Span) (within : Shape (List ℕ) → Bool) → Within i index_range → AreAll l IsBytes within → ElementsLie within t → RowAgrees by l r m (jop.ArrayLoad 0x33) (Range i ∷ Refers within ∷ []) (Range t ∷ []) }
-    ensures saload { (by : Linked) (l : Named) (r : Resolution) (m : Method) (i t : Span) (within : Shape (List ℕ) → Bool) → Within i index_range → AreAll l IsShorts within → ElementsLie within t → RowAgrees by l r m (jop.ArrayLoad 0x35) (Range i ∷ Refers within ∷ []) (Range t ∷ []) }
-    ensures aaload { (by : Linked) (l : Named) (r : Resolution) (m : Method) (i : Span) (within items : Shape (List ℕ) → Bool) → Within i index_range → AreAll l IsReferences within → ItemsPass l within items → RowAgrees by l r m (jop.ArrayLoad 0x32) (Range i ∷ Refers within ∷ []) (Refers items ∷ []) }
-    ensures bastore { (by : Linked) (l : Named) (r : Resolution) (m : Method) (i s : Span) (within : Shape (List ℕ) → Bool) → Within i index_range → AreAll l IsBytes within → (within (OfNumbers Booleans) ≡ true → Within s boolean_range) → RowAgrees by l r m (jop.ArrayStore 0x54) (Range s ∷ Range i ∷ Refers within ∷ []) [] }
-    ensures sastore { (by : Linked) (l : Named) (r : Resolution) (m : Method) (i s : Span) (within : Shape (List ℕ) → Bool) → Within i index_range → AreAll l IsShorts within → RowAgrees by l r m (jop.ArrayStore 0x56) (Range s ∷ Range i ∷ Refers within ∷ []) [] }
-    ensures aastore { (by : Linked) (l : Named) (r : Resolution) (m : Method) (i : Span) (within values : Shape (List ℕ) → Bool) → Within i index_range → AreAll l IsReferences within → KeepsAlike by l m within values → RowAgrees by l r m (jop.ArrayStore 0x53) (Refers values ∷ Range i ∷ Refers within ∷ []) [] }
+    ensures baload { (by : Linked) (l : Named) (r : Resolution) (m : Method) (i t : Span) (within : Shape (List ℕ) → Bool) → Within i index_range → AreAll l IsBytes within → ElementsLie within t → RowAgrees by l r m (jop.ArrayLoad jvm.baload) (Range i ∷ Refers within ∷ []) (Range t ∷ []) }
+    ensures saload { (by : Linked) (l : Named) (r : Resolution) (m : Method) (i t : Span) (within : Shape (List ℕ) → Bool) → Within i index_range → AreAll l IsShorts within → ElementsLie within t → RowAgrees by l r m (jop.ArrayLoad jvm.saload) (Range i ∷ Refers within ∷ []) (Range t ∷ []) }
+    ensures aaload { (by : Linked) (l : Named) (r : Resolution) (m : Method) (i : Span) (within items : Shape (List ℕ) → Bool) → Within i index_range → AreAll l IsReferences within → ItemsPass l within items → RowAgrees by l r m (jop.ArrayLoad jvm.aaload) (Range i ∷ Refers within ∷ []) (Refers items ∷ []) }
+    ensures bastore { (by : Linked) (l : Named) (r : Resolution) (m : Method) (i s : Span) (within : Shape (List ℕ) → Bool) → Within i index_range → AreAll l IsBytes within → (within (OfNumbers Booleans) ≡ true → Within s boolean_range) → RowAgrees by l r m (jop.ArrayStore jvm.bastore) (Range s ∷ Range i ∷ Refers within ∷ []) [] }
+    ensures sastore { (by : Linked) (l : Named) (r : Resolution) (m : Method) (i s : Span) (within : Shape (List ℕ) → Bool) → Within i index_range → AreAll l IsShorts within → RowAgrees by l r m (jop.ArrayStore jvm.sastore) (Range s ∷ Range i ∷ Refers within ∷ []) [] }
+    ensures aastore { (by : Linked) (l : Named) (r : Resolution) (m : Method) (i : Span) (within values : Shape (List ℕ) → Bool) → Within i index_range → AreAll l IsReferences within → KeepsAlike by l m within values → RowAgrees by l r m (jop.ArrayStore jvm.aastore) (Refers values ∷ Range i ∷ Refers within ∷ []) [] }
 {}
 
 /// A field whose values are one word is read alike, on an object of a class that has it: what both heaps hold
@@ -201,22 +202,22 @@ pub fn exceptions_go_out_alike()
 /// a condition reads has 16 bits.
 pub fn jumps_agree()
     ensures goto { (by : Linked) (l : Named) (r : Resolution) (m : Method) (target : ℕ) → JumpAgrees by l r m (jop.Goto target) [] (target ∷ []) }
-    ensures ifeq { (by : Linked) (l : Named) (r : Resolution) (m : Method) (target : ℕ) (s : Span) → Within s short_range → JumpAgrees by l r m (jop.If 0x99 target) (Range s ∷ []) (target ∷ []) }
-    ensures ifne { (by : Linked) (l : Named) (r : Resolution) (m : Method) (target : ℕ) (s : Span) → Within s short_range → JumpAgrees by l r m (jop.If 0x9A target) (Range s ∷ []) (target ∷ []) }
-    ensures iflt { (by : Linked) (l : Named) (r : Resolution) (m : Method) (target : ℕ) (s : Span) → Within s short_range → JumpAgrees by l r m (jop.If 0x9B target) (Range s ∷ []) (target ∷ []) }
-    ensures ifge { (by : Linked) (l : Named) (r : Resolution) (m : Method) (target : ℕ) (s : Span) → Within s short_range → JumpAgrees by l r m (jop.If 0x9C target) (Range s ∷ []) (target ∷ []) }
-    ensures ifgt { (by : Linked) (l : Named) (r : Resolution) (m : Method) (target : ℕ) (s : Span) → Within s short_range → JumpAgrees by l r m (jop.If 0x9D target) (Range s ∷ []) (target ∷ []) }
-    ensures ifle { (by : Linked) (l : Named) (r : Resolution) (m : Method) (target : ℕ) (s : Span) → Within s short_range → JumpAgrees by l r m (jop.If 0x9E target) (Range s ∷ []) (target ∷ []) }
-    ensures if_icmpeq { (by : Linked) (l : Named) (r : Resolution) (m : Method) (target : ℕ) (s t : Span) → Within s short_range → Within t short_range → JumpAgrees by l r m (jop.If 0x9F target) (Range t ∷ Range s ∷ []) (target ∷ []) }
-    ensures if_icmpne { (by : Linked) (l : Named) (r : Resolution) (m : Method) (target : ℕ) (s t : Span) → Within s short_range → Within t short_range → JumpAgrees by l r m (jop.If 0xA0 target) (Range t ∷ Range s ∷ []) (target ∷ []) }
-    ensures if_icmplt { (by : Linked) (l : Named) (r : Resolution) (m : Method) (target : ℕ) (s t : Span) → Within s short_range → Within t short_range → JumpAgrees by l r m (jop.If 0xA1 target) (Range t ∷ Range s ∷ []) (target ∷ []) }
-    ensures if_icmpge { (by : Linked) (l : Named) (r : Resolution) (m : Method) (target : ℕ) (s t : Span) → Within s short_range → Within t short_range → JumpAgrees by l r m (jop.If 0xA2 target) (Range t ∷ Range s ∷ []) (target ∷ []) }
-    ensures if_icmpgt { (by : Linked) (l : Named) (r : Resolution) (m : Method) (target : ℕ) (s t : Span) → Within s short_range → Within t short_range → JumpAgrees by l r m (jop.If 0xA3 target) (Range t ∷ Range s ∷ []) (target ∷ []) }
-    ensures if_icmple { (by : Linked) (l : Named) (r : Resolution) (m : Method) (target : ℕ) (s t : Span) → Within s short_range → Within t short_range → JumpAgrees by l r m (jop.If 0xA4 target) (Range t ∷ Range s ∷ []) (target ∷ []) }
-    ensures if_acmpeq { (by : Linked) (l : Named) (r : Resolution) (m : Method) (target : ℕ) (within below : Shape (List ℕ) → Bool) → JumpAgrees by l r m (jop.If 0xA5 target) (Refers within ∷ Refers below ∷ []) (target ∷ []) }
-    ensures if_acmpne { (by : Linked) (l : Named) (r : Resolution) (m : Method) (target : ℕ) (within below : Shape (List ℕ) → Bool) → JumpAgrees by l r m (jop.If 0xA6 target) (Refers within ∷ Refers below ∷ []) (target ∷ []) }
-    ensures ifnull { (by : Linked) (l : Named) (r : Resolution) (m : Method) (target : ℕ) (within : Shape (List ℕ) → Bool) → JumpAgrees by l r m (jop.If 0xC6 target) (Refers within ∷ []) (target ∷ []) }
-    ensures ifnonnull { (by : Linked) (l : Named) (r : Resolution) (m : Method) (target : ℕ) (within : Shape (List ℕ) → Bool) → JumpAgrees by l r m (jop.If 0xC7 target) (Refers within ∷ []) (target ∷ []) }
+    ensures ifeq { (by : Linked) (l : Named) (r : Resolution) (m : Method) (target : ℕ) (s : Span) → Within s short_range → JumpAgrees by l r m (jop.If jvm.ifeq target) (Range s ∷ []) (target ∷ []) }
+    ensures ifne { (by : Linked) (l : Named) (r : Resolution) (m : Method) (target : ℕ) (s : Span) → Within s short_range → JumpAgrees by l r m (jop.If jvm.ifne target) (Range s ∷ []) (target ∷ []) }
+    ensures iflt { (by : Linked) (l : Named) (r : Resolution) (m : Method) (target : ℕ) (s : Span) → Within s short_range → JumpAgrees by l r m (jop.If jvm.iflt target) (Range s ∷ []) (target ∷ []) }
+    ensures ifge { (by : Linked) (l : Named) (r : Resolution) (m : Method) (target : ℕ) (s : Span) → Within s short_range → JumpAgrees by l r m (jop.If jvm.ifge target) (Range s ∷ []) (target ∷ []) }
+    ensures ifgt { (by : Linked) (l : Named) (r : Resolution) (m : Method) (target : ℕ) (s : Span) → Within s short_range → JumpAgrees by l r m (jop.If jvm.ifgt target) (Range s ∷ []) (target ∷ []) }
+    ensures ifle { (by : Linked) (l : Named) (r : Resolution) (m : Method) (target : ℕ) (s : Span) → Within s short_range → JumpAgrees by l r m (jop.If jvm.ifle target) (Range s ∷ []) (target ∷ []) }
+    ensures if_icmpeq { (by : Linked) (l : Named) (r : Resolution) (m : Method) (target : ℕ) (s t : Span) → Within s short_range → Within t short_range → JumpAgrees by l r m (jop.If jvm.if_icmpeq target) (Range t ∷ Range s ∷ []) (target ∷ []) }
+    ensures if_icmpne { (by : Linked) (l : Named) (r : Resolution) (m : Method) (target : ℕ) (s t : Span) → Within s short_range → Within t short_range → JumpAgrees by l r m (jop.If jvm.if_icmpne target) (Range t ∷ Range s ∷ []) (target ∷ []) }
+    ensures if_icmplt { (by : Linked) (l : Named) (r : Resolution) (m : Method) (target : ℕ) (s t : Span) → Within s short_range → Within t short_range → JumpAgrees by l r m (jop.If jvm.if_icmplt target) (Range t ∷ Range s ∷ []) (target ∷ []) }
+    ensures if_icmpge { (by : Linked) (l : Named) (r : Resolution) (m : Method) (target : ℕ) (s t : Span) → Within s short_range → Within t short_range → JumpAgrees by l r m (jop.If jvm.if_icmpge target) (Range t ∷ Range s ∷ []) (target ∷ []) }
+    ensures if_icmpgt { (by : Linked) (l : Named) (r : Resolution) (m : Method) (target : ℕ) (s t : Span) → Within s short_range → Within t short_range → JumpAgrees by l r m (jop.If jvm.if_icmpgt target) (Range t ∷ Range s ∷ []) (target ∷ []) }
+    ensures if_icmple { (by : Linked) (l : Named) (r : Resolution) (m : Method) (target : ℕ) (s t : Span) → Within s short_range → Within t short_range → JumpAgrees by l r m (jop.If jvm.if_icmple target) (Range t ∷ Range s ∷ []) (target ∷ []) }
+    ensures if_acmpeq { (by : Linked) (l : Named) (r : Resolution) (m : Method) (target : ℕ) (within below : Shape (List ℕ) → Bool) → JumpAgrees by l r m (jop.If jvm.if_acmpeq target) (Refers within ∷ Refers below ∷ []) (target ∷ []) }
+    ensures if_acmpne { (by : Linked) (l : Named) (r : Resolution) (m : Method) (target : ℕ) (within below : Shape (List ℕ) → Bool) → JumpAgrees by l r m (jop.If jvm.if_acmpne target) (Refers within ∷ Refers below ∷ []) (target ∷ []) }
+    ensures ifnull { (by : Linked) (l : Named) (r : Resolution) (m : Method) (target : ℕ) (within : Shape (List ℕ) → Bool) → JumpAgrees by l r m (jop.If jvm.ifnull target) (Refers within ∷ []) (target ∷ []) }
+    ensures ifnonnull { (by : Linked) (l : Named) (r : Resolution) (m : Method) (target : ℕ) (within : Shape (List ℕ) → Bool) → JumpAgrees by l r m (jop.If jvm.ifnonnull target) (Refers within ∷ []) (target ∷ []) }
 {}
 
 /// A switch by a number of 16 bits leads to one place on both sides. A case outside of 16 bits is left out of
@@ -231,9 +232,9 @@ pub fn switches_agree()
 
 /// A return gives the same reference on both sides, and the low word of the same number.
 pub fn returns_agree()
-    ensures ireturn { (by : Linked) (l : Named) (r : Resolution) (m : Method) (s : Span) → ReturnAgrees by l r m (jop.Return 0xAC) (Range s ∷ []) }
-    ensures areturn { (by : Linked) (l : Named) (r : Resolution) (m : Method) (within : Shape (List ℕ) → Bool) → ReturnAgrees by l r m (jop.Return 0xB0) (Refers within ∷ []) }
-    ensures returns { (by : Linked) (l : Named) (r : Resolution) (m : Method) → ReturnAgrees by l r m (jop.Return 0xB1) [] }
+    ensures ireturn { (by : Linked) (l : Named) (r : Resolution) (m : Method) (s : Span) → ReturnAgrees by l r m (jop.Return jvm.ireturn) (Range s ∷ []) }
+    ensures areturn { (by : Linked) (l : Named) (r : Resolution) (m : Method) (within : Shape (List ℕ) → Bool) → ReturnAgrees by l r m (jop.Return jvm.areturn) (Refers within ∷ []) }
+    ensures returns { (by : Linked) (l : Named) (r : Resolution) (m : Method) → ReturnAgrees by l r m (jop.Return jvm.return) [] }
 {}
 
 /// A result goes to the frames that wait behind the same call, or, where none waits, is noted: a number of 16

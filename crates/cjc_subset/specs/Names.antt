@@ -9,6 +9,7 @@ use Rattle.cjc_code.specs.declared.insn.JInsn.{JInsn}
 use Rattle.cjc_code.specs.declared.insn.JOp.{JOp}
 use Rattle.cjc_code.specs.declared.insn.JOp.TheVariants as jop
 use Rattle.cjc_code.specs.declared.method_code.MethodCode.{MethodCode}
+use Rattle.cjc_code.specs.Jvm as jvm
 use Rattle.cjc_world.specs.declared.found.Found.{Found}
 use Rattle.cjc_world.specs.Access.{is_accessible}
 use Rattle.cjc_world.specs.Classes.{Class, all_classes, class_named}
@@ -118,20 +119,20 @@ is_unfit_super w c id =
 abbrev pub is_unfit_call : (op : ℕ) → (name : List ℕ) → (flags : ℕ) → Bool
 is_unfit_call op name flags =
     -- invokestatic needs a static method, the others one that is not
-    is_other_kind (op == 184) flags
+    is_other_kind (op == jvm.invokestatic) flags
     -- invokevirtual and invokeinterface need one that is not private
-    || (((op == 182) || (op == 185)) && is_private flags)
+    || (((op == jvm.invokevirtual) || (op == jvm.invokeinterface)) && is_private flags)
     || is_initialiser name
     -- an instruction other than invokespecial names a constructor
-    || (not (op == 183) && is_constructor name)
+    || (not (op == jvm.invokespecial) && is_constructor name)
 
 -- the class by which a method is named does not fit the instruction, or invokespecial selects no method with code
 abbrev pub is_unfit_class : List Class → ClassTree → (op : ℕ) → MemberId → Hit → Bool
 is_unfit_class w c op id h =
-    if op == 182 then is_unfit_virtual (class_named w id.class) h
-    else if op == 185 then is_unfit_interface (class_named w id.class) h
+    if op == jvm.invokevirtual then is_unfit_virtual (class_named w id.class) h
+    else if op == jvm.invokeinterface then is_unfit_interface (class_named w id.class) h
     -- invokespecial of neither a constructor nor a private method
-    else (op == 183) && not (is_constructor id.name) && not (is_private h.flags) && is_unfit_super w c id
+    else (op == jvm.invokespecial) && not (is_constructor id.name) && not (is_private h.flags) && is_unfit_super w c id
 
 -- the method that an instruction names was found and can't be called so
 abbrev pub is_unfit_method : List Class → ClassTree → (op : ℕ) → MemberId → Option Hit → Bool

@@ -8,6 +8,7 @@ use Rattle.cjc_bytes.specs.Descriptor.{Part, Parts}
 use Rattle.cjc_bytes.specs.Spots.{desc_of}
 use Rattle.cjc_code.specs.declared.insn.JOp.{JOp}
 use Rattle.cjc_code.specs.declared.insn.JOp.TheVariants as jop
+use Rattle.cjc_code.specs.Jvm as jvm
 use Rattle.cjc_subset.specs.Members.{is_array}
 
 -- ---- 301: char, long, float, double or an array of more than one dimension
@@ -96,8 +97,8 @@ is_int_member id = is_int_name id.class || is_int_desc id.desc
 
 -- An instruction names int, or loads or stores an element of an array of ints (iaload, iastore).
 unfoldable pub names_int : JOp → Bool
-names_int (jop.ArrayLoad op) = op == 0x2E
-names_int (jop.ArrayStore op) = op == 0x4F
+names_int (jop.ArrayLoad op) = op == jvm.iaload
+names_int (jop.ArrayStore op) = op == jvm.iastore
 names_int (jop.Static put id) = is_int_member id
 names_int (jop.Field put id) = is_int_member id
 names_int (jop.Call op id) = is_int_member id

@@ -24,17 +24,9 @@ use cjc_bytes::{
     is_static,
 };
 use cjc_classfile::{Catch, ClassTree, MethodTree};
-use cjc_code::{Codes, JInsn, JOp, MethodCode};
+use cjc_code::{Codes, JInsn, JOp, MethodCode, jvm};
 use cjc_world::{Found, Known, World};
 use std::alloc::Global;
-
-const INVOKEVIRTUAL: u8 = 0xB6;
-
-const INVOKESPECIAL: u8 = 0xB7;
-
-const INVOKESTATIC: u8 = 0xB8;
-
-const INVOKEINTERFACE: u8 = 0xB9;
 
 // ---- 203
 
@@ -218,10 +210,10 @@ fn is_unfit_super(world: &World<'_>, class: &ClassTree<'_>, id: &MemberId) -> bo
 fn is_unfit_call(op: u8, name: &[u8], flags: u16) -> bool
     ensures { result ≡ is_unfit_call op name.now flags }
 {
-    is_other_kind(op == INVOKESTATIC, flags)
-        || (op == INVOKEVIRTUAL || op == INVOKEINTERFACE) && is_private(flags)
+    is_other_kind(op == jvm::INVOKESTATIC, flags)
+        || (op == jvm::INVOKEVIRTUAL || op == jvm::INVOKEINTERFACE) && is_private(flags)
         || is_initialiser(name)
-        || op != INVOKESPECIAL && is_constructor(name)
+        || op != jvm::INVOKESPECIAL && is_constructor(name)
 }
 
 /// Whether the class by which a method is named does not fit the opcode of the call.
@@ -235,9 +227,9 @@ fn is_unfit_class(
     ensures { result ≡ is_unfit_class (all_classes world.now) class.now op id.now (hit_of hit.entry) }
 {
     match op {
-        INVOKEVIRTUAL => is_unfit_virtual(world.class_named(id.class.items()), hit),
-        INVOKEINTERFACE => is_unfit_interface(world.class_named(id.class.items()), hit),
-        INVOKESPECIAL => {
+        jvm::INVOKEVIRTUAL => is_unfit_virtual(world.class_named(id.class.items()), hit),
+        jvm::INVOKEINTERFACE => is_unfit_interface(world.class_named(id.class.items()), hit),
+        jvm::INVOKESPECIAL => {
             !is_constructor(id.name.items())
                 && !is_private(hit.flags)
                 && is_unfit_super(world, class, id)

@@ -6,11 +6,7 @@ ghost use Rattle.cjc_subset.specs.Types.{is_foreign_desc, is_foreign_element, is
 
 use crate::members::is_array;
 use cjc_bytes::{Desc, Kind, MemberId};
-use cjc_code::JOp;
-
-const IALOAD: u8 = 0x2E;
-
-const IASTORE: u8 = 0x4F;
+use cjc_code::{JOp, jvm};
 
 /// The type number of int in a newarray.
 const T_INT: u8 = 10;
@@ -173,8 +169,8 @@ pub(crate) fn names_int(op: &JOp) -> bool
     ensures { result ≡ names_int op.now }
 {
     match op {
-        JOp::ArrayLoad(op) => *op == IALOAD,
-        JOp::ArrayStore(op) => *op == IASTORE,
+        JOp::ArrayLoad(op) => *op == jvm::IALOAD,
+        JOp::ArrayStore(op) => *op == jvm::IASTORE,
         JOp::Static { field, .. } => is_int_member(field),
         JOp::Field { field, .. } => is_int_member(field),
         JOp::Call { method, .. } => is_int_member(method),

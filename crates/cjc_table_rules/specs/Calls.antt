@@ -7,6 +7,7 @@ use Rattle.cjc_bytes.specs.declared.names.Kind.{Kind as PartKind}
 use Rattle.cjc_bytes.specs.declared.names.Kind.TheVariants as part_kinds
 use Rattle.cjc_code.specs.declared.insn.JOp.{JOp}
 use Rattle.cjc_code.specs.declared.insn.JOp.TheVariants as jop
+use Rattle.cjc_code.specs.Jvm as jvm
 use Rattle.cjc_script.specs.Sorts.{Shape, Sort, Reference, Signature, shape_name, sort_of, result_by}
 use Rattle.cjc_world.specs.Classes.{Class}
 use Rattle.cjc_types.specs.declared.cell.Cell.{Cell}
@@ -78,7 +79,7 @@ pub record IsAsked (by : Linked) (l : Named) (written : List ℕ) (event : Membe
 -- Code of m names a static method by a member, and what narrow code names for it takes as many words.
 pub record IsStaticNamed (l : Named) (a : Analysis) (m : Method) (id : MemberId) (named : Callee) : Type 0 where
   pub desc : IsWordDesc id.desc
-  pub names : Names (a.resolution m) 0xB8 id named
+  pub names : Names (a.resolution m) jvm.invokestatic id named
   pub on_class : on_object named ≡ false
   pub words : l.words named ≡ Some (count_of id.desc)
 
@@ -101,10 +102,10 @@ pub data IsSelected (by : Linked) (l : Named) (w : List Class) (a : Analysis) (i
 -- A call in code of m, on a stack of these types: of a static method of the package, of an imported one, or on a receiver each of whose types
 -- selects one.
 pub data IsCalled (by : Linked) (l : Named) (w : List Class) (a : Analysis) (m : Method) (cells : List Cell) : JOp → Type 0 where
-  a_static : {id : MemberId} (named : Callee) → IsStaticNamed l a m id named → (callee : Method) → by.call (class_of_code m) 0xB8 id ≡ Some (OnClass (Inside callee)) → l.reached named None ≡ Within (a.narrowed callee) → IsReachedBy by l w a false id.desc callee
-      → IsCalled by l w a m cells (jop.Call 0xB8 id)
-  an_import : {id : MemberId} (named : Callee) → IsStaticNamed l a m id named → (event : MemberId) → by.call (class_of_code m) 0xB8 id ≡ Some (OnClass (linked.Abroad event)) → l.reached named None ≡ Abroad event → IsAsked by l id.desc event
-      → IsCalled by l w a m cells (jop.Call 0xB8 id)
+  a_static : {id : MemberId} (named : Callee) → IsStaticNamed l a m id named → (callee : Method) → by.call (class_of_code m) jvm.invokestatic id ≡ Some (OnClass (Inside callee)) → l.reached named None ≡ Within (a.narrowed callee) → IsReachedBy by l w a false id.desc callee
+      → IsCalled by l w a m cells (jop.Call jvm.invokestatic id)
+  an_import : {id : MemberId} (named : Callee) → IsStaticNamed l a m id named → (event : MemberId) → by.call (class_of_code m) jvm.invokestatic id ≡ Some (OnClass (linked.Abroad event)) → l.reached named None ≡ Abroad event → IsAsked by l id.desc event
+      → IsCalled by l w a m cells (jop.Call jvm.invokestatic id)
   on_receiver : {op : ℕ} {id : MemberId} (named : Callee) → (call : IsObjectNamed by l a m op id named)
       → ((names : List (List ℕ)) → operand cells (count_of id.desc) ≡ Refs names → (kind : Shape (List ℕ)) → is_one_of l names kind ≡ true → IsMadeOf l kind → IsSelected by l w a id named call.selected kind)
       → IsCalled by l w a m cells (jop.Call op id)

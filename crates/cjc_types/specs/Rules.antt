@@ -8,6 +8,7 @@ use Rattle.cjc_bytes.specs.declared.names.Kind.{Kind}
 use Rattle.cjc_bytes.specs.declared.names.Kind.TheVariants as kinds
 use Rattle.cjc_code.specs.declared.insn.JOp.{JOp}
 use Rattle.cjc_code.specs.declared.insn.JOp.TheVariants as jop
+use Rattle.cjc_code.specs.Jvm as jvm
 use Rattle.cjc_world.specs.Classes.{Class, Member, class_at}
 use Rattle.cjc_bytes.specs.AccessFlags.{is_private}
 use Rattle.cjc_world.specs.Lookup.{find_method}
@@ -75,9 +76,9 @@ is_array_by letter name = bytes_eq name (91 ∷ letter ∷ [])
 -- references, baload and bastore of byte or boolean, saload and sastore of short
 abbrev pub is_array_for : (opcode : ℕ) → (name : List ℕ) → Bool
 is_array_for opcode name =
-    if (opcode == 0x2E) || (opcode == 0x4F) then is_array_by 73 name
-    else if (opcode == 0x32) || (opcode == 0x53) then is_some (held name)
-    else if (opcode == 0x33) || (opcode == 0x54) then is_array_by 66 name || is_array_by 90 name
+    if (opcode == jvm.iaload) || (opcode == jvm.iastore) then is_array_by 73 name
+    else if (opcode == jvm.aaload) || (opcode == jvm.aastore) then is_some (held name)
+    else if (opcode == jvm.baload) || (opcode == jvm.bastore) then is_array_by 66 name || is_array_by 90 name
     else is_array_by 83 name
 
 -- ---- methods
@@ -102,7 +103,7 @@ names_private w id = is_found_private w (find_method w id.class id.name id.desc)
 
 -- invokespecial of a method that is neither a constructor nor private
 abbrev pub is_super_call : List Class → (opcode : ℕ) → MemberId → Bool
-is_super_call w opcode id = (opcode == 0xB7) && not (bytes_eq id.name (codes "<init>")) && not (names_private w id)
+is_super_call w opcode id = (opcode == jvm.invokespecial) && not (bytes_eq id.name (codes "<init>")) && not (names_private w id)
 
 -- the class that the receiver of a call is of: of a call by super the class that holds the code, else the one that is named
 abbrev pub receiver_class : List Class → Body → (opcode : ℕ) → MemberId → List ℕ
@@ -120,7 +121,7 @@ is_argument w b opcode id k cell =
 
 -- if_acmpeq, if_acmpne, ifnull and ifnonnull
 abbrev pub tests_references : (opcode : ℕ) → Bool
-tests_references opcode = (opcode == 0xA5) || (opcode == 0xA6) || (opcode == 0xC6) || (opcode == 0xC7)
+tests_references opcode = (opcode == jvm.if_acmpeq) || (opcode == jvm.if_acmpne) || (opcode == jvm.ifnull) || (opcode == jvm.ifnonnull)
 
 -- the operands of an array load from the top: the index, the array
 abbrev pub is_load_operand : (opcode : ℕ) → ℕ → Cell → Bool
@@ -129,7 +130,7 @@ is_load_operand opcode k cell = if k == 0 then is_number cell else all_types (is
 -- those of an array store: the value, the index, the array
 abbrev pub is_store_operand : (opcode : ℕ) → ℕ → Cell → Bool
 is_store_operand opcode k cell =
-    if k == 0 then (if opcode == 0x53 then is_reference cell else is_number cell)
+    if k == 0 then (if opcode == jvm.aastore then is_reference cell else is_number cell)
     else if k == 1 then is_number cell
     else all_types (is_array_for opcode) cell
 
@@ -185,13 +186,13 @@ has_wrong_local _ locals = false
 
 -- whether a return instruction is that of a result: ireturn of numbers, areturn of references, return of none
 abbrev pub returns : (opcode : ℕ) → Kind → Bool
-returns opcode kinds.Bool = opcode == 0xAC
-returns opcode kinds.Byte = opcode == 0xAC
-returns opcode kinds.Short = opcode == 0xAC
-returns opcode kinds.Int = opcode == 0xAC
+returns opcode kinds.Bool = opcode == jvm.ireturn
+returns opcode kinds.Byte = opcode == jvm.ireturn
+returns opcode kinds.Short = opcode == jvm.ireturn
+returns opcode kinds.Int = opcode == jvm.ireturn
 returns opcode kinds.Other = false
-returns opcode kinds.Ref = opcode == 0xB0
-returns opcode kinds.Void = opcode == 0xB1
+returns opcode kinds.Ref = opcode == jvm.areturn
+returns opcode kinds.Void = opcode == jvm.return
 
 -- the return instruction is not that of the method's result
 abbrev pub is_wrong_return : Body → JOp → Bool

@@ -4,6 +4,7 @@ use Rattle.std.specs.Prelude.{ℕ, ◌+◌, Bool, true, false, ◌==◌, ◌&&�
 use Rattle.cjc_code.specs.declared.insn.JOp.{JOp}
 use Rattle.cjc_code.specs.declared.insn.JOp.TheVariants as jop
 use Rattle.cjc_code.specs.declared.insn.JCase.{JCase}
+use Rattle.cjc_code.specs.Jvm as jvm
 use Rattle.cjc_types.specs.declared.cell.Cell.{Cell}
 use Rattle.cjc_types.specs.declared.cell.Cell.TheVariants.{Number, Refs, Unusable}
 use Rattle.cjc_types.specs.declared.state.Stack.{Stack}
@@ -21,24 +22,24 @@ operand cells k = get_or cells k Unusable
 -- pop, pop2, dup, dup_x1, dup_x2, dup2, dup2_x1, dup2_x2 and swap
 abbrev pub stack_takes : (opcode : ℕ) → ℕ
 stack_takes opcode =
-    if opcode == 0x57 then 1
-    else if opcode == 0x58 then 2
-    else if opcode == 0x59 then 1
-    else if opcode == 0x5A then 2
-    else if opcode == 0x5B then 3
-    else if opcode == 0x5C then 2
-    else if opcode == 0x5D then 3
-    else if opcode == 0x5E then 4
-    else if opcode == 0x5F then 2
+    if opcode == jvm.pop then 1
+    else if opcode == jvm.pop2 then 2
+    else if opcode == jvm.dup then 1
+    else if opcode == jvm.dup_x1 then 2
+    else if opcode == jvm.dup_x2 then 3
+    else if opcode == jvm.dup2 then 2
+    else if opcode == jvm.dup2_x1 then 3
+    else if opcode == jvm.dup2_x2 then 4
+    else if opcode == jvm.swap then 2
     else 0
 
 -- if_icmpeq to if_acmpne compare two
 abbrev pub compares : (opcode : ℕ) → Bool
-compares opcode = nat_le 0x9F opcode && nat_le opcode 0xA6
+compares opcode = nat_le jvm.if_icmpeq opcode && nat_le opcode jvm.if_acmpne
 
 -- invokestatic has no receiver
 abbrev pub receivers : (opcode : ℕ) → ℕ
-receivers opcode = if opcode == 0xB8 then 0 else 1
+receivers opcode = if opcode == jvm.invokestatic then 0 else 1
 
 -- how many operands an instruction takes
 abbrev pub takes : JOp → ℕ
@@ -50,14 +51,14 @@ takes (jop.Store refs k) = 1
 takes (jop.ArrayLoad opcode) = 2
 takes (jop.ArrayStore opcode) = 3
 takes (jop.Stack opcode) = stack_takes opcode
-takes (jop.Arith opcode) = if opcode == 0x74 then 1 else 2
+takes (jop.Arith opcode) = if opcode == jvm.ineg then 1 else 2
 takes (jop.Inc k by) = 0
 takes (jop.Narrow opcode) = 1
 takes (jop.If opcode target) = if compares opcode then 2 else 1
 takes (jop.Goto target) = 0
 takes (jop.TableSwitch other low targets) = 1
 takes (jop.LookupSwitch other cases) = 1
-takes (jop.Return opcode) = if opcode == 0xB1 then 0 else 1
+takes (jop.Return opcode) = if opcode == jvm.return then 0 else 1
 takes (jop.Static put field) = if put then 1 else 0
 takes (jop.Field put field) = if put then 2 else 1
 takes (jop.Call opcode method) = length (parts method.desc).params + receivers opcode
@@ -74,13 +75,13 @@ takes (jop.InstanceOf class) = 1
 -- which of the operands a stack instruction puts back, from the top
 abbrev pub shuffled : (opcode : ℕ) → List ℕ
 shuffled opcode =
-    if opcode == 0x59 then 0 ∷ 0 ∷ []
-    else if opcode == 0x5A then 0 ∷ 1 ∷ 0 ∷ []
-    else if opcode == 0x5B then 0 ∷ 1 ∷ 2 ∷ 0 ∷ []
-    else if opcode == 0x5C then 0 ∷ 1 ∷ 0 ∷ 1 ∷ []
-    else if opcode == 0x5D then 0 ∷ 1 ∷ 2 ∷ 0 ∷ 1 ∷ []
-    else if opcode == 0x5E then 0 ∷ 1 ∷ 2 ∷ 3 ∷ 0 ∷ 1 ∷ []
-    else if opcode == 0x5F then 1 ∷ 0 ∷ []
+    if opcode == jvm.dup then 0 ∷ 0 ∷ []
+    else if opcode == jvm.dup_x1 then 0 ∷ 1 ∷ 0 ∷ []
+    else if opcode == jvm.dup_x2 then 0 ∷ 1 ∷ 2 ∷ 0 ∷ []
+    else if opcode == jvm.dup2 then 0 ∷ 1 ∷ 0 ∷ 1 ∷ []
+    else if opcode == jvm.dup2_x1 then 0 ∷ 1 ∷ 2 ∷ 0 ∷ 1 ∷ []
+    else if opcode == jvm.dup2_x2 then 0 ∷ 1 ∷ 2 ∷ 3 ∷ 0 ∷ 1 ∷ []
+    else if opcode == jvm.swap then 1 ∷ 0 ∷ []
     else []
 
 -- aload gives the reference of the local, iload a number

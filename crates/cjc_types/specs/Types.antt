@@ -5,6 +5,7 @@ use Rattle.cjc_bytes.specs.Spots.{desc_of}
 use Rattle.cjc_bytes.specs.declared.names.Kind.{Kind}
 use Rattle.cjc_bytes.specs.declared.names.Kind.TheVariants as kinds
 use Rattle.cjc_world.specs.Subtype.{starts, inner}
+use Rattle.cjc_code.specs.Jvm as jvm
 use Rattle.cjc_types.specs.declared.cell.Cell.{Cell}
 use Rattle.cjc_types.specs.declared.cell.Cell.TheVariants.{Number, Refs, Unusable}
 use Rattle.cjc_types.specs.Names.{insert}
@@ -95,7 +96,7 @@ elements (x ∷ xs) names = elements xs (with_held (held x) names)
 -- others a number
 abbrev pub element_of : (opcode : ℕ) → Cell → Cell
 element_of opcode Number = Unusable
-element_of opcode (Refs names) = if opcode == 0x32 then refs (elements names []) else Number
+element_of opcode (Refs names) = if opcode == jvm.aaload then refs (elements names []) else Number
 element_of opcode Unusable = Unusable
 
 -- a reference, or else unusable

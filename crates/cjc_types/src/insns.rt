@@ -9,17 +9,17 @@ ghost use Rattle.cjc_types.specs.Types.{parts};
 
 use crate::types;
 use cjc_bytes::{MemberId, NoMemory, Row};
-use cjc_code::{JCase, JOp};
+use cjc_code::{JCase, JOp, jvm};
 use std::alloc::Global;
 
 fn stack_takes(opcode: u8) -> usize
     ensures { result ≡ stack_takes_of opcode }
 {
     match opcode {
-        0x57 | 0x59 => 1,
-        0x58 | 0x5A | 0x5C | 0x5F => 2,
-        0x5B | 0x5D => 3,
-        0x5E => 4,
+        jvm::POP | jvm::DUP => 1,
+        jvm::POP2 | jvm::DUP_X1 | jvm::DUP2 | jvm::SWAP => 2,
+        jvm::DUP_X2 | jvm::DUP2_X1 => 3,
+        jvm::DUP2_X2 => 4,
         _ => 0,
     }
 }
@@ -27,7 +27,7 @@ fn stack_takes(opcode: u8) -> usize
 fn compares(opcode: u8) -> bool
     ensures { result ≡ compares_by opcode }
 {
-    0x9F <= opcode && opcode <= 0xA6
+    jvm::IF_ICMPEQ <= opcode && opcode <= jvm::IF_ACMPNE
 }
 
 /// How many receivers a call by this opcode has.
@@ -35,7 +35,7 @@ fn receivers(opcode: u8) -> usize
     ensures count { result ≡ receivers_of opcode }
     ensures small { result ≤ 1 }
 {
-    if opcode == 0xB8 { 0 } else { 1 }
+    if opcode == jvm::INVOKESTATIC { 0 } else { 1 }
 }
 
 /// How many operands a call takes.
@@ -65,9 +65,9 @@ pub fn takes(op: &JOp) -> usize
         JOp::ArrayLoad(_) => 2,
         JOp::ArrayStore(_) => 3,
         JOp::Stack(opcode) => stack_takes(*opcode),
-        JOp::Arith(opcode) => either(*opcode == 0x74, 1, 2),
+        JOp::Arith(opcode) => either(*opcode == jvm::INEG, 1, 2),
         JOp::If { op: opcode, .. } => either(compares(*opcode), 2, 1),
-        JOp::Return(opcode) => either(*opcode == 0xB1, 0, 1),
+        JOp::Return(opcode) => either(*opcode == jvm::RETURN, 0, 1),
         JOp::Static { put, .. } => either(*put, 1, 0),
         JOp::Field { put, .. } => either(*put, 2, 1),
         JOp::Call { op: opcode, method } => call_takes(*opcode, method),
@@ -80,13 +80,13 @@ pub fn shuffle(opcode: u8) -> &'static [u8]
     ensures { result.now ≡ shuffled opcode }
 {
     match opcode {
-        0x59 => &[0, 0],
-        0x5A => &[0, 1, 0],
-        0x5B => &[0, 1, 2, 0],
-        0x5C => &[0, 1, 0, 1],
-        0x5D => &[0, 1, 2, 0, 1],
-        0x5E => &[0, 1, 2, 3, 0, 1],
-        0x5F => &[1, 0],
+        jvm::DUP => &[0, 0],
+        jvm::DUP_X1 => &[0, 1, 0],
+        jvm::DUP_X2 => &[0, 1, 2, 0],
+        jvm::DUP2 => &[0, 1, 0, 1],
+        jvm::DUP2_X1 => &[0, 1, 2, 0, 1],
+        jvm::DUP2_X2 => &[0, 1, 2, 3, 0, 1],
+        jvm::SWAP => &[1, 0],
         _ => &[],
     }
 }

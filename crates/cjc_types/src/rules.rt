@@ -17,7 +17,7 @@ use crate::operands::Operands;
 use crate::state::{Stack, State};
 use crate::{insns, steps, types};
 use cjc_bytes::{Bytes, Kind, MemberId, is_private};
-use cjc_code::JOp;
+use cjc_code::{JOp, jvm};
 use cjc_world::{Found, Known, World};
 
 fn is_number(cell: &Cell) -> bool
@@ -116,11 +116,11 @@ fn is_array_by(letter: u8, name: &[u8]) -> bool
 fn is_array_for(opcode: u8, name: &[u8]) -> bool
     ensures { result ≡ is_array_loaded opcode name.now }
 {
-    if opcode == 0x2E || opcode == 0x4F {
+    if opcode == jvm::IALOAD || opcode == jvm::IASTORE {
         is_array_by(b'I', name)
-    } else if opcode == 0x32 || opcode == 0x53 {
+    } else if opcode == jvm::AALOAD || opcode == jvm::AASTORE {
         types::held(name).is_some()
-    } else if opcode == 0x33 || opcode == 0x54 {
+    } else if opcode == jvm::BALOAD || opcode == jvm::BASTORE {
         is_array_by(b'B', name) || is_array_by(b'Z', name)
     } else {
         is_array_by(b'S', name)
@@ -196,7 +196,9 @@ fn names_private(world: &World<'_>, id: &MemberId) -> bool
 fn is_super_call(world: &World<'_>, opcode: u8, id: &MemberId) -> bool
     ensures { result ≡ is_called_by_super (all_classes world.now) opcode id.now }
 {
-    opcode == 0xB7 && id.name.items() != b"<init>".as_slice() && !names_private(world, id)
+    opcode == jvm::INVOKESPECIAL
+        && id.name.items() != b"<init>".as_slice()
+        && !names_private(world, id)
 }
 
 /// Whether the receiver of a call may be this cell.
@@ -240,7 +242,10 @@ fn is_argument(
 fn tests_references(opcode: u8) -> bool
     ensures { result ≡ tests_references_by opcode }
 {
-    opcode == 0xA5 || opcode == 0xA6 || opcode == 0xC6 || opcode == 0xC7
+    opcode == jvm::IF_ACMPEQ
+        || opcode == jvm::IF_ACMPNE
+        || opcode == jvm::IFNULL
+        || opcode == jvm::IFNONNULL
 }
 
 fn is_load_operand(opcode: u8, k: usize, cell: &Cell) -> bool
@@ -257,7 +262,7 @@ fn is_store_operand(opcode: u8, k: usize, cell: &Cell) -> bool
     ensures { result ≡ is_operand_of_store opcode k cell.now }
 {
     if k == 0 {
-        if opcode == 0x53 {
+        if opcode == jvm::AASTORE {
             is_reference(cell)
         } else {
             is_number(cell)
@@ -353,9 +358,9 @@ fn returns(opcode: u8, kind: Kind) -> bool
     ensures { result ≡ returns_kind opcode kind }
 {
     match kind {
-        Kind::Bool | Kind::Byte | Kind::Short | Kind::Int => opcode == 0xAC,
-        Kind::Ref => opcode == 0xB0,
-        Kind::Void => opcode == 0xB1,
+        Kind::Bool | Kind::Byte | Kind::Short | Kind::Int => opcode == jvm::IRETURN,
+        Kind::Ref => opcode == jvm::ARETURN,
+        Kind::Void => opcode == jvm::RETURN,
         Kind::Other => false,
     }
 }

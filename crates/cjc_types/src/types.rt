@@ -10,6 +10,7 @@ ghost use Rattle.cjc_types.specs.Types.{parts, parts_or_none, cell_of as cell_of
 use crate::cell::{self, Cell};
 use crate::names;
 use cjc_bytes::{Bytes, Desc, Kind, NoMemory, Row};
+use cjc_code::jvm;
 use std::alloc::Global;
 
 /// The parts of a descriptor, or nothing where the bytes are none.
@@ -179,7 +180,10 @@ pub(crate) fn element_of(alloc: Global, opcode: u8, array: &Cell) -> Result<Cell
     ensures { IfOk result (λ cell. cell ≡ element_of_cell opcode array.now) }
 {
     match array {
-        Cell::Refs(types) if opcode == 0x32 => Ok(cell::refs(elements(alloc, types.items())?)),
+        Cell::Refs(types) if opcode == jvm::AALOAD => Ok(cell::refs(elements(
+            alloc,
+            types.items(),
+        )?)),
         Cell::Refs(_) => Ok(Cell::Number),
         _ => Ok(Cell::Unusable),
     }

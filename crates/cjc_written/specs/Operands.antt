@@ -3,6 +3,7 @@ use Rattle.std.specs.Prelude.{◌≡◌, ◌<◌, ℕ, List, slice_get, Some, Bo
 use Rattle.cjc_code.specs.declared.insn.JInsn.{JInsn}
 use Rattle.cjc_code.specs.declared.insn.JOp.{JOp}
 use Rattle.cjc_code.specs.declared.insn.JOp.TheVariants as jop
+use Rattle.cjc_code.specs.Jvm as jvm
 use Rattle.cjc_ncode.specs.Written.{nargs_of}
 
 -- a number that one byte can say
@@ -14,7 +15,7 @@ abbrev pub CanBeSaid : JOp → Type 0
 CanBeSaid (jop.Load refs local) = IsByte local
 CanBeSaid (jop.Store refs local) = IsByte local
 CanBeSaid (jop.Inc local by) = IsByte local
-CanBeSaid (jop.Call op method) = op ≡ 0xB9 → IsByte (nargs_of method)
+CanBeSaid (jop.Call op method) = op ≡ jvm.invokeinterface → IsByte (nargs_of method)
 CanBeSaid _ = Unit {0}
 
 -- an instruction of a field or a call

@@ -3,12 +3,14 @@
 //! of it.
 
 ghost use Rattle.std.specs.Prelude.{◌≡◌, if◌then◌else◌, ◌<◌, ◌≤◌, ◌^◌, ℕ, List, map, IfOk};
+ghost use Rattle.cjc_capread.specs.Card as card;
 ghost use Rattle.cjc_bytes.specs.Spots.{desc_of};
 ghost use Rattle.cjc_script.specs.Sorts.{field_sort, signature_of, sort_by, sort_of};
 ghost use Rattle.cjc_bytecode.specs.Arguments.{width, widths};
 ghost use Rattle.cjc_ncode.specs.Written.{behind_reference, field_access, static_access, words_by};
 
 use cjc_bytes::{Desc, Kind, NoMemory};
+use cjc_capread::card;
 
 /// The parts of a descriptor, or nothing where the bytes are none.
 pub(crate) fn parsed(desc: &[u8]) -> Result<Option<Desc<'_>>, NoMemory>
@@ -89,20 +91,24 @@ fn behind_reference(desc: &[u8]) -> Result<u8, NoMemory>
 pub fn static_access(put: bool, desc: &[u8]) -> Result<u8, NoMemory>
     ensures { IfOk result (λ op. op ≡ static_access put (field_sort desc.now)) }
 {
-    let first = if put { 0x7F } else { 0x7B };
+    let first = if put {
+        card::PUTSTATIC_A
+    } else {
+        card::GETSTATIC_A
+    };
     let behind = behind_reference(desc)?;
     Ok(first + behind)
 }
 
 fn first_access(put: bool, near: bool) -> u8
-    ensures first { result ≡ (if near then (if put then 0x87 else 0x83) else (if put then 0xB1 else 0xA9)) }
+    ensures first { result ≡ (if near then (if put then card.putfield_a else card.getfield_a) else (if put then card.putfield_a_w else card.getfield_a_w)) }
     ensures low { result ≤ 200 }
 {
     match (near, put) {
-        (true, true) => 0x87,
-        (true, false) => 0x83,
-        (false, true) => 0xB1,
-        (false, false) => 0xA9,
+        (true, true) => card::PUTFIELD_A,
+        (true, false) => card::GETFIELD_A,
+        (false, true) => card::PUTFIELD_A_W,
+        (false, false) => card::GETFIELD_A_W,
     }
 }
 

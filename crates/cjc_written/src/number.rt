@@ -4,6 +4,7 @@ ghost use Rattle.std.specs.Prelude.{◌≡◌, ◌∷◌, []};
 ghost use Rattle.cjc_words.specs.Words.{low_word};
 ghost use Rattle.cjc_ncode.specs.Written.{pushed, pushed_word};
 
+use cjc_capread::card;
 use cjc_ncode::NInsn;
 
 /// The low word of a number, with its sign.
@@ -20,9 +21,15 @@ fn pushed_word(z: i32) -> NInsn
     if -1 <= z && z <= 5 {
         NInsn::Op((z + 3) as u8)
     } else if -128 <= z && z <= 127 {
-        NInsn::Push { op: 0x10, value: z }
+        NInsn::Push {
+            op: card::BSPUSH,
+            value: z,
+        }
     } else {
-        NInsn::Push { op: 0x11, value: z }
+        NInsn::Push {
+            op: card::SSPUSH,
+            value: z,
+        }
     }
 }
 

@@ -12,7 +12,7 @@ ghost use Rattle.cjc_written.specs.Working.Places.{count, count_if, starts};
 use crate::switches::{has_pair, has_word};
 use crate::type_tests::tested;
 use cjc_bytes::{NoMemory, Row};
-use cjc_code::{JInsn, JOp};
+use cjc_code::{JInsn, JOp, jvm};
 use std::alloc::Global;
 use std::marker::Model;
 
@@ -39,7 +39,7 @@ fn count(op: &JOp) -> Result<u32, NoMemory>
 {
     match op {
         JOp::Nop => Ok(0),
-        JOp::Narrow(op) => Ok(if *op == 0x91 { 1 } else { 0 }),
+        JOp::Narrow(op) => Ok(if *op == jvm::I2B { 1 } else { 0 }),
         JOp::TableSwitch {
             other: _,
             low,

@@ -1,6 +1,8 @@
 //! What is written for instructions that name no member. Called by whoever selects code.
 
 ghost use Rattle.std.specs.Prelude.{◌≡◌, ◌≤◌, ◌++◌, ◌∷◌, ◌==◌, if◌then◌else◌, [], false, OnOk};
+ghost use Rattle.cjc_capread.specs.Card as card;
+ghost use Rattle.cjc_code.specs.Jvm as jvm;
 ghost use Rattle.cjc_ncode.specs.declared.narrow.NInsn.TheVariants.{Inc, Named, Op};
 ghost use Rattle.cjc_ncode.specs.declared.narrow.PoolKey.TheVariants as keys;
 ghost use Rattle.cjc_ncode.specs.Written.{Resolution, is_byte, local, written};
@@ -15,7 +17,8 @@ use crate::places::Places;
 use crate::switches::{put_lookup, put_table};
 use crate::type_tests::put_test;
 use cjc_bytes::{Bytes, NoMemory, Row};
-use cjc_code::JOp;
+use cjc_capread::card;
+use cjc_code::{JOp, jvm};
 use cjc_ncode::{NInsn, PoolKey};
 use std::alloc::Global;
 
@@ -44,10 +47,14 @@ fn is_byte(z: i16) -> bool
 /// iinc, with a number of one byte or of two.
 fn increase(index: u16, by: i16) -> NInsn
     requires { IsByte index }
-    ensures { result ≡ Inc (if is_byte by then 0x59 else 0x96) index by }
+    ensures { result ≡ Inc (if is_byte by then card.sinc else card.sinc_w) index by }
 {
     NInsn::Inc {
-        op: if is_byte(by) { 0x59 } else { 0x96 },
+        op: if is_byte(by) {
+            card::SINC
+        } else {
+            card::SINC_W
+        },
         index: index as u8,
         by,
     }
@@ -55,10 +62,10 @@ fn increase(index: u16, by: i16) -> NInsn
 
 /// i2b; nothing for i2s.
 fn put_narrow(out: &mut Row<NInsn>, op: u8) -> Result<(), NoMemory>
-    ensures { OnOk result (out.new ≡ out.old ++ (if op == 0x91 then Op 0x5B ∷ [] else [])) }
+    ensures { OnOk result (out.new ≡ out.old ++ (if op == jvm.i2b then Op card.s2b ∷ [] else [])) }
 {
-    if op == 0x91 {
-        out.push(NInsn::Op(0x5B))
+    if op == jvm::I2B {
+        out.push(NInsn::Op(card::S2B))
     } else {
         Ok(())
     }
@@ -84,24 +91,24 @@ pub fn put_plain(
 {
     match op {
         JOp::Nop => Ok(()),
-        JOp::Null => out.push(NInsn::Op(0x01)),
+        JOp::Null => out.push(NInsn::Op(card::ACONST_NULL)),
         JOp::Number(z) => out.push(pushed(*z)),
         JOp::Load {
             refs: true,
             local: index,
-        } => out.push(local(0x18, 0x15, *index)),
+        } => out.push(local(card::ALOAD_0, card::ALOAD, *index)),
         JOp::Load {
             refs: false,
             local: index,
-        } => out.push(local(0x1C, 0x16, *index)),
+        } => out.push(local(card::SLOAD_0, card::SLOAD, *index)),
         JOp::Store {
             refs: true,
             local: index,
-        } => out.push(local(0x2B, 0x28, *index)),
+        } => out.push(local(card::ASTORE_0, card::ASTORE, *index)),
         JOp::Store {
             refs: false,
             local: index,
-        } => out.push(local(0x2F, 0x29, *index)),
+        } => out.push(local(card::SSTORE_0, card::SSTORE, *index)),
         JOp::ArrayLoad(op) => out.push(NInsn::Op(array_load(*op))),
         JOp::ArrayStore(op) => out.push(NInsn::Op(array_store(*op))),
         JOp::Stack(op) => out.push(on_stack(*op)),
@@ -117,7 +124,10 @@ pub fn put_plain(
         }
         JOp::Goto(target) => {
             let target = places.place(*target);
-            out.push(NInsn::Jump { op: 0x70, target })
+            out.push(NInsn::Jump {
+                op: card::GOTO,
+                target,
+            })
         }
         JOp::TableSwitch {
             other,
@@ -128,13 +138,13 @@ pub fn put_plain(
             put_lookup(out, alloc, places, *other, cases.items())
         }
         JOp::Return(op) => out.push(NInsn::Op(leaving(*op))),
-        JOp::New(class) => put_class(out, alloc, 0x8F, class.items()),
+        JOp::New(class) => put_class(out, alloc, card::NEW, class.items()),
         JOp::NewArray(number) => out.push(NInsn::NewArray(element_number(*number))),
-        JOp::ANewArray(class) => put_class(out, alloc, 0x91, class.items()),
-        JOp::ArrayLength => out.push(NInsn::Op(0x92)),
-        JOp::Throw => out.push(NInsn::Op(0x93)),
-        JOp::CheckCast(class) => put_test(out, alloc, 0x94, class.items()),
-        JOp::InstanceOf(class) => put_test(out, alloc, 0x95, class.items()),
+        JOp::ANewArray(class) => put_class(out, alloc, card::ANEWARRAY, class.items()),
+        JOp::ArrayLength => out.push(NInsn::Op(card::ARRAYLENGTH)),
+        JOp::Throw => out.push(NInsn::Op(card::ATHROW)),
+        JOp::CheckCast(class) => put_test(out, alloc, card::CHECKCAST, class.items()),
+        JOp::InstanceOf(class) => put_test(out, alloc, card::INSTANCEOF, class.items()),
         JOp::Static { .. } | JOp::Field { .. } | JOp::Call { .. } => Ok(()),
     }
 }

@@ -1,6 +1,7 @@
 //! Switches: the cases within 16 bits. Called by whoever writes instructions.
 
 ghost use Rattle.std.specs.Prelude.{◌≡◌, ◌++◌, pos, IfOk, OnOk};
+ghost use Rattle.cjc_capread.specs.Card as card;
 ghost use Rattle.std.specs.List.{list_any};
 ghost use Rattle.cjc_bytecode.specs.Numbers.{is_word};
 ghost use Rattle.cjc_ncode.specs.Written.{low_of, pair_cases, switched, table_cases};
@@ -9,6 +10,7 @@ ghost use Rattle.cjc_written.specs.Labels.{place_of};
 
 use crate::places::Places;
 use cjc_bytes::{NoMemory, Row};
+use cjc_capread::card;
 use cjc_code::JCase;
 use cjc_ncode::{NCase, NInsn};
 use std::alloc::Global;
@@ -113,9 +115,9 @@ fn put_switch(
     ensures { OnOk result (out.new ≡ out.old ++ switched op other low cases) }
 {
     if cases.items().is_empty() {
-        out.push(NInsn::Op(0x3B))?;
+        out.push(NInsn::Op(card::POP))?;
         return out.push(NInsn::Jump {
-            op: 0x70,
+            op: card::GOTO,
             target: other,
         });
     }
@@ -136,11 +138,11 @@ pub(crate) fn put_table(
     low: i32,
     targets: &[u32],
 ) -> Result<(), NoMemory>
-    ensures { let cases = table_cases (place_of places.now) low targets.now in OnOk result (out.new ≡ out.old ++ switched 0x73 (place_of places.now other) (low_of cases) cases) }
+    ensures { let cases = table_cases (place_of places.now) low targets.now in OnOk result (out.new ≡ out.old ++ switched card.stableswitch (place_of places.now other) (low_of cases) cases) }
 {
     let cases = table_cases(alloc, places, low, targets)?;
     let first = low_of(cases.items());
-    put_switch(out, 0x73, places.place(other), first, cases)
+    put_switch(out, card::STABLESWITCH, places.place(other), first, cases)
 }
 
 /// Puts a lookupswitch at the end.
@@ -151,8 +153,8 @@ pub(crate) fn put_lookup(
     other: u32,
     pairs: &[JCase],
 ) -> Result<(), NoMemory>
-    ensures { OnOk result (out.new ≡ out.old ++ switched 0x75 (place_of places.now other) (pos 0) (pair_cases (place_of places.now) pairs.now)) }
+    ensures { OnOk result (out.new ≡ out.old ++ switched card.slookupswitch (place_of places.now other) (pos 0) (pair_cases (place_of places.now) pairs.now)) }
 {
     let cases = pair_cases(alloc, places, pairs)?;
-    put_switch(out, 0x75, places.place(other), 0, cases)
+    put_switch(out, card::SLOOKUPSWITCH, places.place(other), 0, cases)
 }

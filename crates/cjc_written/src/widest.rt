@@ -7,7 +7,7 @@ ghost use Rattle.cjc_written.specs.Working.Places.{widest_if};
 
 use crate::places::sum;
 use cjc_bytes::NoMemory;
-use cjc_code::{JInsn, JOp};
+use cjc_code::{JInsn, JOp, jvm};
 
 /// The size of a switch with so many cases.
 fn switch_size(head: u32, case: u32, cases: usize) -> Result<u32, NoMemory>
@@ -35,9 +35,13 @@ fn widest(op: &JOp) -> Result<u32, NoMemory>
         | JOp::ArrayLength
         | JOp::Throw => Ok(1),
         JOp::Load { .. } | JOp::Store { .. } => Ok(2),
-        JOp::Stack(op) => Ok(if *op <= 0x59 || *op == 0x5C { 1 } else { 2 }),
-        JOp::Narrow(op) => Ok(if *op == 0x91 { 1 } else { 0 }),
-        JOp::Call { op, method: _ } => Ok(if *op == 0xB9 { 5 } else { 3 }),
+        JOp::Stack(op) => Ok(if *op <= jvm::DUP || *op == jvm::DUP2 {
+            1
+        } else {
+            2
+        }),
+        JOp::Narrow(op) => Ok(if *op == jvm::I2B { 1 } else { 0 }),
+        JOp::Call { op, method: _ } => Ok(if *op == jvm::INVOKEINTERFACE { 5 } else { 3 }),
         JOp::Inc { .. } | JOp::CheckCast(_) | JOp::InstanceOf(_) => Ok(4),
         JOp::TableSwitch {
             other: _,

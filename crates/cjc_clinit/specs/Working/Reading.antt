@@ -19,7 +19,8 @@ use Rattle.cjc_clinit.specs.declared.stage.Stage.{Stage}
 use Rattle.cjc_clinit.specs.declared.stage.Stage.TheVariants as stages
 use Rattle.cjc_clinit.specs.Fields.{Contents, ANumber, ANull, AnArray, fits, held_by, takes}
 use Rattle.cjc_clinit.specs.Image.{array_in, own_field, initialised}
-use Rattle.cjc_clinit.specs.Initialiser.{dup, return, element_kind, store, most_items, nothing_in, place_for}
+use Rattle.cjc_code.specs.Jvm.{dup, return}
+use Rattle.cjc_clinit.specs.Initialiser.{element_kind, store, most_items, nothing_in, place_for}
 use Rattle.cjc_clinit.specs.Rules.{is_wrong_class}
 
 -- ---- one instruction that puts nothing

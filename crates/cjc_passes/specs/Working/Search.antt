@@ -8,6 +8,7 @@ use Rattle.cjc_range.specs.Span.{Span, byte_range, short_range}
 use Rattle.cjc_code.specs.declared.insn.JInsn.{JInsn}
 use Rattle.cjc_code.specs.declared.insn.JOp.{JOp}
 use Rattle.cjc_code.specs.declared.insn.JOp.TheVariants as jop
+use Rattle.cjc_code.specs.Jvm as jvm
 use Rattle.cjc_types.specs.declared.cell.Cell.{Cell}
 use Rattle.cjc_types.specs.declared.state.State.{State}
 use Rattle.cjc_types.specs.Flow.{Body}
@@ -67,7 +68,7 @@ arithmetic_rule opcode s =
 
 -- of a value that bastore puts into what may be an array of booleans
 abbrev pub element_rule : (opcode : ℕ) → Cell → Span → Option ℕ
-element_rule opcode array s = if (opcode == 0x54) && may_hold_booleans array then tested 609 boolean_range s else None
+element_rule opcode array s = if (opcode == jvm.bastore) && may_hold_booleans array then tested 609 boolean_range s else None
 
 -- of a value that is put into a field; where it is got there is none
 abbrev pub put_rule : (put : Bool) → MemberId → List Span → Option ℕ

@@ -5,6 +5,7 @@ use Rattle.std.proofs.lemmas.List.Elements.{All-nil, All-cons}
 use Rattle.cjc_bytes.specs.Descriptor.{Part}
 use Rattle.cjc_bytes.specs.declared.names.Kind.{Kind}
 use Rattle.cjc_bytes.specs.declared.names.Kind.TheVariants as kinds
+use Rattle.cjc_code.specs.Jvm as jvm
 use Rattle.cjc_types.specs.declared.cell.Cell.{Cell}
 use Rattle.cjc_types.specs.declared.cell.Cell.TheVariants.{Number, Refs, Unusable}
 use Rattle.cjc_types.specs.Names.{In, IsSet, IsWithin}
@@ -87,7 +88,7 @@ elements_up xs ys h = elements_least xs [] (elements ys []) (λ n is. absurd is)
 -- what an array load gives from an own cell is own
 pub own_element : (opcode : ℕ) (x : Cell) → IsCell x → IsCell (element_of opcode x)
 own_element opcode Number own = tt
-own_element opcode (Refs names) own = go (opcode == 0x32)
+own_element opcode (Refs names) own = go (opcode == jvm.aaload)
   where
     go : (b : Bool) → IsCell (cond b (refs (elements names [])) Number)
     go true = own_refs (elements names []) (set_elements names [] tt)
@@ -103,7 +104,7 @@ element_up opcode x Number h = tt_for x h
 element_up opcode x Unusable h = tt
 element_up opcode Number (Refs ys) h = absurd h
 element_up opcode Unusable (Refs ys) h = absurd h
-element_up opcode (Refs xs) (Refs ys) h = go (opcode == 0x32)
+element_up opcode (Refs xs) (Refs ys) h = go (opcode == jvm.aaload)
   where
     go : (b : Bool) → IsCellBelow (cond b (refs (elements xs [])) Number) (cond b (refs (elements ys [])) Number)
     go true = refs_up (elements xs []) (elements ys []) (set_elements xs [] tt) (set_elements ys [] tt) (elements_up xs ys h)
