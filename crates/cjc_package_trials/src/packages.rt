@@ -36,6 +36,30 @@ change Method.cap 7 04
 card call p/T f(S)S 32767 = result -32768, done
 class sum.class rows
 card call p/T f(S)S 32767 = refused 719 Descriptor.cap - - 11
+change Class.cap 7 0B
+check = refused 704 Class.cap - - 6 # a superclass that java/lang has not
+change Class.cap 6 00
+change Class.cap 7 02
+check = refused 705 Class.cap - - 6
+change Class.cap 6 80
+change Class.cap 7 00
+change Method.cap 7 70
+change Method.cap 8 01
+check = refused 710 Method.cap - - 7 # a jump into its own operand
+change Method.cap 6 8F
+change Method.cap 7 00
+change Method.cap 8 00
+check = refused 711 Method.cap - - 7 # a class by an index that the pool has not
+change Method.cap 6 1C
+change Method.cap 7 04
+change Method.cap 8 41
+change Export.cap 9 03
+check = refused 717 Export.cap - - 8
+change Export.cap 9 01
+change Header.cap 9 00
+check = refused 702 Header.cap - - 9 # what is exported has no flag
+change Header.cap 9 02
+check = ok
 package lang rows = Header.cap 20, Directory.cap 36, Import.cap 14, ConstantPool.cap 5, Class.cap 15, Method.cap 83, StaticField.cap 13, RefLocation.cap 7, Export.cap 26, Descriptor.cap 133, p.exp 276 # elements at sums, quotients, shifts, masks, and switches with keys outside of 16 bits
 Method.cap 07,00,50,00,03,20,18,1D,04,41,25,78,03,20,18,1D,04,43,25,78,03,10,18,18,92,04,43,25,78,02,20,1C,1D,47,78,02,10,1C,10,14,51,78,02,10,1C,10,10,4D,78,02,10,1C,02,53,78,01,10,1C,75,00,0D,00,01,00,05,00,09,04,78,05,78,03,78,01,10,1C,3B,70,04,04,78,03,78
 check = ok
