@@ -1,6 +1,6 @@
-//! The run by token of what was written. Called by making.rt. The components are those of a conversion, which are there, are short,
-//! break no rule and are of the package. What would say otherwise of them is answered as want of memory, so that no refusal of
-//! theirs is told.
+//! The run by token of what was written. Called by making.rt. A conversion writes components that are there, are short,
+//! break no rule and are of the package. Nothing here rests on that: what would say otherwise of them is answered as
+//! want of memory, so that no refusal of theirs is told.
 
 ghost use Rattle.std.specs.Prelude.{◌≡◌, IfOk};
 ghost use Rattle.cjc_card_running.specs.Reads.{IsInput, plan_of_card};

@@ -1,5 +1,6 @@
-//! What `make NUMBER SIZE` prints: the summary of a package that is made, converted, and run by name and by token. The program's top
-//! call calls it; the package and what is written of it stand on a shelf in memory, and no other file is read or written.
+//! What `make NUMBER SIZE` prints: the summary of a package that is made, converted, and run by name and by token. The
+//! program's top call calls it; the package and what is written of it stand on a shelf in memory, and no other file is
+//! read or written.
 #![tactic(auto)]
 
 mod by_name;

@@ -1,5 +1,5 @@
-//! What `make NUMBER SIZE` prints. The program's top call calls it. Nothing here reads or writes a file: the package and what is
-//! written of it stand on a shelf in memory.
+//! What `make NUMBER SIZE` prints. The program's top call calls it. Nothing here reads or writes a file: the package
+//! and what is written of it stand on a shelf in memory.
 
 ghost use Rattle.std.specs.Prelude.{◌≡◌, ◌≤◌, ◌^◌, All, length, map, true, IfErr, IfOk, OnOk};
 ghost use Rattle.cjc_command.specs.Gather.{Gathers, Judged, status_of_fault};
@@ -29,8 +29,8 @@ use cjc_running::{Input, gather_input};
 use cjc_shelf::{CleanShelf, LONGEST, Shelf};
 use std::alloc::Global;
 
-/// The fault for an end of reads. A made package has all files that its list names, none of them too long, and a shelf in memory does
-/// not fail: where the reads end otherwise than by a rule, memory is wanting.
+/// The fault for an end of reads. A made package has all files that its list names, none of them too long, and a shelf
+/// in memory does not fail: where the reads end otherwise than by a rule, memory is wanting.
 fn fault_of(end: Status) -> Fault
     ensures { result ≡ fault_of end }
 {
@@ -65,7 +65,8 @@ fn are_short(files: &[Bytes]) -> bool
     true
 }
 
-/// Converts what was read. No file that a shelf gives is longer than those that are read; memory would be wanting for one.
+/// Converts what was read. No file that a shelf gives is longer than those that are read; memory would be wanting for
+/// one.
 fn convert_input(alloc: Global, input: &Input) -> Result<Converted, Fault>
     requires { IsInput input.now }
     ensures converted { IfOk result (IsConverted input.now.list input.now.files) }
@@ -166,8 +167,8 @@ fn judge(alloc: Global, number: u32, size: u32) -> Result<Todo, Status>
     }
 }
 
-/// Makes a package from a number and a size, converts it, runs 1,000,000 instructions of its class files by name and 3,000,000 of its
-/// components by token, and sums up. It asks nothing of the shelf.
+/// Makes a package from a number and a size, converts it, runs 1,000,000 instructions of its class files by name and
+/// 3,000,000 of its components by token, and sums up. It asks nothing of the shelf.
 ///
 /// # Errors
 ///

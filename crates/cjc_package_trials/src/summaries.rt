@@ -1,4 +1,5 @@
-//! Packages that are made from a number, a line each: the words of the command, and ` = ` with the lines that it prints.
+//! Packages that are made from a number, a line each: the words of the command, and ` = ` with the lines that it
+//! prints.
 
 use crate::runs::says;
 use cjc_bytes::{NoMemory, Row};
