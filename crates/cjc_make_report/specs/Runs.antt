@@ -1,7 +1,7 @@
 -- What `make NUMBER SIZE` prints: the summary of the package that is made, of its conversion, and of its runs by name and by token.
 use Rattle.std.specs.Prelude.{◌≡◌, ℕ, List, [], map, Result, Ok, Err}
 use Rattle.cjc_bytes.specs.declared.fault.Refusal.{Refusal}
-use Rattle.cjc_card_report.specs.Runs as by_token
+use Rattle.cjc_card_report.specs.Runs as card_runs
 use Rattle.cjc_card_running.specs.Reads.{plan_of_card}
 use Rattle.cjc_card_running.specs.Ready as components
 use Rattle.cjc_card_running.specs.declared.input.Input.{Input as ComponentsInput}
@@ -44,7 +44,7 @@ pub record IsReportByName (input : Input) (report : Report) : Type 0 where
 pub record IsComponentsReport (input : ComponentsInput) (report : Report) : Type 0 where
   pub ready : ComponentsReady
   pub is_ready : components.IsReady input script_name ready
-  pub is_report : by_token.IsReport input ready 3000000 report
+  pub is_report : card_runs.IsReport input ready 3000000 report
 
 -- The list, its files, the components in the folder and the script are read of these files, and this is the report of the
 -- components by token.
