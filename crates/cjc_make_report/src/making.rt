@@ -89,7 +89,8 @@ fn add_converted(
     ensures { OnOk result (files_of (clean_shelved shelf.new) ≡ written_files (map (below folder) (files_made package_name.now made)) (files_of (clean_shelved shelf.old))) }
 {
     let todo = publication(alloc, b"out", package_name, made)?;
-    add_files(shelf, todo.files.items())
+    add_files(shelf, todo.files.items())?;
+    Ok(())
 }
 
 /// Adds the files of a conversion, runs class files and components, and sums up.

@@ -42,7 +42,8 @@ fn add_named(alloc: Global, shelf: &mut CleanShelf, files: &[Bytes]) -> Result<(
     match files {
         [lang, classes @ ..] => {
             shelf.add(b"lang.exp", lang.items())?;
-            add_classes(alloc, shelf, classes)
+            add_classes(alloc, shelf, classes)?;
+            Ok(())
         }
         [] => Ok(()),
     }
