@@ -9,4 +9,5 @@ mod reporting;
 mod running;
 
 pub use laws::one_answer;
+pub use reporting::report_of;
 pub use running::gather_card;

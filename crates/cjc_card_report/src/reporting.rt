@@ -1,4 +1,4 @@
-//! The report of a run by token. Called by running.rt. It reads no file.
+//! The report of a run by token. Called by running.rt, and by the command that sums up two runs. It reads no file.
 
 ghost use Rattle.std.specs.Prelude.{◌≡◌, ◌<◌, ◌^◌, List as Items, ℕ, Some, IfErr, IfOk};
 ghost use Rattle.cjc_card.specs.ByToken.{run as run_by_token};
@@ -116,12 +116,11 @@ fn parts_in<'a>(ready: &'a Ready<'_>) -> Parts<'a>
 }
 
 /// Whether the components are of the package, and the report of the run of n instructions of them and a script.
-pub(crate) fn report_of(
-    alloc: Global,
-    input: &Input,
-    ready: &Ready<'_>,
-    n: u32,
-) -> Result<Report, Fault>
+///
+/// # Errors
+///
+/// Components that are not of the package, as 719; want of memory.
+pub fn report_of(alloc: Global, input: &Input, ready: &Ready<'_>, n: u32) -> Result<Report, Fault>
     requires { (name : Items ℕ) × IsReady input.now name ready.now }
     ensures report { IfOk result (IsReport input.now ready.now n) }
     ensures refused { IfErr result (IsPairFault ready.now) }

@@ -6,4 +6,5 @@ mod reporting;
 mod room;
 mod running;
 
+pub use reporting::report_of;
 pub use running::gather_run;

@@ -1,4 +1,4 @@
-//! The report of a run by name. Called by running.rt. It reads no file.
+//! The report of a run by name. Called by running.rt, and by the command that sums up two runs. It reads no file.
 
 ghost use Rattle.std.specs.Prelude.{◌≡◌, ◌<◌, ◌+◌, ◌^◌, length, true, IfOk};
 ghost use Rattle.std.specs.List.{sum_by};
@@ -72,7 +72,11 @@ fn report_from(
 }
 
 /// The report of the run of n instructions of a package's class files and a script.
-pub(crate) fn report_of(alloc: Global, ready: &Ready<'_>, n: u32) -> Result<Report, NoMemory>
+///
+/// # Errors
+///
+/// Want of memory.
+pub fn report_of(alloc: Global, ready: &Ready<'_>, n: u32) -> Result<Report, NoMemory>
     requires codes { ready.now.judged.codes ≡ all_codes ready.now.judged.world.classes }
     requires unbroken { (b : Broken) → BreaksImage ready.now.judged.world ready.now.judged.codes b → ⊥ }
     ensures { IfOk result (IsReport ready.now n) }

@@ -1,6 +1,6 @@
 //! Packages made by hand, each converted in memory, checked and run: what is printed, components byte for byte,
-//! refusals of what is written, and its limits. There is no code here but tests: a crate with tests of its own is
-//! proved twice.
+//! refusals of what is written, and its limits; and packages that are made from a number. There is no code here but
+//! tests: a crate with tests of its own is proved twice.
 #![tactic(auto)]
 
 #[cfg(test)]
@@ -13,3 +13,5 @@ mod long_files;
 mod packages;
 #[cfg(test)]
 mod runs;
+#[cfg(test)]
+mod summaries;

@@ -5,4 +5,4 @@ pub mod OneStatus
 pub mod Tested
 pub mod Ran
 pub mod CardRan
-pub mod Publishing
+pub mod Summed

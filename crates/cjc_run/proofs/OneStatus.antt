@@ -14,8 +14,9 @@ use Rattle.cjc_whole.specs.Conversion.{IsRefused}
 use Rattle.cjc_folder.specs.declared.folder.Folder.{Folder}
 use Rattle.cjc_jvm_report.proofs.OneAnswer.{one_refusal_of_runs, never_both as never_run_and_refused}
 use Rattle.cjc_jvm_report.specs.Runs.{Runs}
+use Rattle.cjc_make_report.specs.Runs as summed
 use Rattle.cjc_running.specs.declared.input.Input.{Input}
-use Rattle.cjc_run.specs.Request.{Request, card, check, convert, jvm}
+use Rattle.cjc_run.specs.Request.{Request, card, check, convert, jvm, make}
 use Rattle.cjc_run.specs.Command.{command_of}
 use Rattle.cjc_run.specs.Convert.{Makes}
 
@@ -57,9 +58,23 @@ card_once one never n script input = record {
   not_both = λ todo r made f. never n script input todo r made f;
 }
 
+-- a number and a size give one refusal, or a summary, and not both
+abbrev pub SumsOnce : Type 0
+SumsOnce = (given : ℕ × ℕ) (r s : Refusal) → summed.Makes given (Err r) → summed.Makes given (Err s) → r ≡ s
+
+abbrev pub SumsOrRefuses : Type 0
+SumsOrRefuses = (given : ℕ × ℕ) (todo : Todo) (r : Refusal) → summed.Makes given (Ok todo) → summed.Makes given (Err r) → ⊥
+
+make_once : SumsOnce → SumsOrRefuses → (given : ℕ × ℕ) → IsOneAnswer (summed.Makes given)
+make_once one never given = record {
+  one = λ r s f g. one given r s f g;
+  not_both = λ todo r made f. never given todo r made f;
+}
+
 -- one line a command
-pub makes_once : IsRefusedOnce → IsNeverBoth → RunsOnce → RunsOrRefuses → (asked : Request) (inputs : (command_of asked).Inputs) → IsOneAnswer ((command_of asked).Makes inputs)
-makes_once one never runs either (convert list dir) inputs = convert_once one never dir inputs
-makes_once one never runs either (check list dir) inputs = check_once inputs
-makes_once one never runs either (jvm list script n) inputs = run_once n script inputs
-makes_once one never runs either (card list dir script n) inputs = card_once runs either n script inputs
+pub makes_once : IsRefusedOnce → IsNeverBoth → RunsOnce → RunsOrRefuses → SumsOnce → SumsOrRefuses → (asked : Request) (inputs : (command_of asked).Inputs) → IsOneAnswer ((command_of asked).Makes inputs)
+makes_once one never runs either sums alone (convert list dir) inputs = convert_once one never dir inputs
+makes_once one never runs either sums alone (check list dir) inputs = check_once inputs
+makes_once one never runs either sums alone (jvm list script n) inputs = run_once n script inputs
+makes_once one never runs either sums alone (card list dir script n) inputs = card_once runs either n script inputs
+makes_once one never runs either sums alone (make number size) inputs = make_once sums alone inputs

@@ -22,13 +22,15 @@ use Rattle.cjc_command.specs.declared.status.Status.{Status}
 use Rattle.cjc_command.specs.declared.status.Status.TheVariants as status
 use Rattle.cjc_command.specs.declared.status.Todo.{Todo}
 use Rattle.cjc_list.proofs.Decided.{listed_spelt}
-use Rattle.cjc_run.specs.Request.{Request, card, check, convert, jvm}
+use Rattle.cjc_run.specs.Request.{Request, card, check, convert, jvm, make}
 use Rattle.cjc_run.specs.Command.{command_of}
-use Rattle.cjc_run.specs.Convert.{names_of, plan_of_files, plan_of_list, plan_of_convert, files_made, below}
+use Rattle.cjc_publication.specs.Publication.{files_made, below}
+use Rattle.cjc_run.specs.Convert.{names_of, plan_of_files, plan_of_list, plan_of_convert}
 use Rattle.cjc_run.specs.Promise.{SpellStep, SpellClasses, ExportStep, SpellExports, Converts, Promised}
 use Rattle.cjc_run.proofs.Standing.{stand_made}
 use Rattle.cjc_run.proofs.CardRan.{keeps_card}
 use Rattle.cjc_run.proofs.Ran.{keeps_run}
+use Rattle.cjc_run.proofs.Summed.{keeps_made}
 use Rattle.cjc_run.proofs.Tested.{keeps_tested}
 
 -- ---- what was read
@@ -174,6 +176,7 @@ promised_done (convert name dir) old new from to t = keeps_told name dir old.fil
 promised_done (check name dir) old new from to t = keeps_tested name dir old new from to t.0 t.1 t.2 t.3
 promised_done (jvm name script n) old new from to t = keeps_run name script n old new from to t.0 t.1 t.2 t.3
 promised_done (card name dir script n) old new from to t = keeps_card name dir script n old new from to t.0 t.1 t.2 t.3
+promised_done (make number size) old new from to t = keeps_made number size old new from to t.0 t.1 t.2 t.3
 
 pub promised : (r : Request) (old new : Shelved) (from to : Sunk) (answer : Status) → Acts (command_of r) old new from to answer → answer ≡ status.Done
     → Promised r old new from to

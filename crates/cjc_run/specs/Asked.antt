@@ -1,7 +1,8 @@
 -- From a request of the program's code to the request of the definitions.
+use Rattle.std.specs.Prelude.{◌≤◌}
 use Rattle.cjc_run.specs.declared.command.Asked.{Asked}
 use Rattle.cjc_run.specs.declared.command.Asked.TheVariants as asks
-use Rattle.cjc_run.specs.Request.{Request, card, check, convert, jvm}
+use Rattle.cjc_run.specs.Request.{Request, card, check, convert, jvm, make}
 
 -- the request that a value of the program stands for
 abbrev pub asked : Asked → Request
@@ -9,3 +10,12 @@ asked (asks.Convert list dir) = convert list.now dir.now
 asked (asks.Check list dir) = check list.now dir.now
 asked (asks.Jvm list script n) = jvm list.now script.now n
 asked (asks.Card list dir script n) = card list.now dir.now script.now n
+asked (asks.Make number size) = make number size
+
+-- Where a package is to be made, it has 1 to 250 classes.
+abbrev pub HasSize : Asked → Type 0
+HasSize (asks.Convert list dir) = Unit {0}
+HasSize (asks.Check list dir) = Unit {0}
+HasSize (asks.Jvm list script n) = Unit {0}
+HasSize (asks.Card list dir script n) = Unit {0}
+HasSize (asks.Make number size) = (1 ≤ size) × (size ≤ 250)

@@ -5,7 +5,7 @@ use Rattle.cjc_bytes.specs.Format.{FileSpells}
 use Rattle.cjc_bytes.specs.declared.settings.FileLine.{FileLine}
 use Rattle.cjc_shelf.specs.Shelf.{Files, Shelved}
 use Rattle.cjc_shelf.specs.Sink.{Sunk}
-use Rattle.cjc_command.specs.Publish.{Stand}
+use Rattle.cjc_command.specs.Publish.{IsPrinted, Stand}
 use Rattle.cjc_list.specs.Listed.{ListTree}
 use Rattle.cjc_list.specs.Spelling.{IsSpelt as IsListSpelt}
 use Rattle.cjc_classfile.specs.ClassFile.{class_file}
@@ -19,9 +19,10 @@ use Rattle.cjc_alike.specs.Alike.{BehaveAlike}
 use Rattle.cjc_convert.specs.declared.conversion.Converted.{Converted}
 use Rattle.cjc_judge.specs.Rules.{world_files}
 use Rattle.cjc_sentences.specs.Consistent.{Consistent}
-use Rattle.cjc_run.specs.Convert.{files_made, below}
+use Rattle.cjc_publication.specs.Publication.{files_made, below}
 use Rattle.cjc_checking.specs.Check.{AreConsistent, check_breaks, ok_line, plan_of_check}
 use Rattle.cjc_command.specs.Plan.{complete, verdict}
+use Rattle.cjc_command.specs.declared.status.Todo.{Todo}
 use Rattle.cjc_folder.specs.declared.folder.Folder.{Folder}
 use Rattle.cjc_card_report.specs.Runs as by_token
 use Rattle.cjc_card_running.specs.Ready as components
@@ -33,7 +34,8 @@ use Rattle.cjc_running.specs.declared.ready.Ready.{Ready}
 use Rattle.cjc_script.specs.declared.report.Report.{Report}
 use Rattle.cjc_script_text.specs.Printed.{report_text}
 use Rattle.cjc_jvm_report.specs.Runs.{IsReport, plan_of_jvm}
-use Rattle.cjc_run.specs.Request.{Request, card, check, convert, jvm}
+use Rattle.cjc_make_report.specs.Runs.{IsMade}
+use Rattle.cjc_run.specs.Request.{Request, card, check, convert, jvm, make}
 
 -- by one line: a class file is there and spells the first of these classes, and the other lines the rest; an export
 -- file spells none of them
@@ -124,9 +126,17 @@ pub record CardReported (name dir script : List ℕ) (n : ℕ) (old new : Shelve
   pub kept : IfSome old.files (λ files. new.files ≡ Some files)
   pub reported : IfSome old.files (λ files. IsCardReported name dir script n files from to)
 
+-- Nothing is written, and the summary of the package of this number and size is printed: of its conversion, and of its runs.
+pub record MadeReported (number size : ℕ) (old new : Shelved) (from to : Sunk) : Type 0 where
+  pub todo : Todo
+  pub made : IsMade number size todo
+  pub kept : IfSome old.files (λ files. new.files ≡ Some files)
+  pub printed : IsPrinted todo from to
+
 -- what the request that is done promises of the shelf and the sink before and after
 abbrev pub Promised : Request → Shelved → Shelved → Sunk → Sunk → Type 0
 Promised (convert name dir) old new from to = IfSome old.files (λ before. IsSomeAnd new.files (Converts name dir before))
 Promised (check name dir) old new from to = Checked name dir old new from to
 Promised (jvm name script n) old new from to = Reported name script n old new from to
 Promised (card name dir script n) old new from to = CardReported name dir script n old new from to
+Promised (make number size) old new from to = MadeReported number size old new from to

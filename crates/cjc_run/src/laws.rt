@@ -10,6 +10,7 @@ ghost use Rattle.cjc_run.specs.Command.{command_of};
 
 use cjc_card_report::one_answer as one_report;
 use cjc_convert::one_answer;
+use cjc_make_report::one_answer as one_summary;
 
 /// The words and the told files decide one answer: two runs in which no fault count rises and memory is there
 /// end the same way, and of all refusals that a run may answer for them there is one.
@@ -19,4 +20,5 @@ pub fn one_status()
 {
     one_answer();
     one_report();
+    one_summary();
 }

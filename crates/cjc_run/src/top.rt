@@ -6,7 +6,7 @@ ghost use Rattle.cjc_command.specs.Gather.{Gathers};
 ghost use Rattle.cjc_command.specs.Publish.{Quiet};
 ghost use Rattle.cjc_command.specs.Answer.{Acts, Answers, Cause, IsDecided, IsComplete};
 ghost use Rattle.cjc_run.specs.Request.{request};
-ghost use Rattle.cjc_run.specs.Asked.{asked};
+ghost use Rattle.cjc_run.specs.Asked.{HasSize, asked};
 ghost use Rattle.cjc_run.specs.Command.{command_of};
 ghost use Rattle.cjc_run.specs.Promise.{Promised};
 
@@ -17,11 +17,13 @@ use cjc_card_report::gather_card;
 use cjc_checking::gather_check;
 use cjc_command::{Status, Todo, publish};
 use cjc_jvm_report::gather_run;
+use cjc_make_report::gather_make;
 use cjc_shelf::{Shelf, Sink};
 use std::alloc::Global;
 
 // Reads and computes what a command writes and prints. Nothing is written here.
 fn gather<S: Shelf>(alloc: Global, command: Asked<'_>, shelf: &mut S) -> Result<Todo, Status>
+    requires { HasSize command }
     ensures { Gathers (command_of (asked command.entry)).plan (command_of (asked command.entry)).Makes (S.shelved shelf.old) (S.shelved shelf.new) result }
 {
     match command {
@@ -34,10 +36,12 @@ fn gather<S: Shelf>(alloc: Global, command: Asked<'_>, shelf: &mut S) -> Result<
             script,
             n,
         } => gather_card(alloc, list, dir, script, n, shelf),
+        Asked::Make { number, size } => gather_make(alloc, number, size, shelf),
     }
 }
 
 fn act<S: Shelf, O: Sink>(alloc: Global, command: Asked<'_>, shelf: &mut S, out: &mut O) -> Status
+    requires { HasSize command }
     ensures { Acts (command_of (asked command.entry)) (S.shelved shelf.old) (S.shelved shelf.new) (O.sunk out.old) (O.sunk out.new) result }
 {
     match gather(alloc, command, shelf) {

@@ -113,6 +113,12 @@ words - = 0 0 usage
 words convert list = 0 0 usage
 words convert list out out = 0 0 usage
 words Convert list out = 0 0 usage
+words make 7 = 0 0 usage
+words make 7 0 = 0 0 usage
+words make 7 251 = 0 0 usage
+words make 7 0003 = 0 0 usage
+words make x 3 = 0 0 usage
+words make 4294967296 3 = 0 0 usage
 list none ; lang.exp none ; T.class none = 0 0 absent list
 T.class none = 0 0 absent T.class";
 

@@ -11,3 +11,12 @@ returns-in-Card g c = rw c.in-Card.is c.gather_card.ensures
 
 pub returns-in-Check : goal.returns-in-Check
 returns-in-Check g c = rw c.in-Check.is c.gather_check.ensures
+
+pub gather_make-requires-clause-least : goal.gather_make-requires-clause-least
+gather_make-requires-clause-least g c = let h = rw c.in-Make.is at c.requires in h.0
+
+pub gather_make-requires-clause-greatest : goal.gather_make-requires-clause-greatest
+gather_make-requires-clause-greatest g c = let h = rw c.in-Make.is at c.requires in h.1
+
+pub returns-in-Make : goal.returns-in-Make
+returns-in-Make g c = rw c.in-Make.is c.gather_make.ensures

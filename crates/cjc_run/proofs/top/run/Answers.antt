@@ -7,15 +7,18 @@ use Rattle.cjc_run.proofs.top.run.Goals as goal
 
 pub returns-in-Some-clause-decided : goal.returns-in-Some-clause-decided
 returns-in-Some-clause-decided g c =
-    let is = rw c.in-Some.is at c.asked_by.ensures in
+    let is = rw c.in-Some.is at c.asked_by.ensures.asked in
     rw (sym is) (is_decided (command_of (asked c.in-Some.command)) _ _ _ _ _ c.act.ensures)
 
 pub returns-in-Some-clause-complete : goal.returns-in-Some-clause-complete
 returns-in-Some-clause-complete g c =
-    let is = rw c.in-Some.is at c.asked_by.ensures in
+    let is = rw c.in-Some.is at c.asked_by.ensures.asked in
     rw (sym is) (is_complete (command_of (asked c.in-Some.command)) _ _ _ _ _ c.act.ensures)
 
 pub returns-in-Some-clause-alike : goal.returns-in-Some-clause-alike
 returns-in-Some-clause-alike g c =
-    let is = rw c.in-Some.is at c.asked_by.ensures in
+    let is = rw c.in-Some.is at c.asked_by.ensures.asked in
     rw (sym is) (λ done. promised (asked c.in-Some.command) _ _ _ _ _ c.act.ensures done)
+
+pub act-requires : goal.act-requires
+act-requires g c = rw c.in-Some.is at c.asked_by.ensures.size

@@ -5,7 +5,7 @@ use Rattle.std.specs.Prelude.{codes}
 use Rattle.cjc_capwrite.specs.declared.files.CapFiles.{CapFiles}
 use Rattle.cjc_command.specs.declared.status.File.{File}
 use Rattle.cjc_command.specs.declared.status.Todo.{Todo}
-use Rattle.cjc_run.specs.Convert.{below, components_of, file_line, files_made, last_part, named, publication, where_there, with_files}
+use Rattle.cjc_publication.specs.Publication.{below, components_of, file_line, files_made, last_part, named, publication, where_there, with_files}
 use Rattle.cjc_convert.specs.declared.conversion.Converted.{Converted}
 
 abbrev todo : List File → List (List ℕ) → Todo

@@ -1,6 +1,6 @@
 use Rattle.std.proofs.Common.{◌≡◌, length}
-use Rattle.cjc_run.specs.Convert.{behind_slash, last_part}
-use Rattle.cjc_run.proofs.converting.last_part.Given as goal
+use Rattle.cjc_publication.specs.Publication.{behind_slash, last_part}
+use Rattle.cjc_publication.proofs.files.last_part.Given as goal
 
 abbrev pub invariant-loop-left : goal.invariant-loop-left
 invariant-loop-left l = behind_slash l.part l.left ≡ last_part l.name

@@ -1,6 +1,6 @@
 use Rattle.std.proofs.Common.{◌∙◌}
-use Rattle.cjc_run.proofs.Publishing.{begun, filed}
-use Rattle.cjc_run.proofs.converting.todo_of.Goals as goal
+use Rattle.cjc_publication.proofs.Publishing.{begun, filed}
+use Rattle.cjc_publication.proofs.files.publication.Goals as goal
 
 pub returns : goal.returns
 returns c = filed c.args.dir.now c.args.package_name.now c.args.made _ _ _ _ _ _ _ _ _ _ _ _ _ _ (begun c.args.dir.now c.new.result c.new-2.result c.new.ensures c.new-2.ensures)

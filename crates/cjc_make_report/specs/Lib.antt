@@ -1,0 +1,4 @@
+pub mod Package
+pub mod Summary
+pub mod Runs
+pub mod Working
