@@ -4,5 +4,8 @@
 #![tactic(auto)]
 
 mod conversion;
+mod laws;
 
+pub use cjc_convert::Converted;
 pub use conversion::convert;
+pub use laws::one_answer;

@@ -8,8 +8,7 @@ use Rattle.cjc_command.specs.Plan.{Plan, complete, verdict}
 use Rattle.cjc_command.specs.declared.status.Status.{Status}
 use Rattle.cjc_command.specs.declared.status.Status.TheVariants as status
 use Rattle.cjc_command.specs.declared.status.Todo.{Todo}
-use Rattle.cjc_convert.specs.Conversion.{IsConverted}
-use Rattle.cjc_convert.specs.declared.conversion.Converted.{Converted}
+use Rattle.cjc_conversion.specs.Conversion.{Conversion, IsConverted}
 use Rattle.cjc_judge.specs.Rules.{IsFirstFault}
 use Rattle.cjc_make_report.specs.Package.{list_name, made_files, script_name}
 use Rattle.cjc_make_report.specs.Runs.{Makes, Refuses, of_list, of_package, of_script, reads_end}
@@ -58,7 +57,7 @@ module _ (number size : ℕ) where
   by_package input e read (inl none) = inl none
   by_package input e read (inr (r, refuses, is)) = inr (r, of_package input read refuses, is)
 
-  pub by_script : (input : Input) (made : Converted) (e : Fault) → reads_end (made_files number size) ≡ complete input → IsConverted input.list input.files made
+  pub by_script : (input : Input) (made : Conversion) (e : Fault) → reads_end (made_files number size) ≡ complete input → IsConverted input.list input.files made
       → IsFirstFault (Breaks input.list input.files script_name input.script) e → IsMakeFault number size e
   by_script input made e read converted (inl none) = inl none
   by_script input made e read converted (inr (r, first, is)) = inr (r, of_script input read made converted first, is)

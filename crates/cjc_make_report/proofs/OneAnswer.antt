@@ -3,15 +3,13 @@ use Rattle.std.proofs.Common.{◌≡◌, ℕ, List, [], ◌∷◌, refl, sym, su
 use Rattle.cjc_bytes.specs.declared.fault.Refusal.{Refusal}
 use Rattle.cjc_command.specs.Plan.{complete, refused}
 use Rattle.cjc_command.specs.declared.status.Todo.{Todo}
-use Rattle.cjc_convert.specs.Conversion.{IsConverted}
-use Rattle.cjc_convert.specs.declared.conversion.Converted.{Converted}
+use Rattle.cjc_conversion.specs.Conversion.{Conversion, IsConverted, IsRefused}
 use Rattle.cjc_judge.specs.Rules.{IsFirstRefused}
 use Rattle.cjc_jvm_report.proofs.OneAnswer.{one_refusal_of_runs, never_both as never_run_and_refused}
 use Rattle.cjc_list.specs.Listed.{ListTree}
 use Rattle.cjc_running.specs.Ready.{Breaks}
 use Rattle.cjc_running.specs.declared.input.Input.{Input}
 use Rattle.cjc_script_text.specs.Printed.{report_text}
-use Rattle.cjc_whole.specs.Conversion.{IsRefused}
 use Rattle.cjc_make_report.specs.Package.{made_files, script_name}
 use Rattle.cjc_make_report.specs.Runs.{IsMade, Refuses, of_list, of_package, of_script, reads_end}
 
@@ -20,7 +18,7 @@ abbrev pub IsRefusedOnce : Type 0
 IsRefusedOnce = (list : ListTree) (files : List (List ℕ)) (r s : Refusal) → IsRefused list files r → IsRefused list files s → r ≡ s
 
 abbrev pub IsNeverBoth : Type 0
-IsNeverBoth = (list : ListTree) (files : List (List ℕ)) (made : Converted) (r : Refusal) → IsConverted list files made → IsRefused list files r → ⊥
+IsNeverBoth = (list : ListTree) (files : List (List ℕ)) (made : Conversion) (r : Refusal) → IsConverted list files made → IsRefused list files r → ⊥
 
 module _ (one : IsRefusedOnce) (never : IsNeverBoth) (number size : ℕ) where
   same_input : (a b : Input) → reads_end (made_files number size) ≡ complete a → reads_end (made_files number size) ≡ complete b → a ≡ b
@@ -33,7 +31,7 @@ module _ (one : IsRefusedOnce) (never : IsNeverBoth) (number size : ℕ) where
   not_refused input r e f = let both : complete input ≡ refused r = sym e ∙ f in cc
 
   -- what holds of one input holds of the other
-  converted_too : (a b : Input) (made : Converted) → reads_end (made_files number size) ≡ complete a → reads_end (made_files number size) ≡ complete b → IsConverted a.list a.files made
+  converted_too : (a b : Input) (made : Conversion) → reads_end (made_files number size) ≡ complete a → reads_end (made_files number size) ≡ complete b → IsConverted a.list a.files made
       → IsConverted b.list b.files made
   converted_too a b made e f c = subst (λ (i : Input). IsConverted i.list i.files made) (same_input a b e f) c
 

@@ -10,8 +10,7 @@ use Rattle.cjc_command.specs.Plan.{Plan, has, Verdict, verdict, complete, refuse
 use Rattle.cjc_command.specs.Publish.{written_files}
 use Rattle.cjc_command.specs.declared.status.Todo.{Todo}
 use Rattle.cjc_conversion.specs.Promise.{KeepsPromise}
-use Rattle.cjc_convert.specs.Conversion.{IsConverted}
-use Rattle.cjc_convert.specs.declared.conversion.Converted.{Converted}
+use Rattle.cjc_conversion.specs.Conversion.{Conversion, IsConverted, IsRefused}
 use Rattle.cjc_judge.specs.Rules.{IsFirstRefused}
 use Rattle.cjc_jvm_report.specs.Runs.{IsReport}
 use Rattle.cjc_publication.specs.Publication.{below, files_made}
@@ -21,7 +20,6 @@ use Rattle.cjc_running.specs.declared.input.Input.{Input}
 use Rattle.cjc_running.specs.declared.ready.Ready.{Ready}
 use Rattle.cjc_script.specs.declared.report.Report.{Report}
 use Rattle.cjc_shelf.specs.Shelf.{Files}
-use Rattle.cjc_whole.specs.Conversion.{IsRefused}
 use Rattle.cjc_make_report.specs.Package.{folder, list_name, made_files, script_name}
 use Rattle.cjc_make_report.specs.Summary.{size_item, summary_lines}
 
@@ -55,11 +53,11 @@ pub record IsReportByToken (files : Files) (report : Report) : Type 0 where
 
 -- The files of a conversion are put beside these; class files and components are run; no file is to be written, and the summary
 -- is printed.
-pub record IsSummary (size : ℕ) (files : Files) (input : Input) (made : Converted) (todo : Todo) : Type 0 where
+pub record IsSummary (size : ℕ) (files : Files) (input : Input) (made : Conversion) (todo : Todo) : Type 0 where
   pub by_name : Report
   pub is_by_name : IsReportByName input by_name
   pub by_token : Report
-  pub is_by_token : IsReportByToken (written_files (map (below folder) (files_made (let list = input.list in list.package) made)) files) by_token
+  pub is_by_token : IsReportByToken (written_files (map (below folder) (files_made (let list = input.list in list.package) made.caps made.export)) files) by_token
   pub is : todo ≡ record { files = []; lines = summary_lines size (size_item (let caps = made.caps in caps.method)) by_name by_token }
 
 -- The package of this number and size is read of a shelf of its own, and is converted as every conversion promises; the summary of
@@ -67,7 +65,7 @@ pub record IsSummary (size : ℕ) (files : Files) (input : Input) (made : Conver
 pub record IsMade (number size : ℕ) (todo : Todo) : Type 0 where
   pub input : Input
   pub read : reads_end (made_files number size) ≡ complete input
-  pub made : Converted
+  pub made : Conversion
   pub is_converted : IsConverted input.list input.files made
   pub kept : KeepsPromise input.list input.files made
   pub summary : IsSummary size (made_files number size) input made todo
@@ -78,7 +76,7 @@ pub data Refuses (number size : ℕ) (r : Refusal) : Type 0 where
   of_list : reads_end (made_files number size) ≡ refused r → Refuses number size r
   of_package : (input : Input) → reads_end (made_files number size) ≡ complete input → IsRefused input.list input.files r → Refuses number size r
   of_script :
-      (input : Input) → reads_end (made_files number size) ≡ complete input → (made : Converted) → IsConverted input.list input.files made
+      (input : Input) → reads_end (made_files number size) ≡ complete input → (made : Conversion) → IsConverted input.list input.files made
       → IsFirstRefused (Breaks input.list input.files script_name input.script) r → Refuses number size r
 
 -- What is printed of a number and a size, or which rule is broken first.

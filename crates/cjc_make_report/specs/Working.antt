@@ -8,7 +8,7 @@ use Rattle.cjc_command.specs.declared.status.Status.{Status}
 use Rattle.cjc_command.specs.declared.status.Status.TheVariants as status
 use Rattle.cjc_running.specs.declared.input.Input.{Input}
 use Rattle.cjc_shelf.specs.Shelf.{Files}
-use Rattle.cjc_whole.specs.Conversion.{IsRefused}
+use Rattle.cjc_conversion.specs.Conversion.{IsRefused}
 use Rattle.cjc_make_report.specs.Runs.{Refuses, reads_end}
 
 -- the fault for an end of reads in memory

@@ -5,7 +5,7 @@ ghost use Rattle.cjc_bytes.specs.declared.fault.Refusal.{Refusal};
 ghost use Rattle.cjc_command.specs.declared.status.Todo.{Todo};
 ghost use Rattle.cjc_make_report.specs.Runs.{Makes};
 
-use cjc_convert::one_answer as one_conversion;
+use cjc_conversion::one_answer as one_conversion;
 
 /// A number and a size decide one answer: one refusal, or a summary, and not both.
 pub fn one_answer()

@@ -2,11 +2,11 @@
 //! and what is written of it stand on a shelf in memory.
 
 ghost use Rattle.std.specs.Prelude.{◌≡◌, ◌≤◌, ◌^◌, All, length, map, true, IfErr, IfOk, OnOk};
-ghost use Rattle.cjc_command.specs.Gather.{Gathers, Judged, status_of_fault};
+ghost use Rattle.cjc_command.specs.Gather.{Gathers, Judged};
 ghost use Rattle.cjc_command.specs.Plan.{complete};
 ghost use Rattle.cjc_command.specs.Publish.{written_files};
 ghost use Rattle.cjc_conversion.specs.Promise.{KeepsPromise};
-ghost use Rattle.cjc_convert.specs.Conversion.{IsConverted};
+ghost use Rattle.cjc_conversion.specs.Conversion.{IsConverted};
 ghost use Rattle.cjc_judge.specs.Rules.{IsFirstFault};
 ghost use Rattle.cjc_publication.specs.Publication.{below, files_made};
 ghost use Rattle.cjc_running.specs.Reads.{IsInput};
@@ -22,8 +22,7 @@ use crate::shelf::{add_files, package_shelf};
 use crate::summary::{size_item, summary};
 use cjc_bytes::{Bytes, Fault, NoMemory};
 use cjc_command::{Status, Todo};
-use cjc_conversion::convert;
-use cjc_convert::Converted;
+use cjc_conversion::{Converted, convert};
 use cjc_publication::publication;
 use cjc_running::{Input, gather_input};
 use cjc_shelf::{CleanShelf, LONGEST, Shelf};
@@ -86,9 +85,10 @@ fn add_converted(
     package_name: &[u8],
     made: Converted,
 ) -> Result<(), NoMemory>
-    ensures { OnOk result (files_of (clean_shelved shelf.new) ≡ written_files (map (below folder) (files_made package_name.now made)) (files_of (clean_shelved shelf.old))) }
+    ensures { OnOk result (files_of (clean_shelved shelf.new) ≡ written_files (map (below folder) (files_made package_name.now made.caps made.export)) (files_of (clean_shelved shelf.old))) }
 {
-    let todo = publication(alloc, b"out", package_name, made)?;
+    let Converted { caps, export } = made;
+    let todo = publication(alloc, b"out", package_name, caps, export)?;
     add_files(shelf, todo.files.items())?;
     Ok(())
 }
@@ -146,16 +146,6 @@ fn report_package(alloc: Global, number: u32, size: u32) -> Result<Todo, Fault>
     report_input(alloc, number, size, &input, &mut shelf)
 }
 
-/// The answer for a fault.
-fn status_of(fault: Fault) -> Status
-    ensures { result ≡ status_of_fault fault }
-{
-    match fault {
-        Fault::Refused(refusal) => Status::Refused(refusal),
-        Fault::NoMemory => Status::NoMemory,
-    }
-}
-
 // All is computed here, the lines too.
 fn judge(alloc: Global, number: u32, size: u32) -> Result<Todo, Status>
     requires least { 1 ≤ size }
@@ -164,7 +154,7 @@ fn judge(alloc: Global, number: u32, size: u32) -> Result<Todo, Status>
 {
     match report_package(alloc, number, size) {
         Ok(todo) => Ok(todo),
-        Err(fault) => Err(status_of(fault)),
+        Err(fault) => Err(Status::from(fault)),
     }
 }
 

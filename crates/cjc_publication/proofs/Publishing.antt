@@ -6,7 +6,6 @@ use Rattle.cjc_capwrite.specs.declared.files.CapFiles.{CapFiles}
 use Rattle.cjc_command.specs.declared.status.File.{File}
 use Rattle.cjc_command.specs.declared.status.Todo.{Todo}
 use Rattle.cjc_publication.specs.Publication.{below, components_of, file_line, files_made, last_part, named, publication, where_there, with_files}
-use Rattle.cjc_convert.specs.declared.conversion.Converted.{Converted}
 
 abbrev todo : List File → List (List ℕ) → Todo
 todo files lines = record { files = files; lines = lines }
@@ -27,10 +26,7 @@ grouped h d i p c m s l t f n None (Some b) = refl
 grouped h d i p c m s l t f n (Some a) None = refl
 grouped h d i p c m s l t f n (Some a) (Some b) = refl
 
-module _ (dir name : List ℕ) (made : Converted) where
-  abbrev caps : CapFiles
-  caps = made.caps
-
+module _ (dir name : List ℕ) (caps : CapFiles) (made : List ℕ) where
   pub filed : (t0 t1 t2 t3 t4 t5 t6 t7 t8 t9 t10 t11 t12 : Todo) (export_name : List ℕ) → t0 ≡ publication dir []
       → t1 ≡ with_files dir t0 (named (codes "Header.cap") caps.header ∷ [])
       → t2 ≡ with_files dir t1 (named (codes "Directory.cap") caps.directory ∷ [])
@@ -43,7 +39,7 @@ module _ (dir name : List ℕ) (made : Converted) where
       → t9 ≡ with_files dir t8 (named (codes "RefLocation.cap") caps.locations ∷ [])
       → t10 ≡ with_files dir t9 (where_there (codes "Export.cap") caps.export)
       → t11 ≡ with_files dir t10 (named (codes "Descriptor.cap") caps.descriptor ∷ [])
-      → t12 ≡ with_files dir t11 (named export_name made.export ∷ []) → export_name ≡ last_part name ++ codes ".exp" → t12 ≡ publication dir (files_made name made)
+      → t12 ≡ with_files dir t11 (named export_name made ∷ []) → export_name ≡ last_part name ++ codes ".exp" → t12 ≡ publication dir (files_made name caps made)
   filed t0 t1 t2 t3 t4 t5 t6 t7 t8 t9 t10 t11 t12 export_name e0 e1 e2 e3 e4 e5 e6 e7 e8 e9 e10 e11 e12 x =
       let s1 = step dir t0 t1 [] (named (codes "Header.cap") caps.header ∷ []) e0 e1 in
       let s2 = step dir t1 t2 ([] ++ (named (codes "Header.cap") caps.header ∷ [])) (named (codes "Directory.cap") caps.directory ∷ []) s1 e2 in
@@ -56,5 +52,5 @@ module _ (dir name : List ℕ) (made : Converted) where
       let s9 = step dir t8 t9 (((((((([] ++ (named (codes "Header.cap") caps.header ∷ [])) ++ (named (codes "Directory.cap") caps.directory ∷ [])) ++ (where_there (codes "Applet.cap") caps.applet)) ++ (named (codes "Import.cap") caps.import ∷ [])) ++ (named (codes "ConstantPool.cap") caps.pool ∷ [])) ++ (named (codes "Class.cap") caps.class ∷ [])) ++ (named (codes "Method.cap") caps.method ∷ [])) ++ (named (codes "StaticField.cap") caps.statics ∷ [])) (named (codes "RefLocation.cap") caps.locations ∷ []) s8 e9 in
       let s10 = step dir t9 t10 ((((((((([] ++ (named (codes "Header.cap") caps.header ∷ [])) ++ (named (codes "Directory.cap") caps.directory ∷ [])) ++ (where_there (codes "Applet.cap") caps.applet)) ++ (named (codes "Import.cap") caps.import ∷ [])) ++ (named (codes "ConstantPool.cap") caps.pool ∷ [])) ++ (named (codes "Class.cap") caps.class ∷ [])) ++ (named (codes "Method.cap") caps.method ∷ [])) ++ (named (codes "StaticField.cap") caps.statics ∷ [])) ++ (named (codes "RefLocation.cap") caps.locations ∷ [])) (where_there (codes "Export.cap") caps.export) s9 e10 in
       let s11 = step dir t10 t11 (((((((((([] ++ (named (codes "Header.cap") caps.header ∷ [])) ++ (named (codes "Directory.cap") caps.directory ∷ [])) ++ (where_there (codes "Applet.cap") caps.applet)) ++ (named (codes "Import.cap") caps.import ∷ [])) ++ (named (codes "ConstantPool.cap") caps.pool ∷ [])) ++ (named (codes "Class.cap") caps.class ∷ [])) ++ (named (codes "Method.cap") caps.method ∷ [])) ++ (named (codes "StaticField.cap") caps.statics ∷ [])) ++ (named (codes "RefLocation.cap") caps.locations ∷ [])) ++ (where_there (codes "Export.cap") caps.export)) (named (codes "Descriptor.cap") caps.descriptor ∷ []) s10 e11 in
-      let s12 = step dir t11 t12 ((((((((((([] ++ (named (codes "Header.cap") caps.header ∷ [])) ++ (named (codes "Directory.cap") caps.directory ∷ [])) ++ (where_there (codes "Applet.cap") caps.applet)) ++ (named (codes "Import.cap") caps.import ∷ [])) ++ (named (codes "ConstantPool.cap") caps.pool ∷ [])) ++ (named (codes "Class.cap") caps.class ∷ [])) ++ (named (codes "Method.cap") caps.method ∷ [])) ++ (named (codes "StaticField.cap") caps.statics ∷ [])) ++ (named (codes "RefLocation.cap") caps.locations ∷ [])) ++ (where_there (codes "Export.cap") caps.export)) ++ (named (codes "Descriptor.cap") caps.descriptor ∷ [])) (named export_name made.export ∷ []) s11 e12 in
-      s12 ∙ ap (publication dir) (grouped caps.header caps.directory caps.import caps.pool caps.class caps.method caps.statics caps.locations caps.descriptor made.export export_name caps.applet caps.export ∙ ap (λ n. components_of caps ++ named n made.export ∷ []) x)
+      let s12 = step dir t11 t12 ((((((((((([] ++ (named (codes "Header.cap") caps.header ∷ [])) ++ (named (codes "Directory.cap") caps.directory ∷ [])) ++ (where_there (codes "Applet.cap") caps.applet)) ++ (named (codes "Import.cap") caps.import ∷ [])) ++ (named (codes "ConstantPool.cap") caps.pool ∷ [])) ++ (named (codes "Class.cap") caps.class ∷ [])) ++ (named (codes "Method.cap") caps.method ∷ [])) ++ (named (codes "StaticField.cap") caps.statics ∷ [])) ++ (named (codes "RefLocation.cap") caps.locations ∷ [])) ++ (where_there (codes "Export.cap") caps.export)) ++ (named (codes "Descriptor.cap") caps.descriptor ∷ [])) (named export_name made ∷ []) s11 e12 in
+      s12 ∙ ap (publication dir) (grouped caps.header caps.directory caps.import caps.pool caps.class caps.method caps.statics caps.locations caps.descriptor made export_name caps.applet caps.export ∙ ap (λ n. components_of caps ++ named n made ∷ []) x)

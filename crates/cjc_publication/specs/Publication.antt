@@ -1,7 +1,6 @@
 -- The files of a conversion below a folder, and the lines that are printed of them.
 use Rattle.std.specs.Prelude.{◌==◌, ℕ, List, [], ◌∷◌, ◌++◌, length, map, codes, decimal, if◌then◌else◌, Option, Some, None}
 use Rattle.cjc_capwrite.specs.declared.files.CapFiles.{CapFiles}
-use Rattle.cjc_convert.specs.declared.conversion.Converted.{Converted}
 use Rattle.cjc_command.specs.declared.status.File.{File}
 use Rattle.cjc_command.specs.declared.status.Todo.{Todo}
 
@@ -34,8 +33,8 @@ components_of caps =
     ++ (named (codes "Descriptor.cap") caps.descriptor ∷ [])
 
 -- the components, and the export file under the last part of the package's name
-abbrev pub files_made : List ℕ → Converted → List File
-files_made package_name made = components_of made.caps ++ named (last_part package_name ++ codes ".exp") made.export ∷ []
+abbrev pub files_made : (package_name : List ℕ) → CapFiles → (export : List ℕ) → List File
+files_made package_name caps export = components_of caps ++ named (last_part package_name ++ codes ".exp") export ∷ []
 
 -- the file in the folder
 abbrev pub below : List ℕ → File → File

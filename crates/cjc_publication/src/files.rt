@@ -4,8 +4,8 @@ ghost use Rattle.std.specs.Prelude.{◌≡◌, ◌++◌, ◌∷◌, [], codes, I
 ghost use Rattle.cjc_publication.specs.Publication.{last_part as last_part_lem, files_made as files_lem, named, where_there, file_line, publication as publication_lem, with_files};
 
 use cjc_bytes::{Bytes, NoMemory, Out, Row};
+use cjc_capwrite::CapFiles;
 use cjc_command::{File, Todo};
-use cjc_convert::Converted;
 use itoa::Buffer;
 use std::alloc::Global;
 use std::mem;
@@ -15,12 +15,12 @@ pub fn publication(
     alloc: Global,
     dir: &[u8],
     package_name: &[u8],
-    mut made: Converted,
+    mut caps: CapFiles,
+    mut export: Bytes,
 ) -> Result<Todo, NoMemory>
-    ensures { IfOk result (λ todo. todo ≡ publication_lem dir.now (files_lem package_name.now made)) }
+    ensures { IfOk result (λ todo. todo ≡ publication_lem dir.now (files_lem package_name.now caps export)) }
 {
-    let export = export_name(alloc, package_name)?;
-    let caps = &mut made.caps;
+    let name = export_name(alloc, package_name)?;
     let mut todo = Todo {
         files: Row::new(alloc),
         lines: Row::new(alloc),
@@ -48,7 +48,7 @@ pub fn publication(
         b"Descriptor.cap",
         &mut caps.descriptor,
     )?;
-    put_file(alloc, dir, &mut todo, export.items(), &mut made.export)?;
+    put_file(alloc, dir, &mut todo, name.items(), &mut export)?;
     Ok(todo)
 }
 

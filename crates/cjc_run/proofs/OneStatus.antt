@@ -6,11 +6,9 @@ use Rattle.cjc_command.proofs.OneAnswer.{IsOneAnswer}
 use Rattle.cjc_bytes.specs.declared.fault.Refusal.{Refusal}
 use Rattle.cjc_card_report.specs.Runs as card_runs
 use Rattle.cjc_card_running.specs.declared.input.Input.{Input as ComponentsInput}
-use Rattle.cjc_convert.specs.Conversion.{IsConverted}
-use Rattle.cjc_convert.specs.declared.conversion.Converted.{Converted}
+use Rattle.cjc_conversion.specs.Conversion.{Conversion, IsConverted, IsRefused}
 use Rattle.cjc_checking.proofs.OneAnswer.{one_refusal as one_broken, never_both}
 use Rattle.cjc_checking.specs.Check.{Checks}
-use Rattle.cjc_whole.specs.Conversion.{IsRefused}
 use Rattle.cjc_folder.specs.declared.folder.Folder.{Folder}
 use Rattle.cjc_jvm_report.proofs.OneAnswer.{one_refusal_of_runs, never_both as never_run_and_refused}
 use Rattle.cjc_jvm_report.specs.Runs.{Runs}
@@ -25,7 +23,7 @@ abbrev pub IsRefusedOnce : Type 0
 IsRefusedOnce = (list : ListTree) (files : List (List ℕ)) (r s : Refusal) → IsRefused list files r → IsRefused list files s → r ≡ s
 
 abbrev pub IsNeverBoth : Type 0
-IsNeverBoth = (list : ListTree) (files : List (List ℕ)) (made : Converted) (r : Refusal) → IsConverted list files made → IsRefused list files r → ⊥
+IsNeverBoth = (list : ListTree) (files : List (List ℕ)) (made : Conversion) (r : Refusal) → IsConverted list files made → IsRefused list files r → ⊥
 
 convert_once : IsRefusedOnce → IsNeverBoth → (dir : List ℕ) (inputs : ListTree × List (List ℕ)) → IsOneAnswer (Makes dir inputs)
 convert_once one never dir inputs = record {

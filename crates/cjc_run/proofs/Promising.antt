@@ -147,7 +147,7 @@ keeps name dir files new todo ready written =
     let got = convert_got files name x ready.read in
     let made = ready.made.0 in
     let kept = ready.made.2 in
-    let all : List File = map (below dir) (files_made x.0.package made) in
+    let all : List File = map (below dir) (files_made x.0.package made.caps made.export) in
     let after : written_files todo.files files ≡ written_files all files = ap (λ (t : Todo). written_files t.files files) ready.made.3 in
     subst (λ (o : Option Files). IsSomeAnd o (Converts name dir files)) (sym written) (record {
       text = got.text;
@@ -160,7 +160,7 @@ keeps name dir files new todo ready written =
       list_is = listed_spelt name got.text x.0 got.listed_is;
       class_files = classes_spelt files x.0.lines x.1 kept.trees got.all kept.spell;
       export_files = exports_spelt files x.0.lines x.1 kept.trees got.all kept.spell;
-      stand = subst (λ (fs : Files). Stand fs all) (sym after) (stand_made dir x.0.package files made);
+      stand = subst (λ (fs : Files). Stand fs all) (sym after) (stand_made dir x.0.package files made.caps made.export);
       spelt = kept.spelt;
       consistent = kept.consistent;
       alike = kept.alike;

@@ -6,7 +6,7 @@ use Rattle.cjc_shelf.specs.Shelf.{Files}
 use Rattle.cjc_command.specs.declared.status.File.{File}
 use Rattle.cjc_command.specs.Publish.{written_files, IsNew, AreDistinct, Stand}
 use Rattle.cjc_command.proofs.Published.{written_stand}
-use Rattle.cjc_convert.specs.declared.conversion.Converted.{Converted}
+use Rattle.cjc_capwrite.specs.declared.files.CapFiles.{CapFiles}
 use Rattle.cjc_publication.specs.Publication.{named, below, last_part, files_made}
 
 -- ---- names
@@ -52,14 +52,11 @@ is_false false f = refl
 apart : (front last : List ℕ) → bytes_eq (front ++ codes ".cap") (last ++ codes ".exp") ≡ false
 apart front last = is_false _ (λ e. not_export front last (equal_names _ _ e))
 
-abbrev made_of : (h d i p c m s l x export : List ℕ) (applet exported : Option (List ℕ)) → Converted
-made_of h d i p c m s l x export applet exported = record {
-  caps = record { header = h; directory = d; applet = applet; import = i; pool = p; class = c; method = m; statics = s; locations = l; export = exported; descriptor = x };
-  export = export;
-}
+abbrev caps_of : (h d i p c m s l x : List ℕ) (applet exported : Option (List ℕ)) → CapFiles
+caps_of h d i p c m s l x applet exported = record { header = h; directory = d; applet = applet; import = i; pool = p; class = c; method = m; statics = s; locations = l; export = exported; descriptor = x }
 
 -- no two files of a conversion have one name
-distinct_made : (name h d i p c m s l x export : List ℕ) (applet exported : Option (List ℕ)) → AreDistinct (files_made name (made_of h d i p c m s l x export applet exported))
+distinct_made : (name h d i p c m s l x export : List ℕ) (applet exported : Option (List ℕ)) → AreDistinct (files_made name (caps_of h d i p c m s l x applet exported) export)
 distinct_made name h d i p c m s l x export None None =
     ((refl, (refl, (refl, (refl, (refl, (refl, (refl, (refl, (apart (codes "Header") (last_part name), tt))))))))), ((refl, (refl, (refl, (refl, (refl, (refl, (refl, (apart (codes "Directory") (last_part name), tt)))))))), ((refl, (refl, (refl, (refl, (refl, (refl, (apart (codes "Import") (last_part name), tt))))))), ((refl, (refl, (refl, (refl, (refl, (apart (codes "ConstantPool") (last_part name), tt)))))), ((refl, (refl, (refl, (refl, (apart (codes "Class") (last_part name), tt))))), ((refl, (refl, (refl, (apart (codes "Method") (last_part name), tt)))), ((refl, (refl, (apart (codes "StaticField") (last_part name), tt))), ((refl, (apart (codes "RefLocation") (last_part name), tt)), ((apart (codes "Descriptor") (last_part name), tt), (tt, tt))))))))))
 distinct_made name h d i p c m s l x export None (Some e) =
@@ -70,9 +67,9 @@ distinct_made name h d i p c m s l x export (Some a) (Some e) =
     ((refl, (refl, (refl, (refl, (refl, (refl, (refl, (refl, (refl, (refl, (apart (codes "Header") (last_part name), tt))))))))))), ((refl, (refl, (refl, (refl, (refl, (refl, (refl, (refl, (refl, (apart (codes "Directory") (last_part name), tt)))))))))), ((refl, (refl, (refl, (refl, (refl, (refl, (refl, (refl, (apart (codes "Applet") (last_part name), tt))))))))), ((refl, (refl, (refl, (refl, (refl, (refl, (refl, (apart (codes "Import") (last_part name), tt)))))))), ((refl, (refl, (refl, (refl, (refl, (refl, (apart (codes "ConstantPool") (last_part name), tt))))))), ((refl, (refl, (refl, (refl, (refl, (apart (codes "Class") (last_part name), tt)))))), ((refl, (refl, (refl, (refl, (apart (codes "Method") (last_part name), tt))))), ((refl, (refl, (refl, (apart (codes "StaticField") (last_part name), tt)))), ((refl, (refl, (apart (codes "RefLocation") (last_part name), tt))), ((refl, (apart (codes "Export") (last_part name), tt)), ((apart (codes "Descriptor") (last_part name), tt), (tt, tt))))))))))))
 
 -- all files stand in the folder
-pub stand_made : (dir name : List ℕ) (files : Files) (made : Converted)
-    → Stand (written_files (map (below dir) (files_made name made)) files) (map (below dir) (files_made name made))
-stand_made dir name files made =
-    written_stand (map (below dir) (files_made name made)) files (distinct_below dir (files_made name made)
-    (distinct_made name made.caps.header made.caps.directory made.caps.import made.caps.pool made.caps.class made.caps.method made.caps.statics made.caps.locations
-    made.caps.descriptor made.export made.caps.applet made.caps.export))
+pub stand_made : (dir name : List ℕ) (files : Files) (caps : CapFiles) (export : List ℕ)
+    → Stand (written_files (map (below dir) (files_made name caps export)) files) (map (below dir) (files_made name caps export))
+stand_made dir name files caps export =
+    written_stand (map (below dir) (files_made name caps export)) files (distinct_below dir (files_made name caps export)
+    (distinct_made name caps.header caps.directory caps.import caps.pool caps.class caps.method caps.statics caps.locations caps.descriptor export caps.applet
+    caps.export))

@@ -12,11 +12,9 @@ use Rattle.cjc_classfile.specs.ClassFile.{class_file}
 use Rattle.cjc_classfile.specs.declared.tree.ClassTree.{ClassTree}
 use Rattle.cjc_export.specs.declared.tree.ExportTree.{ExportTree}
 use Rattle.cjc_export.specs.ExportFile.{export_file}
-use Rattle.cjc_fair_exports.specs.Fair.{ExportsAreFair}
 use Rattle.cjc_capread.specs.declared.tree.CapTree.{CapTree}
 use Rattle.cjc_capwrite.specs.Writable.{IsSpelt}
-use Rattle.cjc_alike.specs.Alike.{BehaveAlike}
-use Rattle.cjc_convert.specs.declared.conversion.Converted.{Converted}
+use Rattle.cjc_conversion.specs.Conversion.{BehaveAlike, Conversion, ExportsAreFair}
 use Rattle.cjc_judge.specs.Rules.{world_files}
 use Rattle.cjc_sentences.specs.Consistent.{Consistent}
 use Rattle.cjc_publication.specs.Publication.{files_made, below}
@@ -69,13 +67,13 @@ pub record Converts (name dir : List ℕ) (before after : Files) : Type 0 where
   pub list : ListTree
   pub classes : List ClassTree
   pub exports : List ExportTree
-  pub made : Converted
+  pub made : Conversion
   pub cap : CapTree
   pub text_is : get before name ≡ Some text
   pub list_is : IsListSpelt name list text
   pub class_files : SpellClasses before list.lines classes
   pub export_files : SpellExports before list.lines exports
-  pub stand : Stand after (map (below dir) (files_made list.package made))
+  pub stand : Stand after (map (below dir) (files_made list.package made.caps made.export))
   pub spelt : IsSpelt cap made.caps
   pub consistent : ExportsAreFair exports → Consistent cap exports
   pub alike : ExportsAreFair exports → BehaveAlike list (world_files list classes exports) cap

@@ -9,7 +9,7 @@ ghost use Rattle.cjc_run.specs.Convert.{plan_of_convert, plan_of_list, plan_of_f
 
 use cjc_bytes::{Bytes, Fault, NoMemory, Row};
 use cjc_command::{Status, Todo, fetch, fetch_each};
-use cjc_conversion::convert;
+use cjc_conversion::{Converted, convert};
 use cjc_list::{List, read_list};
 use cjc_publication::publication;
 use cjc_shelf::Shelf;
@@ -80,10 +80,12 @@ fn judge(alloc: Global, dir: &[u8], list: &List, files: &Row<Bytes>) -> Result<T
     ensures { Judged (Makes dir.now (list.now, files.now)) result }
 {
     match convert(alloc, list, files) {
-        Ok(made) => match publication(alloc, dir, list.package.items(), made) {
-            Ok(todo) => Ok(todo),
-            Err(NoMemory) => Err(Status::NoMemory),
-        },
+        Ok(Converted { caps, export }) => {
+            match publication(alloc, dir, list.package.items(), caps, export) {
+                Ok(todo) => Ok(todo),
+                Err(NoMemory) => Err(Status::NoMemory),
+            }
+        }
         Err(Fault::Refused(refusal)) => Err(Status::Refused(refusal)),
         Err(Fault::NoMemory) => Err(Status::NoMemory),
     }

@@ -9,7 +9,7 @@ ghost use Rattle.cjc_run.specs.Request.{Request};
 ghost use Rattle.cjc_run.specs.Command.{command_of};
 
 use cjc_card_report::one_answer as one_report;
-use cjc_convert::one_answer;
+use cjc_conversion::one_answer;
 use cjc_make_report::one_answer as one_summary;
 
 /// The words and the told files decide one answer: two runs in which no fault count rises and memory is there

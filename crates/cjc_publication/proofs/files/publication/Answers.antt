@@ -3,7 +3,7 @@ use Rattle.cjc_publication.proofs.Publishing.{begun, filed}
 use Rattle.cjc_publication.proofs.files.publication.Goals as goal
 
 pub returns : goal.returns
-returns c = filed c.args.dir.now c.args.package_name.now c.args.made _ _ _ _ _ _ _ _ _ _ _ _ _ _ (begun c.args.dir.now c.new.result c.new-2.result c.new.ensures c.new-2.ensures)
+returns c = filed c.args.dir.now c.args.package_name.now c.args.caps c.args.export _ _ _ _ _ _ _ _ _ _ _ _ _ _ (begun c.args.dir.now c.new.result c.new-2.result c.new.ensures c.new-2.ensures)
     c.in_ok-put_file.ensures
     c.in_ok-put_file-2.ensures
     c.in_ok-put_where_there.ensures
@@ -16,4 +16,4 @@ returns c = filed c.args.dir.now c.args.package_name.now c.args.made _ _ _ _ _ _
     c.in_ok-put_where_there-2.ensures
     c.in_ok-put_file-9.ensures
     c.in_ok-put_file-10.ensures
-    (c.items.ensures ∙ c.in_ok-export.ensures)
+    (c.items.ensures ∙ c.in_ok-name.ensures)
