@@ -16,6 +16,7 @@ mod operands;
 mod repeats;
 pub mod rows;
 mod rules;
+mod shared;
 mod state;
 mod steps;
 mod table;

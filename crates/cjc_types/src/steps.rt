@@ -151,10 +151,9 @@ pub(crate) fn gives_count(op: &JOp) -> usize
 fn behind(alloc: Global, op: &JOp, locals: &[Cell], stack: Operands) -> Result<Operands, NoMemory>
     ensures { IfOk result (λ behind. behind ≡ stack_behind op.now locals.now stack) }
 {
-    let mut stack = stack;
     let given = given(alloc, op, locals, &stack)?;
-    stack.take_off(insns::takes(op));
-    put_on(&mut stack, given)?;
+    let mut stack = stack.below(alloc, insns::takes(op))?;
+    put_on(alloc, &mut stack, given)?;
     Ok(stack)
 }
 
