@@ -304,7 +304,7 @@ fn put_copies(alloc: Global, all: &mut Vec<Cell>, cells: &[Cell]) -> Result<(), 
     ensures { OnOk result (all.new.items ≡ all.old.items ++ cells.now) }
 {
     for cell in cells {
-        all.push(cell::copied(alloc, cell)?)?;
+        all.push(cell::copied(cell)?)?;
     }
     Ok(())
 }

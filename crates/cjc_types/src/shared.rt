@@ -1,6 +1,6 @@
 //! Values with several owners, so that the frames of a table share what they have in common.
 
-ghost use Rattle.std.specs.Prelude.{◌≡◌, IfOk};
+ghost use Rattle.std.specs.Prelude.{◌≡◌, IfOk, IfErr};
 
 use cjc_bytes::{NoMemory, Row};
 use std::alloc::Global;
@@ -38,11 +38,16 @@ impl<T: Drop> Shared<T> {
         Ok(Shared { owned })
     }
 
-    /// The value.
-    pub fn value(&self) -> &T
-        ensures { result.now ≡ self.now }
+    /// The value itself, if it has no other owner.
+    pub(crate) fn alone(self) -> Result<T, Shared<T>>
+        ensures ok { IfOk result (λ value. value ≡ self) }
+        ensures err { IfErr result (λ shared. shared ≡ self) }
     {
-        self.owned.as_ref()
+        let Shared { owned } = self;
+        match Rc::try_unwrap(owned) {
+            Ok(value) => Ok(value),
+            Err(owned) => Err(Shared { owned }),
+        }
     }
 }
 
