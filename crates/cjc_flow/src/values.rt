@@ -7,10 +7,10 @@ ghost use Rattle.cjc_range.specs.Span.{byte_range, short_range};
 ghost use Rattle.cjc_types.specs.Types.{is_void as is_void_kind, parts};
 
 use crate::intervals::full_interval;
-use cjc_bytes::{Bytes, Kind, NoMemory, Row};
+use cjc_bytes::{Kind, NoMemory, Row};
 use cjc_code::jvm;
 use cjc_range::Interval;
-use cjc_types::{Cell, parsed};
+use cjc_types::{Cell, Name, parsed};
 use std::alloc::Global;
 
 /// One number.
@@ -120,7 +120,7 @@ fn is_booleans(name: &[u8]) -> bool
     }
 }
 
-fn are_booleans(types: &[Bytes]) -> bool
+fn are_booleans(types: &[Name]) -> bool
     ensures { result ≡ list_all is_boolean_array types.now }
 {
     for name in types {

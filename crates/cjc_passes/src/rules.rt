@@ -13,11 +13,11 @@ ghost use Rattle.cjc_range_flow.specs.Steps.{operand};
 ghost use Rattle.cjc_range_flow.specs.Values.{is_boolean_array};
 ghost use Rattle.cjc_passes.specs.Working.Search.{arguments_rule as arguments_rule_of, arithmetic_rule as arithmetic_rule_of, comparison_rule as comparison_rule_of, element_rule as element_rule_of, kind_rule as kind_rule_of, lower as lower_of, lowest_rule as lowest_rule_of, part_rule, put_rule as put_rule_of, tested as tested_by};
 
-use cjc_bytes::{Bytes, Kind, MemberId};
+use cjc_bytes::{Kind, MemberId};
 use cjc_code::{JOp, jvm};
 use cjc_flow::Ranges;
 use cjc_range::Interval;
-use cjc_types::{Cell, Operands, parsed};
+use cjc_types::{Cell, Name, Operands, parsed};
 
 /// The rule, where the interval does not lie from `low` to `high`.
 fn tested(rule: u16, low: i32, high: i32, interval: Interval) -> Option<u16>
@@ -177,7 +177,7 @@ fn is_booleans(name: &[u8]) -> bool
     }
 }
 
-fn has_booleans(types: &[Bytes]) -> bool
+fn has_booleans(types: &[Name]) -> bool
     ensures { result ≡ list_any is_boolean_array types.now }
 {
     for name in types {

@@ -12,8 +12,10 @@ pub mod Joining
 pub mod Least
 pub mod Marked
 pub mod Onwards
+pub mod Parts
 pub mod Passing
 pub mod Reversed
 pub mod Telling
 pub mod Typed
+pub mod Upper
 pub mod Wrong

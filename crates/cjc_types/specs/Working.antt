@@ -13,3 +13,4 @@ pub mod Onward
 pub mod MarkLaws
 pub mod RepeatLaws
 pub mod Told
+pub mod Parts

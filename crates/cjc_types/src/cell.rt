@@ -4,8 +4,8 @@
 ghost use Rattle.std.specs.Prelude.{◌≡◌, ◌≤◌, ◌^◌, IfOk, IsTrue};
 ghost use Rattle.cjc_types.specs.Cells.{IsCell, cell_rank, joined_cell, refs as refs_cell};
 
-use crate::names;
-use cjc_bytes::{Bytes, NoMemory, Row};
+use crate::names::{self, Names};
+use cjc_bytes::NoMemory;
 use std::alloc::Global;
 
 /// What is known of a word of a frame.
@@ -15,14 +15,14 @@ pub enum Cell {
     Number,
     /// It holds null or a reference to an object of one of these types. The types are given by the name of a class or
     /// interface, or by the descriptor of an array; they stand in ascending order, none twice.
-    Refs(Row<Bytes>),
+    Refs(Names),
     /// It may hold anything, and nothing may be done with it.
     Unusable,
 }
 
 /// The cell of a set of types.
 #[tactic(auto, unfolding(crate::specs::Cells::most_names))]
-pub(crate) fn refs(types: Row<Bytes>) -> Cell
+pub(crate) fn refs(types: Names) -> Cell
     ensures { result ≡ refs_cell types }
 {
     if types.items().len() <= 0xFFFF_FFFF {
@@ -33,12 +33,12 @@ pub(crate) fn refs(types: Row<Bytes>) -> Cell
 }
 
 /// The same cell once more.
-pub(crate) fn copied(alloc: Global, cell: &Cell) -> Result<Cell, NoMemory>
+pub(crate) fn copied(cell: &Cell) -> Result<Cell, NoMemory>
     ensures { IfOk result (λ copied. copied ≡ cell.now) }
 {
     match cell {
         Cell::Number => Ok(Cell::Number),
-        Cell::Refs(types) => Ok(Cell::Refs(names::copied(alloc, types.items())?)),
+        Cell::Refs(types) => Ok(Cell::Refs(types.shared()?)),
         Cell::Unusable => Ok(Cell::Unusable),
     }
 }
@@ -52,7 +52,7 @@ pub(crate) fn joined(alloc: Global, left: Cell, right: &Cell) -> Result<Cell, No
     match (left, right) {
         (Cell::Number, Cell::Number) => Ok(Cell::Number),
         (Cell::Refs(types), Cell::Refs(others)) => {
-            Ok(refs(names::either(alloc, types, others.items())?))
+            Ok(refs(names::either(alloc, types, others)?))
         }
         _ => Ok(Cell::Unusable),
     }

@@ -72,7 +72,7 @@ fn caught(alloc: Global, catch: &Catch, before: &State) -> Result<State, NoMemor
 {
     let mut stack = Operands::new(alloc);
     let types = names::one_name(alloc, caught_type(&catch.class))?;
-    stack.push(Cell::Refs(types))?;
+    stack.push(alloc, Cell::Refs(types))?;
     Ok(State {
         stack: Stack::Cells(stack),
         locals: state::copied_cells(alloc, before.locals.items())?,

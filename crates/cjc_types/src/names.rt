@@ -1,39 +1,43 @@
 //! Sets of class names for cells, as rows in ascending order with no name twice, so that equal sets are equal
-//! rows: one name more, two sets joined, and whether a set has all of another.
+//! rows: one name more, two sets joined, and whether a set has all of another. Cells share sets, and sets share
+//! names.
 
 ghost use Rattle.std.specs.Prelude.{◌≡◌, ◌≤◌, ◌∷◌, ◌++◌, [], length, take, drop, IfOk, OnOk, IsTrue, MatchOption};
 ghost use Rattle.cjc_types.specs.Names.{compare, insert, union, IsSet, IsWithin};
 ghost use Rattle.cjc_types.specs.Working.Merging.{lesser, steps_left, steps_right};
 
+use crate::shared::Shared;
 use cjc_bytes::{Bytes, NoMemory, Row};
 use std::alloc::Global;
 use std::cmp::Ordering;
 
-/// The set with no names.
-pub(crate) fn no_names(alloc: Global) -> Row<Bytes>
-    ensures { result ≡ [] }
+/// A name that sets share.
+pub type Name = Shared<Bytes>;
+
+/// A set of names that cells share.
+pub type Names = Shared<Row<Name>>;
+
+/// A name in memory of its own.
+fn name_of(alloc: Global, name: &[u8]) -> Result<Name, NoMemory>
+    ensures { IfOk result (λ made. made ≡ name.now) }
 {
-    Row::new(alloc)
+    Shared::new(alloc, Bytes::copy_of(alloc, name)?)
+}
+
+/// The set with no names.
+pub(crate) fn no_names(alloc: Global) -> Result<Names, NoMemory>
+    ensures { IfOk result (λ set. set ≡ []) }
+{
+    Shared::new(alloc, Row::new(alloc))
 }
 
 /// The set of one name.
-pub(crate) fn one_name(alloc: Global, name: &[u8]) -> Result<Row<Bytes>, NoMemory>
+pub(crate) fn one_name(alloc: Global, name: &[u8]) -> Result<Names, NoMemory>
     ensures { IfOk result (λ set. set ≡ name.now ∷ []) }
 {
     let mut set = Vec::with_capacity(alloc, 1)?;
-    set.push(Bytes::copy_of(alloc, name)?)?;
-    Ok(Row::of(set))
-}
-
-/// The same names once more.
-pub(crate) fn copied(alloc: Global, names: &[Bytes]) -> Result<Row<Bytes>, NoMemory>
-    ensures { IfOk result (λ copied. copied ≡ names.now) }
-{
-    let mut copied = Vec::with_capacity(alloc, names.len())?;
-    for name in names {
-        copied.push(Bytes::copy_of(alloc, name.items())?)?;
-    }
-    Ok(Row::of(copied))
+    set.push(name_of(alloc, name)?)?;
+    Shared::new(alloc, Row::of(set))
 }
 
 /// How the first name compares with the second.
@@ -44,7 +48,7 @@ fn compared(left: &[u8], right: &[u8]) -> Ordering
 }
 
 /// Where the name has to stand in the set, or nothing where it stands there already.
-fn place_of(set: &[Bytes], name: &[u8]) -> Option<usize>
+fn place_of(set: &[Name], name: &[u8]) -> Option<usize>
     requires { IsSet set.now }
     ensures { MatchOption result (insert name.now set.now ≡ set.now)
         (λ at. at ≤ length set.now × insert name.now set.now ≡ take at set.now ++ name.now ∷ drop at set.now) }
@@ -62,19 +66,30 @@ fn place_of(set: &[Bytes], name: &[u8]) -> Option<usize>
     Some(low)
 }
 
-/// Puts a name into the set.
-pub(crate) fn put(alloc: Global, set: &mut Vec<Bytes>, name: &[u8]) -> Result<(), NoMemory>
+/// Puts a name into the set, in memory of its own.
+pub(crate) fn put(alloc: Global, set: &mut Vec<Name>, name: &[u8]) -> Result<(), NoMemory>
     requires { IsSet set.old.items }
     ensures { OnOk result (set.new.items ≡ insert name.now set.old.items) }
 {
     if let Some(at) = place_of(set, name) {
-        set.insert(at, Bytes::copy_of(alloc, name)?)?;
+        set.insert(at, name_of(alloc, name)?)?;
+    }
+    Ok(())
+}
+
+/// Puts the name of another set into the set.
+fn put_shared(set: &mut Vec<Name>, name: &Name) -> Result<(), NoMemory>
+    requires { IsSet set.old.items }
+    ensures { OnOk result (set.new.items ≡ insert name.now set.old.items) }
+{
+    if let Some(at) = place_of(set, name.items()) {
+        set.insert(at, name.shared()?)?;
     }
     Ok(())
 }
 
 /// Whether each of the names is in the set.
-pub(crate) fn has_all(set: &[Bytes], names: &[Bytes]) -> bool
+pub(crate) fn has_all(set: &[Name], names: &[Name]) -> bool
     requires { IsSet set.now }
     ensures { IsTrue result → IsWithin names.now set.now }
 {
@@ -87,21 +102,16 @@ pub(crate) fn has_all(set: &[Bytes], names: &[Bytes]) -> bool
 }
 
 /// Puts the lesser of two names at the end, and says how the first compares with the second.
-fn put_lesser(
-    alloc: Global,
-    set: &mut Vec<Bytes>,
-    left: &[u8],
-    right: &[u8],
-) -> Result<Ordering, NoMemory>
+fn put_lesser(set: &mut Vec<Name>, left: &Name, right: &Name) -> Result<Ordering, NoMemory>
     ensures order { IfOk result (λ order. order ≡ compare left.now right.now) }
     ensures put { OnOk result (set.new.items ≡ set.old.items ++ lesser (compare left.now right.now) left.now right.now ∷ []) }
 {
-    let order = compared(left, right);
+    let order = compared(left.items(), right.items());
     let name = match order {
         Ordering::Greater => right,
         _ => left,
     };
-    set.push(Bytes::copy_of(alloc, name)?)?;
+    set.push(name.shared()?)?;
     Ok(order)
 }
 
@@ -126,23 +136,18 @@ fn steps_right(order: Ordering) -> usize
 }
 
 /// Puts the names from a place on at the end.
-fn put_rest(
-    alloc: Global,
-    set: &mut Vec<Bytes>,
-    names: &[Bytes],
-    from: usize,
-) -> Result<(), NoMemory>
+fn put_rest(set: &mut Vec<Name>, names: &[Name], from: usize) -> Result<(), NoMemory>
     requires { from ≤ length names.now }
     ensures { OnOk result (set.new.items ≡ set.old.items ++ drop from names.now) }
 {
     for k in from..names.len() {
-        set.push(Bytes::copy_of(alloc, names[k].items())?)?;
+        set.push(names[k].shared()?)?;
     }
     Ok(())
 }
 
 /// The names of either set, by one walk along both.
-fn merged(alloc: Global, left: &[Bytes], right: &[Bytes]) -> Result<Row<Bytes>, NoMemory>
+fn merged(alloc: Global, left: &[Name], right: &[Name]) -> Result<Names, NoMemory>
     requires { IsSet left.now }
     ensures { IfOk result (λ set. set ≡ union left.now right.now) }
 {
@@ -150,41 +155,57 @@ fn merged(alloc: Global, left: &[Bytes], right: &[Bytes]) -> Result<Row<Bytes>, 
     let mut i = 0;
     let mut k = 0;
     while i < left.len() && k < right.len() {
-        let order = put_lesser(alloc, &mut set, left[i].items(), right[k].items())?;
+        let order = put_lesser(&mut set, &left[i], &right[k])?;
         i += steps_left(order);
         k += steps_right(order);
     }
-    put_rest(alloc, &mut set, left, i)?;
-    put_rest(alloc, &mut set, right, k)?;
-    Ok(Row::of(set))
+    put_rest(&mut set, left, i)?;
+    put_rest(&mut set, right, k)?;
+    set.shrink_to_fit();
+    Shared::new(alloc, Row::of(set))
+}
+
+/// The names of a set to be changed, with room for some more: those of the set itself if no cell shares it.
+fn own_names(alloc: Global, set: Names, room: usize) -> Result<Vec<Name>, NoMemory>
+    ensures { IfOk result (λ own. own.items ≡ set) }
+{
+    match set.alone() {
+        Ok(names) => Ok(names.into_vec()),
+        Err(set) => {
+            let names = set.items();
+            let mut own = Vec::with_capacity(alloc, names.len().saturating_add(room))?;
+            put_rest(&mut own, names, 0)?;
+            Ok(own)
+        }
+    }
 }
 
 /// The set with some names more.
-fn with_names(alloc: Global, set: Row<Bytes>, names: &[Bytes]) -> Result<Row<Bytes>, NoMemory>
+fn with_names(alloc: Global, set: Names, names: &[Name]) -> Result<Names, NoMemory>
     requires { IsSet set }
     ensures { IfOk result (λ all. all ≡ union names.now set) }
 {
-    let mut all = set.into_vec();
+    let mut all = own_names(alloc, set, names.len())?;
     for name in names {
-        put(alloc, &mut all, name.items())?;
+        put_shared(&mut all, name)?;
     }
-    Ok(Row::of(all))
+    Shared::new(alloc, Row::of(all))
 }
 
-/// The names of either set, made of the first. A few names are put in one by one, so that a great set is not
-/// copied for them.
-pub(crate) fn either(
-    alloc: Global,
-    set: Row<Bytes>,
-    others: &[Bytes],
-) -> Result<Row<Bytes>, NoMemory>
+/// The names of either set, made of the first. Where they are those of one of the two, that is shared. A few
+/// names are put in one by one, so that a great set that no other cell shares is not copied for them.
+pub(crate) fn either(alloc: Global, set: Names, others: &Names) -> Result<Names, NoMemory>
     requires left { IsSet set }
     requires right { IsSet others.now }
     ensures { IfOk result (λ all. all ≡ union set others.now) }
 {
-    if others.len() <= 8 {
-        with_names(alloc, set, others)
+    if has_all(set.items(), others.items()) {
+        Ok(set)
+    } else if has_all(others.items(), set.items()) {
+        others.shared()
+    } else if others.items().len() <= 8 {
+        with_names(alloc, set, others.items())
     } else {
-        merged(alloc, set.items(), others)
+        merged(alloc, set.items(), others.items())
     }
 }

@@ -13,10 +13,11 @@ ghost use Rattle.cjc_types.specs.declared.cell.Cell.{Cell as Word};
 
 use crate::cell::Cell;
 use crate::method::Method;
+use crate::names::Name;
 use crate::operands::Operands;
 use crate::state::{Stack, State};
 use crate::{insns, steps, types};
-use cjc_bytes::{Bytes, Kind, MemberId, is_private};
+use cjc_bytes::{Kind, MemberId, is_private};
 use cjc_code::{JOp, jvm};
 use cjc_world::{Found, Known, World};
 
@@ -49,7 +50,7 @@ fn is_kind(refs: bool, cell: &Cell) -> bool
     }
 }
 
-fn are_of(world: &World<'_>, types: &[Bytes], class: &[u8]) -> bool
+fn are_of(world: &World<'_>, types: &[Name], class: &[u8]) -> bool
     ensures { result ≡ list_all (λ name. is_subtype (all_classes world.now) name class.now) types.now }
 {
     for name in types {
@@ -127,7 +128,7 @@ fn is_array_for(opcode: u8, name: &[u8]) -> bool
     }
 }
 
-fn are_arrays_for(opcode: u8, types: &[Bytes]) -> bool
+fn are_arrays_for(opcode: u8, types: &[Name]) -> bool
     ensures { result ≡ list_all (is_array_loaded opcode) types.now }
 {
     for name in types {
@@ -148,7 +149,7 @@ fn is_array(opcode: u8, cell: &Cell) -> bool
     }
 }
 
-fn are_arrays(types: &[Bytes]) -> bool
+fn are_arrays(types: &[Name]) -> bool
     ensures { result ≡ list_all (starts 91) types.now }
 {
     for name in types {

@@ -34,7 +34,7 @@ pub(crate) fn copied_cells(alloc: Global, cells: &[Cell]) -> Result<Row<Cell>, N
 {
     let mut copied = Vec::with_capacity(alloc, cells.len())?;
     for cell in cells {
-        copied.push(cell::copied(alloc, cell)?)?;
+        copied.push(cell::copied(cell)?)?;
     }
     Ok(Row::of(copied))
 }

@@ -16,21 +16,21 @@ use cjc_code::JOp;
 use std::alloc::Global;
 
 /// The k-th operand from the top, once more.
-fn copied_operand(alloc: Global, stack: &Operands, k: usize) -> Result<Cell, NoMemory>
+fn copied_operand(stack: &Operands, k: usize) -> Result<Cell, NoMemory>
     ensures { IfOk result (λ cell. cell ≡ operand stack.now k) }
 {
     match stack.get(k) {
-        Some(cell) => cell::copied(alloc, cell),
+        Some(cell) => cell::copied(cell),
         None => Ok(Cell::Unusable),
     }
 }
 
 /// The reference on the top.
-fn top_reference(alloc: Global, stack: &Operands) -> Result<Cell, NoMemory>
+fn top_reference(stack: &Operands) -> Result<Cell, NoMemory>
     ensures { IfOk result (λ cell. cell ≡ as_reference (operand stack.now 0)) }
 {
     match stack.get(0) {
-        Some(cell) => types::as_reference(alloc, cell),
+        Some(cell) => types::as_reference(cell),
         None => Ok(Cell::Unusable),
     }
 }
@@ -46,11 +46,11 @@ fn element(alloc: Global, opcode: u8, stack: &Operands) -> Result<Cell, NoMemory
 }
 
 /// What a load of a local gives.
-fn local_value(alloc: Global, refs: bool, locals: &[Cell], local: u16) -> Result<Cell, NoMemory>
+fn local_value(refs: bool, locals: &[Cell], local: u16) -> Result<Cell, NoMemory>
     ensures { IfOk result (λ cell. cell ≡ value_of_local refs (operand locals.now local)) }
 {
     match locals.get(local as usize) {
-        Some(cell) if refs => types::as_reference(alloc, cell),
+        Some(cell) if refs => types::as_reference(cell),
         None if refs => Ok(Cell::Unusable),
         _ => Ok(Cell::Number),
     }
@@ -62,7 +62,7 @@ fn operands(alloc: Global, stack: &Operands, places: &[u8]) -> Result<Row<Cell>,
 {
     let mut cells = Row::new(alloc);
     for place in places {
-        cells.push(copied_operand(alloc, stack, *place as usize)?)?;
+        cells.push(copied_operand(stack, *place as usize)?)?;
     }
     Ok(cells)
 }
@@ -73,6 +73,14 @@ fn one(alloc: Global, cell: Cell) -> Result<Row<Cell>, NoMemory>
     let mut cells = Row::new(alloc);
     cells.push(cell)?;
     Ok(cells)
+}
+
+/// The reference of no type, null.
+fn null(alloc: Global) -> Result<Row<Cell>, NoMemory>
+    ensures { IfOk result (λ cells. cells ≡ cells_of.Refs [] ∷ []) }
+{
+    let types = names::no_names(alloc)?;
+    one(alloc, Cell::Refs(types))
 }
 
 /// A reference of this type.
@@ -107,10 +115,10 @@ fn given(alloc: Global, op: &JOp, locals: &[Cell], stack: &Operands) -> Result<R
     ensures { IfOk result (λ cells. cells ≡ gives op.now locals.now stack.now) }
 {
     match op {
-        JOp::Null => one(alloc, Cell::Refs(names::no_names(alloc))),
+        JOp::Null => null(alloc),
         JOp::Number(_) | JOp::Arith(_) | JOp::Narrow(_) => one(alloc, Cell::Number),
         JOp::ArrayLength | JOp::InstanceOf(_) => one(alloc, Cell::Number),
-        JOp::Load { refs, local } => one(alloc, local_value(alloc, *refs, locals, *local)?),
+        JOp::Load { refs, local } => one(alloc, local_value(*refs, locals, *local)?),
         JOp::ArrayLoad(opcode) => one(alloc, element(alloc, *opcode, stack)?),
         JOp::Stack(opcode) => operands(alloc, stack, insns::shuffle(*opcode)),
         JOp::Static { put, field } => got(alloc, *put, field),
@@ -152,10 +160,9 @@ pub(crate) fn gives_count(op: &JOp) -> usize
 fn behind(alloc: Global, op: &JOp, locals: &[Cell], stack: Operands) -> Result<Operands, NoMemory>
     ensures { IfOk result (λ behind. behind ≡ stack_behind op.now locals.now stack) }
 {
-    let mut stack = stack;
     let given = given(alloc, op, locals, &stack)?;
-    stack.take_off(insns::takes(op));
-    put_on(&mut stack, given)?;
+    let mut stack = stack.below(alloc, insns::takes(op))?;
+    put_on(alloc, &mut stack, given)?;
     Ok(stack)
 }
 
@@ -169,11 +176,11 @@ fn after_stack(alloc: Global, op: &JOp, locals: &[Cell], stack: Stack) -> Result
 }
 
 /// What a store puts into a local.
-fn stored(alloc: Global, refs: bool, stack: &Stack) -> Result<Cell, NoMemory>
+fn stored(refs: bool, stack: &Stack) -> Result<Cell, NoMemory>
     ensures { IfOk result (λ cell. cell ≡ stored_by refs stack.now) }
 {
     match stack {
-        Stack::Cells(cells) if refs => top_reference(alloc, cells),
+        Stack::Cells(cells) if refs => top_reference(cells),
         Stack::Cells(_) => Ok(Cell::Number),
         Stack::Clash => Ok(Cell::Unusable),
     }
@@ -191,17 +198,12 @@ fn with_local(locals: Row<Cell>, local: u16, cell: Cell) -> Row<Cell>
     Row::of(changed)
 }
 
-fn after_locals(
-    alloc: Global,
-    op: &JOp,
-    locals: Row<Cell>,
-    stack: &Stack,
-) -> Result<Row<Cell>, NoMemory>
+fn after_locals(op: &JOp, locals: Row<Cell>, stack: &Stack) -> Result<Row<Cell>, NoMemory>
     ensures { IfOk result (λ after. after ≡ locals_after op.now locals stack.now) }
 {
     match op {
         JOp::Store { refs, local } => {
-            let cell = stored(alloc, *refs, stack)?;
+            let cell = stored(*refs, stack)?;
             Ok(with_local(locals, *local, cell))
         }
         JOp::Inc { local, .. } => Ok(with_local(locals, *local, Cell::Number)),
@@ -214,7 +216,7 @@ pub(crate) fn after(alloc: Global, op: &JOp, before: State) -> Result<State, NoM
     ensures { IfOk result (λ after. after ≡ state_after op.now before) }
 {
     let State { stack, locals } = before;
-    let locals = after_locals(alloc, op, locals, &stack)?;
+    let locals = after_locals(op, locals, &stack)?;
     let stack = after_stack(alloc, op, locals.items(), stack)?;
     Ok(State { stack, locals })
 }

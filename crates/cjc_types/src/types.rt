@@ -8,7 +8,8 @@ ghost use Rattle.cjc_types.specs.Names.{IsSet};
 ghost use Rattle.cjc_types.specs.Types.{parts, parts_or_none, cell_of as cell_of_kind, value_of as value_of_part, is_void as is_void_kind, result_of, array_of as array_of_name, letter as letter_of, held, held_by, elements as elements_of, element_of as element_of_cell, as_reference as reference_of, with_held};
 
 use crate::cell::{self, Cell};
-use crate::names;
+use crate::names::{self, Name, Names};
+use crate::shared::Shared;
 use cjc_bytes::{Bytes, Desc, Kind, NoMemory, Row};
 use cjc_code::jvm;
 use std::alloc::Global;
@@ -154,7 +155,7 @@ pub(crate) fn held(array: &[u8]) -> Option<&[u8]>
 }
 
 /// Puts the type that an array of references holds into the set; another type holds none.
-fn put_held(alloc: Global, names: &mut Vec<Bytes>, array: &[u8]) -> Result<(), NoMemory>
+fn put_held(alloc: Global, names: &mut Vec<Name>, array: &[u8]) -> Result<(), NoMemory>
     requires { IsSet names.old.items }
     ensures { OnOk result (names.new.items ≡ with_held (held array.now) names.old.items) }
 {
@@ -165,14 +166,14 @@ fn put_held(alloc: Global, names: &mut Vec<Bytes>, array: &[u8]) -> Result<(), N
 }
 
 /// The types that the arrays of references among these hold.
-fn elements(alloc: Global, types: &[Bytes]) -> Result<Row<Bytes>, NoMemory>
+fn elements(alloc: Global, types: &[Name]) -> Result<Names, NoMemory>
     ensures { IfOk result (λ held. held ≡ elements_of types.now []) }
 {
     let mut names = Vec::new(alloc);
     for array in types {
         put_held(alloc, &mut names, array.items())?;
     }
-    Ok(Row::of(names))
+    Shared::new(alloc, Row::of(names))
 }
 
 /// What an array load gives.
@@ -190,11 +191,11 @@ pub(crate) fn element_of(alloc: Global, opcode: u8, array: &Cell) -> Result<Cell
 }
 
 /// A reference, or else unusable.
-pub(crate) fn as_reference(alloc: Global, cell: &Cell) -> Result<Cell, NoMemory>
+pub(crate) fn as_reference(cell: &Cell) -> Result<Cell, NoMemory>
     ensures { IfOk result (λ reference. reference ≡ reference_of cell.now) }
 {
     match cell {
-        Cell::Refs(types) => Ok(Cell::Refs(names::copied(alloc, types.items())?)),
+        Cell::Refs(types) => Ok(Cell::Refs(types.shared()?)),
         _ => Ok(Cell::Unusable),
     }
 }

@@ -1,4 +1,4 @@
-use Rattle.std.proofs.Common.{sym, ◌∙◌, subst}
+use Rattle.std.proofs.Common.{refl, sym, ◌∙◌, subst}
 use Rattle.cjc_types.specs.Names.{IsSet}
 use Rattle.cjc_types.specs.Working.NameLaws.{set_insert}
 use Rattle.cjc_types.specs.Working.Merging.{union_next}
@@ -6,6 +6,6 @@ use Rattle.cjc_types.proofs.names.with_names.Goals as goal
 
 pub loop-name-preserved : goal.loop-name-preserved
 loop-name-preserved c = record {
-  set = subst IsSet (sym c.in_ok-put.ensures) (set_insert c.items.result.now c.loop-name.all.items c.loop-name.invariant.set);
-  union = union_next c.args.names.now c.loop-name.all.items c.put.new.set.items c.loop-name.name-index c.name-item.result c.items.result.now c.loop-name-test.true c.name-item.is c.items.ensures c.in_ok-put.ensures ∙ c.loop-name.invariant.union;
+  set = subst IsSet (sym c.in_ok-put_shared.ensures) (set_insert c.name-item.result c.loop-name.all.items c.loop-name.invariant.set);
+  union = union_next c.args.names.now c.loop-name.all.items c.put_shared.new.set.items c.loop-name.name-index c.name-item.result c.name-item.result c.loop-name-test.true c.name-item.is refl c.in_ok-put_shared.ensures ∙ c.loop-name.invariant.union;
 }
