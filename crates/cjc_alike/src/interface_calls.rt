@@ -5,7 +5,7 @@
 ghost use Rattle.std.specs.Prelude.{◌≡◌, ℕ, List, Some, false, true};
 ghost use Rattle.cjc_bytes.specs.AccessFlags.{is_private};
 ghost use Rattle.cjc_bytes.specs.declared.fault.MemberId.{MemberId as Member};
-ghost use Rattle.cjc_by_name.specs.OnePackage.{Hit};
+ghost use Rattle.cjc_by_name.specs.OnePackage.{ResolvedMember};
 ghost use Rattle.cjc_classfile.specs.declared.tree.ClassTree.{ClassTree};
 ghost use Rattle.cjc_code.specs.Jvm as jvm;
 ghost use Rattle.cjc_code.specs.declared.insn.JOp.TheVariants as jop;
@@ -36,7 +36,7 @@ pub fn private_calls_are_named()
     ensures { (list : ListTree) (files : List (List ℕ)) (judged : Judged) (p : Package)
         → IsConverted list files judged p → (class : ClassTree) (id : Member)
         → IsInsnOf p.files judged.codes class (jop.Call jvm.invokespecial id)
-        → (hit : Hit) → method_found (world p) id ≡ Some hit → is_private hit.flags ≡ true
+        → (hit : ResolvedMember) → method_found (world p) id ≡ Some hit → is_private hit.flags ≡ true
         → IsNamed (world p) (Fixed true (resolved_method (world p) id)) }
 {}
 

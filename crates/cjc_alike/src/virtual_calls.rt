@@ -6,7 +6,7 @@
 ghost use Rattle.std.specs.Prelude.{◌≡◌, ℕ, List, Some, false};
 ghost use Rattle.cjc_bytes.specs.AccessFlags.{is_interface, is_private};
 ghost use Rattle.cjc_bytes.specs.declared.fault.MemberId.{MemberId as Member};
-ghost use Rattle.cjc_by_name.specs.OnePackage.{Hit, is_constructor, of_class};
+ghost use Rattle.cjc_by_name.specs.OnePackage.{ResolvedMember, is_constructor, of_class};
 ghost use Rattle.cjc_classfile.specs.declared.tree.ClassTree.{ClassTree};
 ghost use Rattle.cjc_code.specs.Jvm as jvm;
 ghost use Rattle.cjc_code.specs.declared.insn.JOp.TheVariants as jop;
@@ -58,7 +58,7 @@ pub fn super_calls_are_named()
         → IsConverted list files judged p → ExportsImplement (world p) → (class : ClassTree) (id : Member)
         → IsInsnOf p.files judged.codes class (jop.Call jvm.invokespecial id)
         → is_interface class.flags ≡ false → is_constructor id.name ≡ false
-        → (hit : Hit) → method_found (world p) id ≡ Some hit → is_private hit.flags ≡ false
+        → (hit : ResolvedMember) → method_found (world p) id ≡ Some hit → is_private hit.flags ≡ false
         → IsNamed (world p) (OnSuper (of_class class.name id)) }
     ensures words { (list : ListTree) (files : List (List ℕ)) (judged : Judged) (p : Package)
         → IsConverted list files judged p → (class : ClassTree) (id : Member)

@@ -14,11 +14,11 @@ use Rattle.cjc_world.specs.declared.found.Found.{Found}
 use Rattle.cjc_world.specs.declared.image.StaticImage.{StaticImage}
 use Rattle.cjc_world.specs.Files.{Files}
 use Rattle.cjc_world.specs.Classes.{Class, all_classes, class_named}
-use Rattle.cjc_world.specs.Kin.{kin, line}
+use Rattle.cjc_world.specs.Supertypes.{supertypes, line}
 use Rattle.cjc_world.specs.Interfaces.{gathered, known}
 use Rattle.cjc_world.specs.Lookup.{first, or_else, find_field, find_method, own_method, is_called, member_at, is_selectable, receiver}
 use Rattle.cjc_by_name.specs.Linked.{Method, ResolvedField, Constant, Call, Linked}
-use Rattle.cjc_by_name.specs.OnePackage.{Hit, Selection, method_hit, field_hit, constant_at, field_by, call_by, is_initialiser, sent_by}
+use Rattle.cjc_by_name.specs.OnePackage.{ResolvedMember, Selection, method_hit, field_hit, constant_at, field_by, call_by, is_initialiser, sent_by}
 use Rattle.cjc_by_name.specs.ByName.{linked_by}
 use Rattle.cjc_by_name.specs.Machine
 
@@ -98,7 +98,7 @@ exposed_method name desc c =
 abbrev pub find_exposed : List Class → (class : List ℕ) → MemberId → Option Found
 find_exposed w class id =
     or_else (first (exposed_method id.name id.desc) (line w class))
-    (first (exposed_method id.name id.desc) (known (gathered false (kin w (class ∷ [])))))
+    (first (exposed_method id.name id.desc) (known (gathered false (supertypes w (class ∷ [])))))
 
 -- what a method that a package found in a class of its world is in the joint world
 abbrev pub joint_method : List Class → (owner : Class) → MemberId → Option Found
@@ -127,7 +127,7 @@ method_for_all name desc c =
     option_map (λ i. member_at c (length c.fields + i)) (position (λ m. is_selectable m.flags && not (is_package_visible m.flags) && is_called name desc m) c.methods)
 
 -- Selection for a package-visible method passes over the classes of other packages, and for any other over package-visible methods.
-abbrev pub selection_for : List Class → Hit → Selection
+abbrev pub selection_for : List Class → ResolvedMember → Selection
 selection_for w hit class id =
     let owner = hit.owner in
     if is_package_visible hit.flags
@@ -137,7 +137,7 @@ selection_for w hit class id =
 -- ---- look-ups of code
 
 -- a call of what the joint world has for a method that was found
-abbrev pub joint_call : Files → List Class → (holder : List ℕ) → (op : ℕ) → MemberId → Hit → Option Call
+abbrev pub joint_call : Files → List Class → (holder : List ℕ) → (op : ℕ) → MemberId → ResolvedMember → Option Call
 joint_call files w holder op id found =
     option_and_then (λ f. option_and_then (λ hit. call_by files w (selection_for w hit) holder op id f hit) (method_hit w f))
     (joint_method w found.owner id)
@@ -149,7 +149,7 @@ group_call files w own holder op id =
     else option_and_then (λ f. option_and_then (joint_call files w holder op id) (method_hit own f)) (find_method own id.class id.name id.desc)
 
 -- the field that the joint world has for one that was found
-abbrev pub joint_field : Files → List Class → MemberId → Hit → Option ResolvedField
+abbrev pub joint_field : Files → List Class → MemberId → ResolvedMember → Option ResolvedField
 joint_field files w id found =
     let owner = found.owner in
     option_and_then (λ f. option_map (field_by (constant_at files f) id) (field_hit w f)) (find_field w owner.name id.name id.desc)

@@ -23,7 +23,7 @@ use Rattle.cjc_world.specs.declared.image.ValueCell.{ValueCell}
 use Rattle.cjc_world.specs.declared.image.StaticImage.{StaticImage}
 use Rattle.cjc_world.specs.Files.{Files}
 use Rattle.cjc_world.specs.Classes.{Member, Class, class_named, class_at}
-use Rattle.cjc_world.specs.Kin.{line}
+use Rattle.cjc_world.specs.Supertypes.{line}
 use Rattle.cjc_world.specs.Lookup.{find_field, find_method, own_method, selected, is_selectable, receiver}
 use Rattle.cjc_world.specs.Subtype.{is_subtype}
 use Rattle.cjc_by_name.specs.Effects.{is_same_field}
@@ -69,18 +69,18 @@ method_at files f = if f.imported then None else option_and_then (method_in f.me
 -- ---- what a look-up found
 
 -- its class and its flags
-pub record Hit : Type 0 where
+pub record ResolvedMember : Type 0 where
   pub owner : Class
   pub flags : ℕ
 
 -- of a method
-abbrev pub method_hit : List Class → Found → Option Hit
+abbrev pub method_hit : List Class → Found → Option ResolvedMember
 method_hit w f =
     option_and_then (λ c. option_map (λ m. record { owner = c; flags = m.flags }) (slice_get c.methods (f.member - length c.fields)))
     (class_at w f.imported f.class)
 
 -- of a field
-abbrev pub field_hit : List Class → Found → Option Hit
+abbrev pub field_hit : List Class → Found → Option ResolvedMember
 field_hit w f =
     option_and_then (λ c. option_map (λ m. record { owner = c; flags = m.flags }) (slice_get c.fields f.member))
     (class_at w f.imported f.class)
@@ -104,7 +104,7 @@ constant_at files f =
     else option_and_then (constant_in f.member) (slice_get files.classes f.class)
 
 -- a constant, a static field or a field of objects, by the class that declares it
-abbrev pub field_by : Option ℤ → MemberId → Hit → ResolvedField
+abbrev pub field_by : Option ℤ → MemberId → ResolvedMember → ResolvedField
 field_by (Some z) id hit = Constant z
 field_by None id hit =
     let owner = hit.owner in if is_static hit.flags then Static (of_class owner.name id) else Instance (of_class owner.name id)
@@ -147,12 +147,12 @@ abbrev pub on_class : List Class → (class : List ℕ) → (List ℕ → Option
 on_class w class selected = OnObject (λ type. if is_subtype w type class then selected type else None)
 
 -- invokestatic: the class in which the method is found
-abbrev pub static_call : Files → List Class → MemberId → Found → Hit → Option Call
+abbrev pub static_call : Files → List Class → MemberId → Found → ResolvedMember → Option Call
 static_call files w id f hit =
     let owner = hit.owner in if is_static hit.flags then option_map OnClass (callee_at files owner.name id f) else None
 
 -- invokevirtual: selected on the receiver
-abbrev pub virtual_call : Files → List Class → Selection → MemberId → Hit → Option Call
+abbrev pub virtual_call : Files → List Class → Selection → MemberId → ResolvedMember → Option Call
 virtual_call files w select id hit =
     if is_selectable hit.flags then Some (on_class w id.class (λ type. selected_from files w select type id)) else None
 
@@ -162,7 +162,7 @@ first_super None = None
 first_super (Some c) = slice_get c.supers 0
 
 -- a constructor or a private method itself
-abbrev pub direct_call : Files → List Class → MemberId → Found → Hit → Call
+abbrev pub direct_call : Files → List Class → MemberId → Found → ResolvedMember → Call
 direct_call files w id f hit = let owner = hit.owner in on_class w id.class (λ type. callee_at files owner.name id f)
 
 -- any other method is selected from the superclass of the class that holds the code, whose objects receive it
@@ -171,7 +171,7 @@ super_call files w select holder id =
     on_class w holder (λ type. option_and_then (λ super. selected_from files w select super id) (first_super (class_named w holder)))
 
 -- invokespecial
-abbrev pub special_call : Files → List Class → Selection → (holder : List ℕ) → MemberId → Found → Hit → Option Call
+abbrev pub special_call : Files → List Class → Selection → (holder : List ℕ) → MemberId → Found → ResolvedMember → Option Call
 special_call files w select holder id f hit =
     if is_static hit.flags then None
     else if is_constructor id.name || is_private hit.flags then Some (direct_call files w id f hit)
@@ -184,7 +184,7 @@ interface_callee files w select interface type id (Some c) =
     if c.is_imported then Some (Abroad (of_class interface id)) else selected_from files w select type id
 
 -- invokeinterface: its method is found in an interface
-abbrev pub interface_call : Files → List Class → Selection → MemberId → Hit → Option Call
+abbrev pub interface_call : Files → List Class → Selection → MemberId → ResolvedMember → Option Call
 interface_call files w select id hit =
     let owner = hit.owner in
     if is_interface owner.flags && is_selectable hit.flags
@@ -192,7 +192,7 @@ interface_call files w select id hit =
     else None
 
 -- by the opcode; only invokespecial calls a constructor
-abbrev pub call_by : Files → List Class → Selection → (holder : List ℕ) → (op : ℕ) → MemberId → Found → Hit → Option Call
+abbrev pub call_by : Files → List Class → Selection → (holder : List ℕ) → (op : ℕ) → MemberId → Found → ResolvedMember → Option Call
 call_by files w select holder op id f hit =
     if op == 0xB7 then special_call files w select holder id f hit
     else if is_constructor id.name then None
@@ -248,11 +248,11 @@ entry_named files w id =
     if is_initialiser id.name then None else option_and_then (entry_in files id) (class_named w id.class)
 
 -- a method that is found and can be selected
-abbrev pub is_sendable : MemberId → Hit → Bool
+abbrev pub is_sendable : MemberId → ResolvedMember → Bool
 is_sendable id hit = is_selectable hit.flags && not (is_constructor id.name) && not (is_initialiser id.name)
 
 -- the method of `send`, selected on an object of a type, which is of the named class
-abbrev pub sent_by : Files → List Class → Selection → (type : List ℕ) → MemberId → Hit → Option Method
+abbrev pub sent_by : Files → List Class → Selection → (type : List ℕ) → MemberId → ResolvedMember → Option Method
 sent_by files w select type id hit =
     if is_sendable id hit && is_subtype w type id.class then option_and_then (method_at files) (select type id) else None
 

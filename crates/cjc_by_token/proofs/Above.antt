@@ -4,7 +4,7 @@ use Rattle.std.specs.Prelude.{Option, Some, None, if◌then◌else◌, ◌==◌,
 use Rattle.std.proofs.lemmas.Bool.Decides.{nat_tests}
 use Rattle.cjc_export.specs.declared.tree.ExportClass.{ExportClass}
 use Rattle.cjc_export.specs.declared.tree.ExportTree.{ExportTree}
-use Rattle.cjc_card.specs.Classes.{Class, Own, Foreign, same_class, is_in, Info, IsInterface, IsClass, infos, info_size, info_supers, all_supers, info_of, info_at, number_from, with_token, foreign, foreign_named, class_of, object_class, object_above, some_of, supers, closure, info_steps, part_steps, class_steps, tree_steps, steps, is_kind_of}
+use Rattle.cjc_card.specs.Classes.{Class, Own, External, same_class, is_in, Info, IsInterface, IsClass, infos, info_size, info_supers, all_supers, info_of, info_at, number_from, with_token, external, external_named, class_of, object_class, object_above, some_of, supers, closure, info_steps, part_steps, class_steps, tree_steps, steps, is_kind_of}
 use Rattle.cjc_card.specs.Loaded.{Part, Loaded}
 use Rattle.cjc_by_token.specs.Above.{IsAtOrAbove, itself, upwards}
 use Rattle.cjc_by_token.proofs.Slots.{class_tells, class_same}
@@ -186,7 +186,7 @@ cost_parts p (part ∷ parts) seen = cost_infos p 2 (infos part) seen + cost_par
 
 abbrev cost_classes : (tree : ℕ) → List ExportClass → (seen : List Class) → ℕ
 cost_classes t [] seen = 0
-cost_classes t (c ∷ cs) seen = unseen (is_in (Foreign t c.token) seen) (length c.supers + length c.interfaces) + cost_classes t cs seen
+cost_classes t (c ∷ cs) seen = unseen (is_in (External t c.token) seen) (length c.supers + length c.interfaces) + cost_classes t cs seen
 
 abbrev cost_trees : (tree : ℕ) → List ExportTree → (seen : List Class) → ℕ
 cost_trees t [] seen = 0
@@ -211,7 +211,7 @@ parts_fall p (part ∷ parts) x seen = let a = infos_fall p 2 (infos part) x see
 classes_fall : (t : ℕ) (cs : List ExportClass) (x : Class) (seen : List Class) → cost_classes t cs (x ∷ seen) ≤ cost_classes t cs seen
 classes_fall t [] x seen = omega arith
 classes_fall t (c ∷ cs) x seen =
-    let a = fewer (same_class (Foreign t c.token) x) (is_in (Foreign t c.token) seen) (length c.supers + length c.interfaces) in
+    let a = fewer (same_class (External t c.token) x) (is_in (External t c.token) seen) (length c.supers + length c.interfaces) in
     let b = classes_fall t cs x seen in
     omega (arith, a, b)
 
@@ -262,39 +262,39 @@ parts_less p (x ∷ parts) (suc k) part q offset i seen at e there new =
     let b = parts_less (p + 1) parts k part q offset i seen (omega arith) e there new in
     omega (arith, a, b)
 
-classes_less : (t : ℕ) (cs : List ExportClass) (token : ℕ) (c : ExportClass) (seen : List Class) → with_token cs token ≡ Some c → is_in (Foreign t token) seen ≡ false
-    → cost_classes t cs (Foreign t token ∷ seen) + (length c.supers + length c.interfaces) ≤ cost_classes t cs seen
+classes_less : (t : ℕ) (cs : List ExportClass) (token : ℕ) (c : ExportClass) (seen : List Class) → with_token cs token ≡ Some c → is_in (External t token) seen ≡ false
+    → cost_classes t cs (External t token ∷ seen) + (length c.supers + length c.interfaces) ≤ cost_classes t cs seen
 classes_less t [] token c seen e new = cc
 classes_less t (d ∷ cs) token c seen e new = by (d.token == token) refl e (classes_less t cs token c seen)
   where
     by : (u : Bool) → (d.token == token) ≡ u → (if u then Some d else with_token cs token) ≡ Some c
-        → (with_token cs token ≡ Some c → is_in (Foreign t token) seen ≡ false → cost_classes t cs (Foreign t token ∷ seen) + (length c.supers + length c.interfaces) ≤ cost_classes t cs seen)
-        → cost_classes t (d ∷ cs) (Foreign t token ∷ seen) + (length c.supers + length c.interfaces) ≤ cost_classes t (d ∷ cs) seen
+        → (with_token cs token ≡ Some c → is_in (External t token) seen ≡ false → cost_classes t cs (External t token ∷ seen) + (length c.supers + length c.interfaces) ≤ cost_classes t cs seen)
+        → cost_classes t (d ∷ cs) (External t token ∷ seen) + (length c.supers + length c.interfaces) ≤ cost_classes t (d ∷ cs) seen
     by true is_here h rest =
         let same : d.token ≡ token = grind (arith, nat_tests) in
         let class : d ≡ c = cc in
         let size = ap (λ (x : ExportClass). length x.supers + length x.interfaces) class in
-        let gone = ap (λ o. unseen (is_in (Foreign t o) (Foreign t token ∷ seen)) (length d.supers + length d.interfaces)) same ∙ cost_gone (Foreign t token) seen (length d.supers + length d.interfaces) in
-        let held = cost_here (is_in (Foreign t d.token) seen) (length d.supers + length d.interfaces) (ap (λ o. is_in (Foreign t o) seen) same ∙ new) in
-        let fall = classes_fall t cs (Foreign t token) seen in
+        let gone = ap (λ o. unseen (is_in (External t o) (External t token ∷ seen)) (length d.supers + length d.interfaces)) same ∙ cost_gone (External t token) seen (length d.supers + length d.interfaces) in
+        let held = cost_here (is_in (External t d.token) seen) (length d.supers + length d.interfaces) (ap (λ o. is_in (External t o) seen) same ∙ new) in
+        let fall = classes_fall t cs (External t token) seen in
         omega (arith, gone, held, fall, size)
     by false off h rest =
-        let a = fewer (same_class (Foreign t d.token) (Foreign t token)) (is_in (Foreign t d.token) seen) (length d.supers + length d.interfaces) in
+        let a = fewer (same_class (External t d.token) (External t token)) (is_in (External t d.token) seen) (length d.supers + length d.interfaces) in
         let b = rest h new in
         omega (arith, a, b)
 
-trees_less : (t : ℕ) (trees : List ExportTree) (k : ℕ) (tree : ExportTree) (q token : ℕ) (c : ExportClass) (seen : List Class) → q ≡ t + k → slice_get trees k ≡ Some tree → with_token tree.classes token ≡ Some c → is_in (Foreign q token) seen ≡ false
-    → cost_trees t trees (Foreign q token ∷ seen) + (length c.supers + length c.interfaces) ≤ cost_trees t trees seen
+trees_less : (t : ℕ) (trees : List ExportTree) (k : ℕ) (tree : ExportTree) (q token : ℕ) (c : ExportClass) (seen : List Class) → q ≡ t + k → slice_get trees k ≡ Some tree → with_token tree.classes token ≡ Some c → is_in (External q token) seen ≡ false
+    → cost_trees t trees (External q token ∷ seen) + (length c.supers + length c.interfaces) ≤ cost_trees t trees seen
 trees_less t [] k tree q token c seen at e there new = cc
 trees_less t (x ∷ trees) zero tree q token c seen at e there new =
     let same : x ≡ tree = cc in
     let here : t ≡ q = omega arith in
     let a = classes_less q x.classes token c seen (ap (λ (y : ExportTree). with_token y.classes token) same ∙ there) new in
-    let a' = subst (λ r. cost_classes r x.classes (Foreign q token ∷ seen) + (length c.supers + length c.interfaces) ≤ cost_classes r x.classes seen) (sym here) a in
-    let b = trees_fall (t + 1) trees (Foreign q token) seen in
+    let a' = subst (λ r. cost_classes r x.classes (External q token ∷ seen) + (length c.supers + length c.interfaces) ≤ cost_classes r x.classes seen) (sym here) a in
+    let b = trees_fall (t + 1) trees (External q token) seen in
     omega (arith, a', b)
 trees_less t (x ∷ trees) (suc k) tree q token c seen at e there new =
-    let a = classes_fall t x.classes (Foreign q token) seen in
+    let a = classes_fall t x.classes (External q token) seen in
     let b = trees_less (t + 1) trees k tree q token c seen (omega arith) e there new in
     omega (arith, a, b)
 
@@ -326,12 +326,12 @@ module _ (l : Loaded) where
   nothing_behind [] = refl
   nothing_behind (c ∷ cs) = ap suc (nothing_behind cs)
 
-  foreign_supers : (t token : ℕ) (c : ExportClass) → foreign l t token ≡ Some c → length (supers l (Foreign t token)) ≤ length c.supers + length c.interfaces
-  foreign_supers t token c e =
-      let is = ap (λ o. length (flat_map (λ (c : ExportClass). some_of (map (foreign_named l) (c.supers ++ c.interfaces))) (option_to_list o))) e in
-      let none = nothing_behind (some_of (map (foreign_named l) (c.supers ++ c.interfaces))) in
-      let few = some_few (map (foreign_named l) (c.supers ++ c.interfaces)) in
-      let len = length_mapped (foreign_named l) (c.supers ++ c.interfaces) in
+  external_supers : (t token : ℕ) (c : ExportClass) → external l t token ≡ Some c → length (supers l (External t token)) ≤ length c.supers + length c.interfaces
+  external_supers t token c e =
+      let is = ap (λ o. length (flat_map (λ (c : ExportClass). some_of (map (external_named l) (c.supers ++ c.interfaces))) (option_to_list o))) e in
+      let none = nothing_behind (some_of (map (external_named l) (c.supers ++ c.interfaces))) in
+      let few = some_few (map (external_named l) (c.supers ++ c.interfaces)) in
+      let len = length_mapped (external_named l) (c.supers ++ c.interfaces) in
       let both = listed_length c.supers c.interfaces in
       omega (arith, is, none, few, len, both)
 
@@ -362,20 +362,20 @@ module _ (l : Loaded) where
               let b = parts_less 0 l.parts q part q offset i seen (omega arith) e h new in
               let c = falls in
               omega (arith, a, b, c)
-  less_seen (Foreign t token) seen new = by (foreign l t token) refl (slice_get l.trees t) refl
+  less_seen (External t token) seen new = by (external l t token) refl (slice_get l.trees t) refl
     where
-      falls : cost_parts 0 l.parts (Foreign t token ∷ seen) ≤ cost_parts 0 l.parts seen
-      falls = parts_fall 0 l.parts (Foreign t token) seen
+      falls : cost_parts 0 l.parts (External t token ∷ seen) ≤ cost_parts 0 l.parts seen
+      falls = parts_fall 0 l.parts (External t token) seen
 
-      by : (o : Option ExportClass) → foreign l t token ≡ o → (u : Option ExportTree) → slice_get l.trees t ≡ u → cost_of l (Foreign t token ∷ seen) + length (supers l (Foreign t token)) ≤ cost_of l seen
+      by : (o : Option ExportClass) → external l t token ≡ o → (u : Option ExportTree) → slice_get l.trees t ≡ u → cost_of l (External t token ∷ seen) + length (supers l (External t token)) ≤ cost_of l seen
       by None e u h =
-          let is = ap (λ o. length (flat_map (λ (c : ExportClass). some_of (map (foreign_named l) (c.supers ++ c.interfaces))) (option_to_list o))) e in
-          let a = trees_fall 0 l.trees (Foreign t token) seen in
+          let is = ap (λ o. length (flat_map (λ (c : ExportClass). some_of (map (external_named l) (c.supers ++ c.interfaces))) (option_to_list o))) e in
+          let a = trees_fall 0 l.trees (External t token) seen in
           let b = falls in
           omega (arith, is, a, b)
       by (Some c) e None h = let clash : None ≡ Some c = sym (ap (option_and_then (λ t. with_token t.classes token)) h) ∙ e in cc
       by (Some c) e (Some tree) h =
-          let a = foreign_supers t token c e in
+          let a = external_supers t token c e in
           let b = trees_less 0 l.trees t tree t token c seen (omega arith) h (sym (ap (option_and_then (λ t. with_token t.classes token)) h) ∙ e) new in
           let d = falls in
           omega (arith, a, b, d)

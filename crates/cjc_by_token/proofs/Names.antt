@@ -9,7 +9,7 @@ use Rattle.cjc_script.specs.Sorts.{OfClass}
 use Rattle.cjc_bytecode.specs.Calculations.{Fault, Arithmetic, NullPointer, IndexOutside, NegativeSize, ClassCast, ArrayStore}
 use Rattle.cjc_bytecode.specs.Renaming.{option_as}
 use Rattle.cjc_card.specs.Calls.{imported, imported_class_of, if_below, throwable}
-use Rattle.cjc_card.specs.Classes.{Own, Foreign, Info, IsInterface, IsClass, info_size, infos, number_from, offset_from, number_of, offset_of, class_named as class_on_card, fault_class, fault_name, foreign, foreign_named, name_of, names_of, number_named, own_from, or_else, is_interface, is_interface_file, is_kind_of}
+use Rattle.cjc_card.specs.Classes.{Own, External, Info, IsInterface, IsClass, info_size, infos, number_from, offset_from, number_of, offset_of, class_named as class_on_card, fault_class, fault_name, external, external_named, name_of, names_of, number_named, own_from, or_else, is_interface, is_interface_file, is_kind_of}
 use Rattle.cjc_card.specs.Loaded.{ClassNames, Part}
 use Rattle.cjc_world.specs.Classes.{Class, class_named}
 use Rattle.cjc_world.proofs.Cycles.{class_named-name}
@@ -62,30 +62,30 @@ named_there (c ∷ classes) x k e = by (bytes_eq c.name x) refl (number_named cl
 
 module _ (w : List Class) (n : Naming) (part : Part) (says : SaysNames w n part) where
   -- the names of infos alone
-  own_alone : (x : List ℕ) → class_on_card n.loaded x ≡ or_else (or_else (option_and_then (λ k. option_map (Own 0) (offset_of part k)) (number_named part.classes x)) None) (foreign_named n.loaded x)
-  own_alone x = ap (λ parts. or_else (own_from 0 parts x) (foreign_named n.loaded x)) says.alone
+  own_alone : (x : List ℕ) → class_on_card n.loaded x ≡ or_else (or_else (option_and_then (λ k. option_map (Own 0) (offset_of part k)) (number_named part.classes x)) None) (external_named n.loaded x)
+  own_alone x = ap (λ parts. or_else (own_from 0 parts x) (external_named n.loaded x)) says.alone
 
   named_same : (x : List ℕ) → class_on_card n.loaded x ≡ option_as n.class (name_there w x)
   named_same x = own_alone x ∙ by (class_named w x) refl
     where
-      by : (o : Option Class) → class_named w x ≡ o → or_else (or_else (option_and_then (λ k. option_map (Own 0) (offset_of part k)) (number_named part.classes x)) None) (foreign_named n.loaded x) ≡ option_as n.class (option_map (λ (c : Class). c.name) (class_named w x))
+      by : (o : Option Class) → class_named w x ≡ o → or_else (or_else (option_and_then (λ k. option_map (Own 0) (offset_of part k)) (number_named part.classes x)) None) (external_named n.loaded x) ≡ option_as n.class (option_map (λ (c : Class). c.name) (class_named w x))
       by None e =
           let no = says.none x e in
-          ap (λ o. or_else (or_else (option_and_then (λ k. option_map (Own 0) (offset_of part k)) o) None) (foreign_named n.loaded x)) no.0
+          ap (λ o. or_else (or_else (option_and_then (λ k. option_map (Own 0) (offset_of part k)) o) None) (external_named n.loaded x)) no.0
           ∙ (no.1 ∙ sym (ap (λ o. option_as n.class (option_map (λ (c : Class). c.name) o)) e))
       by (Some c) e = kind c.is_imported refl
         where
           here : option_as n.class (option_map (λ (c : Class). c.name) (class_named w x)) ≡ Some (n.class x)
           here = ap (λ o. option_as n.class (option_map (λ (c : Class). c.name) o)) e ∙ ap (λ y. Some (n.class y)) (class_named-name w x c e)
 
-          kind : (b : Bool) → c.is_imported ≡ b → or_else (or_else (option_and_then (λ k. option_map (Own 0) (offset_of part k)) (number_named part.classes x)) None) (foreign_named n.loaded x) ≡ option_as n.class (option_map (λ (c : Class). c.name) (class_named w x))
+          kind : (b : Bool) → c.is_imported ≡ b → or_else (or_else (option_and_then (λ k. option_map (Own 0) (offset_of part k)) (number_named part.classes x)) None) (external_named n.loaded x) ≡ option_as n.class (option_map (λ (c : Class). c.name) (class_named w x))
           kind false is =
               let s = says.own x c e is in
-              ap (λ o. or_else (or_else (option_and_then (λ k. option_map (Own 0) (offset_of part k)) o) None) (foreign_named n.loaded x)) s.numbered
-              ∙ (ap (λ o. or_else (or_else (option_map (Own 0) o) None) (foreign_named n.loaded x)) s.at ∙ (ap Some (sym s.on_card) ∙ sym here))
+              ap (λ o. or_else (or_else (option_and_then (λ k. option_map (Own 0) (offset_of part k)) o) None) (external_named n.loaded x)) s.numbered
+              ∙ (ap (λ o. or_else (or_else (option_map (Own 0) o) None) (external_named n.loaded x)) s.at ∙ (ap Some (sym s.on_card) ∙ sym here))
           kind true is =
               let s = says.file x c e is in
-              ap (λ o. or_else (or_else (option_and_then (λ k. option_map (Own 0) (offset_of part k)) o) None) (foreign_named n.loaded x)) s.has_no_info
+              ap (λ o. or_else (or_else (option_and_then (λ k. option_map (Own 0) (offset_of part k)) o) None) (external_named n.loaded x)) s.has_no_info
               ∙ (s.found ∙ (ap Some (sym s.on_card) ∙ sym here))
 
   imported_same : (x : List ℕ) → imported n.loaded x ≡ option_as n.class (plain_import w x)
@@ -104,9 +104,9 @@ module _ (w : List Class) (n : Naming) (part : Part) (says : SaysNames w n part)
           kind true is =
               let s = says.file x c e is in
               ap (option_and_then (imported_class_of n.loaded)) s.found
-              ∙ (ap (λ o. if is_interface_file o then None else Some (Foreign s.tree s.token)) s.there
-              ∙ (ap (λ b. if b then None else Some (Foreign s.tree s.token)) s.flags
-              ∙ (turn (flags.is_interface c.flags) (Foreign s.tree s.token) (sym s.on_card)
+              ∙ (ap (λ o. if is_interface_file o then None else Some (External s.tree s.token)) s.there
+              ∙ (ap (λ b. if b then None else Some (External s.tree s.token)) s.flags
+              ∙ (turn (flags.is_interface c.flags) (External s.tree s.token) (sym s.on_card)
               ∙ sym (ap (λ o. option_as n.class (if is_plain_import o then Some x else None)) e ∙ ap (λ b. option_as n.class (if b && not (flags.is_interface c.flags) then Some x else None)) is))))
             where
               turn : (b : Bool) (d : Rattle.cjc_card.specs.Classes.Class) → d ≡ n.class x → (if b then None else Some d) ≡ option_as n.class (if true && not b then Some x else None)
@@ -114,9 +114,9 @@ module _ (w : List Class) (n : Naming) (part : Part) (says : SaysNames w n part)
               turn false d e = ap Some e
 
   throwable_same : HasLang w → KindsAgree w n → (x : List ℕ) → throwable n.loaded x ≡ option_as n.class (throwable_import w x)
-  throwable_same lang kinds x = ap (option_and_then (λ c. option_and_then (if_below n.loaded c) (foreign_named n.loaded (codes "java/lang/Throwable")))) (imported_same x) ∙ by (is_plain_import (class_named w x)) refl
+  throwable_same lang kinds x = ap (option_and_then (λ c. option_and_then (if_below n.loaded c) (external_named n.loaded (codes "java/lang/Throwable")))) (imported_same x) ∙ by (is_plain_import (class_named w x)) refl
     where
-      found : foreign_named n.loaded (codes "java/lang/Throwable") ≡ Some (n.class (codes "java/lang/Throwable"))
+      found : external_named n.loaded (codes "java/lang/Throwable") ≡ Some (n.class (codes "java/lang/Throwable"))
       found = let j = lang.throwable in let s = says.file (codes "java/lang/Throwable") j.class j.there j.imported in s.found ∙ ap Some (sym s.on_card)
 
       has_top : has_class w (codes "java/lang/Throwable") ≡ true
@@ -134,7 +134,7 @@ module _ (w : List Class) (n : Naming) (part : Part) (says : SaysNames w n part)
       nothing true = refl
       nothing false = refl
 
-      by : (b : Bool) → is_plain_import (class_named w x) ≡ b → option_and_then (λ c. option_and_then (if_below n.loaded c) (foreign_named n.loaded (codes "java/lang/Throwable"))) (option_as n.class (if b then Some x else None))
+      by : (b : Bool) → is_plain_import (class_named w x) ≡ b → option_and_then (λ c. option_and_then (if_below n.loaded c) (external_named n.loaded (codes "java/lang/Throwable"))) (option_as n.class (if b then Some x else None))
           ≡ option_as n.class (if is_subtype w x (codes "java/lang/Throwable") then (if b then Some x else None) else None)
       by false e = nothing (is_subtype w x (codes "java/lang/Throwable"))
       by true e =

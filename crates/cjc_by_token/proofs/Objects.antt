@@ -11,7 +11,7 @@ use Rattle.cjc_script.specs.Sorts.{Sort, Boolean, Byte, Short, Int, Reference, N
 use Rattle.cjc_bytecode.specs.Effects.{Slot, slot_of, slots_with}
 use Rattle.cjc_bytecode.specs.Renaming.{keys}
 use Rattle.cjc_card.specs.ByToken.{value_or, shown_field, shown_own, shown_upwards}
-use Rattle.cjc_card.specs.Classes.{Class, Own, Foreign, same_class, Field, same_field, Info, IsClass, info_of, names_of, superclass, is_interface, is_reference_token, slots_from, slots_upwards, depth}
+use Rattle.cjc_card.specs.Classes.{Class, Own, External, same_class, Field, same_field, Info, IsClass, info_of, names_of, superclass, is_interface, is_reference_token, slots_from, slots_upwards, depth}
 use Rattle.cjc_card.specs.Classes as card
 use Rattle.cjc_card.specs.Loaded.{ClassNames}
 use Rattle.cjc_ncode.specs.ByLabel.{shown_slot, slot_for}
@@ -31,9 +31,9 @@ module _ (n : Naming) (may : MemberId → Bool) where
   none_above zero = refl
   none_above (suc d) = refl
 
-  foreign_above : (d tree token : ℕ) → at d (Some (Foreign tree token)) ≡ []
-  foreign_above zero tree token = refl
-  foreign_above (suc d) tree token = refl
+  external_above : (d tree token : ℕ) → at d (Some (External tree token)) ≡ []
+  external_above zero tree token = refl
+  external_above (suc d) tree token = refl
 
   -- a class's own slots behind those of its superclass
   own_behind : (d part offset : ℕ) (entry : ClassEntry) → info_of n.loaded part offset ≡ Some (IsClass entry) → at (suc d) (Some (Own part offset)) ≡ at d (superclass n.loaded part offset) ++ slots_from (Own part offset) entry 0 entry.declared_instance_size
@@ -65,7 +65,7 @@ module _ (n : Naming) (may : MemberId → Bool) where
   -- no slot there is of a class that stands behind
   before_none : {h : ℕ} {c : Option Class} {fields : List MemberId} → Declares n may h c fields → (d : ℕ) → h ≤ d → (part offset token : ℕ) → StandsBefore part offset c → slot_of same_field (at d c) (record { class = Own part offset; token = token }) ≡ None
   before_none Objects.no_class d le part offset token before = ap (λ s. slot_of same_field s (record { class = Own part offset; token = token })) (none_above d)
-  before_none (Objects.imported {tree = tree} {token = foreign}) d le part offset token before = ap (λ s. slot_of same_field s (record { class = Own part offset; token = token })) (foreign_above d tree foreign)
+  before_none (Objects.imported {tree = tree} {token = external}) d le part offset token before = ap (λ s. slot_of same_field s (record { class = Own part offset; token = token })) (external_above d tree external)
   before_none (Objects.declares info names has first more) zero le part offset token before = absurd (omega arith)
   before_none (Objects.declares {entry = entry} info names has first more) (suc d) le part offset token (Objects.own {before = here} less) =
       ap (λ s. slot_of same_field s (record { class = Own part offset; token = token })) (own_behind d part here entry info)
@@ -75,7 +75,7 @@ module _ (n : Naming) (may : MemberId → Bool) where
 
   all_once : {h : ℕ} {c : Option Class} {fields : List MemberId} → Declares n may h c fields → (d : ℕ) → h ≤ d → Once (at d c)
   all_once Objects.no_class d le = subst Once (sym (none_above d)) none
-  all_once (Objects.imported {tree = tree} {token = token}) d le = subst Once (sym (foreign_above d tree token)) none
+  all_once (Objects.imported {tree = tree} {token = token}) d le = subst Once (sym (external_above d tree token)) none
   all_once (Objects.declares info names has first more) zero le = absurd (omega arith)
   all_once (Objects.declares {part = part} {offset = offset} {entry = entry} info names has first more) (suc d) le =
       subst Once (sym (own_behind d part offset entry info))
@@ -142,7 +142,7 @@ module _ (n : Naming) (may : MemberId → Bool) where
 
   is_there : {h : ℕ} {c : Option Class} {fields : List MemberId} → Declares n may h c fields → (d : ℕ) → h ≤ d → (f : MemberId) → may f ≡ true → IsThere f fields (at d c)
   is_there Objects.no_class d le f is = elsewhere refl (ap (λ s. slot_of same_field s (field n f)) (none_above d))
-  is_there (Objects.imported {tree = tree} {token = token}) d le f is = elsewhere refl (ap (λ s. slot_of same_field s (field n f)) (foreign_above d tree token))
+  is_there (Objects.imported {tree = tree} {token = token}) d le f is = elsewhere refl (ap (λ s. slot_of same_field s (field n f)) (external_above d tree token))
   is_there (Objects.declares info names has first more) zero le f is = absurd (omega arith)
   is_there (Objects.declares {part = part} {offset = offset} {entry = entry} {names = naming} {above = above} {own = own} info names has first more) (suc d) le f is =
       subst (IsThere f (above ++ own)) (sym (own_behind d part offset entry info))
@@ -211,7 +211,7 @@ module _ (n : Naming) (may : MemberId → Bool) where
 
   bare : {h : ℕ} {c : Option Class} {fields : List MemberId} → Declares n may h c fields → fields ≡ [] → (d : ℕ) → h ≤ d → at d c ≡ []
   bare Objects.no_class e d le = none_above d
-  bare (Objects.imported {tree = tree} {token = token}) e d le = foreign_above d tree token
+  bare (Objects.imported {tree = tree} {token = token}) e d le = external_above d tree token
   bare (Objects.declares info names has first more) e zero le = absurd (omega arith)
   bare (Objects.declares {part = part} {offset = offset} {entry = entry} {above = above} {own = own} info names has first more) e (suc d) le =
       let empty = both_empty above own e in

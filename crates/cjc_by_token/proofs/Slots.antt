@@ -9,7 +9,7 @@ use Rattle.cjc_script.specs.declared.value.Value.TheVariants.{Num, Null}
 use Rattle.cjc_bytecode.specs.Effects.{Slot, slot_of, slots_with}
 use Rattle.cjc_bytecode.specs.Renaming.{keys}
 use Rattle.cjc_card.specs.ByToken.{value_or}
-use Rattle.cjc_card.specs.Classes.{Class, Own, Foreign, same_class, Field, same_field, is_reference_token, slots_from}
+use Rattle.cjc_card.specs.Classes.{Class, Own, External, same_class, Field, same_field, is_reference_token, slots_from}
 use Rattle.cjc_ncode.specs.PoolOrder.{same_member}
 use Rattle.cjc_lower.specs.Naming.{Naming, field}
 use Rattle.cjc_by_token.specs.Cells.{is_one_of}
@@ -26,13 +26,13 @@ nat_same a = grind (arith, nat_tests)
 
 pub class_tells : (a b : Class) → same_class a b ≡ true → a ≡ b
 class_tells (Own p a) (Own q b) e = ap (λ x. Own x a) (nat_tells p q (both_left (p == q) (a == b) e)) ∙ ap (Own q) (nat_tells a b (both_right (p == q) (a == b) e))
-class_tells (Foreign p a) (Foreign q b) e = ap (λ x. Foreign x a) (nat_tells p q (both_left (p == q) (a == b) e)) ∙ ap (Foreign q) (nat_tells a b (both_right (p == q) (a == b) e))
-class_tells (Own p a) (Foreign q b) e = cc
-class_tells (Foreign p a) (Own q b) e = cc
+class_tells (External p a) (External q b) e = ap (λ x. External x a) (nat_tells p q (both_left (p == q) (a == b) e)) ∙ ap (External q) (nat_tells a b (both_right (p == q) (a == b) e))
+class_tells (Own p a) (External q b) e = cc
+class_tells (External p a) (Own q b) e = cc
 
 pub class_same : (a : Class) → same_class a a ≡ true
 class_same (Own p a) = ap (λ t. t && (a == a)) (nat_same p) ∙ nat_same a
-class_same (Foreign p a) = ap (λ t. t && (a == a)) (nat_same p) ∙ nat_same a
+class_same (External p a) = ap (λ t. t && (a == a)) (nat_same p) ∙ nat_same a
 
 pub field_tells : (a b : Field) → same_field a b ≡ true → a ≡ b
 field_tells a b e =

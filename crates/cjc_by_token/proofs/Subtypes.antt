@@ -5,10 +5,10 @@ use Rattle.std.specs.List.{list_any}
 use Rattle.std.specs.Str.{bytes_eq}
 use Rattle.cjc_export.specs.declared.tree.ExportClass.{ExportClass}
 use Rattle.cjc_script.specs.Sorts.{Element, Booleans, Bytes, Shorts, Ints, OfClass, OfNumbers, OfReferences, shape_name}
-use Rattle.cjc_card.specs.Classes.{Own, Foreign, Info, same_class, is_in, is_of, info_of, info_supers, all_supers, class_of, foreign, foreign_named, object_class, object_above, some_of, supers, is_kind_of, is_object}
+use Rattle.cjc_card.specs.Classes.{Own, External, Info, same_class, is_in, is_of, info_of, info_supers, all_supers, class_of, external, external_named, object_class, object_above, some_of, supers, is_kind_of, is_object}
 use Rattle.cjc_card.specs.Classes as card
 use Rattle.cjc_world.specs.Classes.{Class, class_named}
-use Rattle.cjc_world.specs.Kin.{Lists, foremost, after, Above, directly, onwards, kin}
+use Rattle.cjc_world.specs.Supertypes.{Lists, foremost, after, Above, directly, onwards, supertypes}
 use Rattle.cjc_world.specs.Lookup.{object}
 use Rattle.cjc_world.specs.Subtype.{is_subclass, is_subtype, is_element, array_is, element, starts}
 use Rattle.cjc_world.proofs.Cycles.{From, tree-above}
@@ -43,12 +43,12 @@ module _ (n : Naming) where
 
   -- the names among some that some file has
   module _ (w : List Class) where
-    all_files : (ys : List (List ℕ)) → ((y : List ℕ) → Lists y ys → foreign_named n.loaded y ≡ (if has_class w y then Some (n.class y) else None)) → (y : List ℕ) → Lists y ys → has_class w y ≡ true → is_in (n.class y) (some_of (map (foreign_named n.loaded) ys)) ≡ true
+    all_files : (ys : List (List ℕ)) → ((y : List ℕ) → Lists y ys → external_named n.loaded y ≡ (if has_class w y then Some (n.class y) else None)) → (y : List ℕ) → Lists y ys → has_class w y ≡ true → is_in (n.class y) (some_of (map (external_named n.loaded) ys)) ≡ true
     all_files [] h y i is = elim i [ ]
     all_files (x ∷ ys) h _ foremost is =
-        ap (λ o. is_in (n.class x) (option_to_list o ++ some_of (map (foreign_named n.loaded) ys))) (h x foremost ∙ ap (λ t. if t then Some (n.class x) else None) is)
-        ∙ head_in (n.class x) (some_of (map (foreign_named n.loaded) ys))
-    all_files (x ∷ ys) h y (after i) is = behind_in (n.class y) (option_to_list (foreign_named n.loaded x)) (some_of (map (foreign_named n.loaded) ys)) (all_files ys (λ z j. h z (after j)) y i is)
+        ap (λ o. is_in (n.class x) (option_to_list o ++ some_of (map (external_named n.loaded) ys))) (h x foremost ∙ ap (λ t. if t then Some (n.class x) else None) is)
+        ∙ head_in (n.class x) (some_of (map (external_named n.loaded) ys))
+    all_files (x ∷ ys) h y (after i) is = behind_in (n.class y) (option_to_list (external_named n.loaded x)) (some_of (map (external_named n.loaded) ys)) (all_files ys (λ z j. h z (after j)) y i is)
 
     record FromFile (b : CardClass) (ys : List (List ℕ)) : Type 0 where
       name : List ℕ
@@ -56,20 +56,20 @@ module _ (n : Naming) where
       there : has_class w name ≡ true
       is : n.class name ≡ b
 
-    from_files : (b : CardClass) (ys : List (List ℕ)) → ((y : List ℕ) → Lists y ys → foreign_named n.loaded y ≡ (if has_class w y then Some (n.class y) else None)) → is_in b (some_of (map (foreign_named n.loaded) ys)) ≡ true → FromFile b ys
+    from_files : (b : CardClass) (ys : List (List ℕ)) → ((y : List ℕ) → Lists y ys → external_named n.loaded y ≡ (if has_class w y then Some (n.class y) else None)) → is_in b (some_of (map (external_named n.loaded) ys)) ≡ true → FromFile b ys
     from_files b [] h e = cc
     from_files b (x ∷ ys) h e = ⊎_elim
         (λ here. by (has_class w x) refl here)
         (λ more. let r = from_files b ys (λ z j. h z (after j)) more in record { name = r.name; among = after r.among; there = r.there; is = r.is })
-        (either_in b (option_to_list (foreign_named n.loaded x)) (some_of (map (foreign_named n.loaded) ys)) e)
+        (either_in b (option_to_list (external_named n.loaded x)) (some_of (map (external_named n.loaded) ys)) e)
       where
-        by : (t : Bool) → has_class w x ≡ t → is_in b (option_to_list (foreign_named n.loaded x)) ≡ true → FromFile b (x ∷ ys)
+        by : (t : Bool) → has_class w x ≡ t → is_in b (option_to_list (external_named n.loaded x)) ≡ true → FromFile b (x ∷ ys)
         by true is f =
-            let found : foreign_named n.loaded x ≡ Some (n.class x) = h x foremost ∙ ap (λ t. if t then Some (n.class x) else None) is in
+            let found : external_named n.loaded x ≡ Some (n.class x) = h x foremost ∙ ap (λ t. if t then Some (n.class x) else None) is in
             let g : is_in b (n.class x ∷ []) ≡ true = sym (ap (λ o. is_in b (option_to_list o)) found) ∙ f in
             ⊎_elim (λ same. record { name = x; among = foremost; there = is; is = sym same }) (λ no. cc) (first_or_later b (n.class x) [] g)
         by false is f =
-            let found : foreign_named n.loaded x ≡ None = h x foremost ∙ ap (λ t. if t then Some (n.class x) else None) is in
+            let found : external_named n.loaded x ≡ None = h x foremost ∙ ap (λ t. if t then Some (n.class x) else None) is in
             let g : is_in b [] ≡ true = sym (ap (λ o. is_in b (option_to_list o)) found) ∙ f in cc
 
 -- ---- one step upwards
@@ -93,12 +93,12 @@ module _ (w : List Class) (n : Naming) (says : SaysKinds w n) where
       ∙ (ap (λ rs. some_of (map (class_of n.loaded n.part) rs) ++ object_above n.loaded (Some info)) refs
       ∙ ap (λ cs. cs ++ object_above n.loaded (Some info)) (all_refs n listed (λ y i. says.class_ref y (has y i))))
 
-  file_supers : (tree token : ℕ) (e : ExportClass) (c : Class) (b : CardClass) → foreign n.loaded tree token ≡ Some e → e.supers ≡ c.supers → e.interfaces ≡ c.interfaces → is_in b (supers n.loaded (Foreign tree token)) ≡ is_in b (some_of (map (foreign_named n.loaded) (c.supers ++ c.interfaces)))
+  file_supers : (tree token : ℕ) (e : ExportClass) (c : Class) (b : CardClass) → external n.loaded tree token ≡ Some e → e.supers ≡ c.supers → e.interfaces ≡ c.interfaces → is_in b (supers n.loaded (External tree token)) ≡ is_in b (some_of (map (external_named n.loaded) (c.supers ++ c.interfaces)))
   file_supers tree token e c b there supers_same interfaces_same =
-      ap (λ o. is_in b (flat_map (λ (d : ExportClass). some_of (map (foreign_named n.loaded) (d.supers ++ d.interfaces))) (option_to_list o))) there
-      ∙ (nothing_more b (some_of (map (foreign_named n.loaded) (e.supers ++ e.interfaces)))
-      ∙ (ap (λ ys. is_in b (some_of (map (foreign_named n.loaded) (ys ++ e.interfaces)))) supers_same
-      ∙ ap (λ ys. is_in b (some_of (map (foreign_named n.loaded) (c.supers ++ ys)))) interfaces_same))
+      ap (λ o. is_in b (flat_map (λ (d : ExportClass). some_of (map (external_named n.loaded) (d.supers ++ d.interfaces))) (option_to_list o))) there
+      ∙ (nothing_more b (some_of (map (external_named n.loaded) (e.supers ++ e.interfaces)))
+      ∙ (ap (λ ys. is_in b (some_of (map (external_named n.loaded) (ys ++ e.interfaces)))) supers_same
+      ∙ ap (λ ys. is_in b (some_of (map (external_named n.loaded) (c.supers ++ ys)))) interfaces_same))
 
   -- what a class lists stands above it on the card
   supers_in : (x : List ℕ) (c : Class) (y : List ℕ) → SaysSupers w n x c → Lists y (c.supers ++ c.interfaces) → has_class w y ≡ true → is_in (n.class y) (supers n.loaded (n.class x)) ≡ true
@@ -164,7 +164,7 @@ module _ (w : List Class) (n : Naming) (says : SaysKinds w n) where
 
   -- a name in the tree is the name, or stands above it
   subclass_above : (x y : List ℕ) → is_subclass w x y ≡ true → (x ≡ y) ⊎ Above w x y
-  unfolding is_subclass kin From
+  unfolding is_subclass supertypes From
   subclass_above x y e = by (tree-above w (suc (length w)) y (x ∷ []) e)
     where
       by : (z : List ℕ) × Lists z (x ∷ []) × ((z ≡ y) ⊎ Above w z y) → (x ≡ y) ⊎ Above w x y

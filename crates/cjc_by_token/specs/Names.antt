@@ -5,7 +5,7 @@ use Rattle.cjc_export.specs.declared.tree.ExportClass.{ExportClass}
 use Rattle.cjc_bytecode.specs.Calculations.{Fault}
 use Rattle.cjc_bytecode.specs.Renaming.{option_as}
 use Rattle.cjc_card.specs.Calls.{imported, throwable}
-use Rattle.cjc_card.specs.Classes.{Own, Foreign, class_named as class_on_card, fault_class, fault_name, foreign, foreign_named, name_of, number_named, offset_of}
+use Rattle.cjc_card.specs.Classes.{Own, External, class_named as class_on_card, fault_class, fault_name, external, external_named, name_of, number_named, offset_of}
 use Rattle.cjc_card.specs.Loaded.{Part}
 use Rattle.cjc_world.specs.Classes.{Class, class_named}
 use Rattle.cjc_narrow.specs.Package.{name_there, plain_import, throwable_import}
@@ -20,16 +20,16 @@ pub record SaysOwnName (n : Naming) (part : Part) (x : List ℕ) : Type 0 where
   pub numbered : number_named part.classes x ≡ Some number
   pub at : offset_of part number ≡ Some offset
   pub on_card : n.class x ≡ Own 0 offset
-  pub in_no_file : foreign_named n.loaded x ≡ None
+  pub in_no_file : external_named n.loaded x ≡ None
 
 -- An imported class has its name in an export file, with its flags, and no info has it.
 pub record SaysFileName (n : Naming) (part : Part) (x : List ℕ) (c : Class) : Type 0 where
   pub tree : ℕ
   pub token : ℕ
   pub entry : ExportClass
-  pub on_card : n.class x ≡ Foreign tree token
-  pub found : foreign_named n.loaded x ≡ Some (Foreign tree token)
-  pub there : foreign n.loaded tree token ≡ Some entry
+  pub on_card : n.class x ≡ External tree token
+  pub found : external_named n.loaded x ≡ Some (External tree token)
+  pub there : external n.loaded tree token ≡ Some entry
   pub name : entry.name ≡ x
   pub flags : is_interface entry.flags ≡ is_interface c.flags
   pub has_no_info : number_named part.classes x ≡ None
@@ -39,7 +39,7 @@ pub record SaysNames (w : List Class) (n : Naming) (part : Part) : Type 0 where
   pub alone : (let l = n.loaded in l.parts ≡ part ∷ [])
   pub own : (x : List ℕ) (c : Class) → class_named w x ≡ Some c → c.is_imported ≡ false → SaysOwnName n part x
   pub file : (x : List ℕ) (c : Class) → class_named w x ≡ Some c → c.is_imported ≡ true → SaysFileName n part x c
-  pub none : (x : List ℕ) → class_named w x ≡ None → (number_named part.classes x ≡ None) × (foreign_named n.loaded x ≡ None)
+  pub none : (x : List ℕ) → class_named w x ≡ None → (number_named part.classes x ≡ None) × (external_named n.loaded x ≡ None)
 
 -- some export file has the class
 pub record IsImport (w : List Class) (x : List ℕ) : Type 0 where

@@ -7,7 +7,7 @@ use Rattle.cjc_script.specs.Sorts.{Sort, Reference, field_sort}
 use Rattle.cjc_bytecode.specs.Effects.{Slot, slot_of, slots_with}
 use Rattle.cjc_bytecode.specs.Renaming.{keys}
 use Rattle.cjc_card.specs.ByToken.{shown_fields, value_or}
-use Rattle.cjc_card.specs.Classes.{Class, Own, Foreign, Field, same_field, IsClass, info_of, names_of, superclass, is_interface, is_reference_token, slots_upwards, depth, fresh}
+use Rattle.cjc_card.specs.Classes.{Class, Own, External, Field, same_field, IsClass, info_of, names_of, superclass, is_interface, is_reference_token, slots_upwards, depth, fresh}
 use Rattle.cjc_card.specs.Loaded.{FieldName, ClassNames}
 use Rattle.cjc_ncode.specs.ByLabel.{shown_slot, slot_for}
 use Rattle.cjc_ncode.specs.PoolOrder.{same_member}
@@ -24,7 +24,7 @@ is_reference other = false
 -- the class stands before this offset of the package, or is none of the group
 pub data StandsBefore (part offset : ℕ) : Option Class → Type 0 where
   no_class : StandsBefore part offset None
-  imported : {tree token : ℕ} → StandsBefore part offset (Some (Foreign tree token))
+  imported : {tree token : ℕ} → StandsBefore part offset (Some (External tree token))
   own : {before : ℕ} → before < offset → StandsBefore part offset (Some (Own part before))
 
 -- an instance field by its token
@@ -47,7 +47,7 @@ pub record HasFields (n : Naming) (may_name : MemberId → Bool) (part offset : 
 -- A class and its superclasses in the group, so many, declare these fields: a superclass's stand before its own. A superclass's info stands before the class's.
 pub data Declares (n : Naming) (may_name : MemberId → Bool) : (height : ℕ) → Option Class → List MemberId → Type 0 where
   no_class : Declares n may_name 0 None []
-  imported : {tree token : ℕ} → Declares n may_name 0 (Some (Foreign tree token)) []
+  imported : {tree token : ℕ} → Declares n may_name 0 (Some (External tree token)) []
   declares : {height part offset : ℕ} {entry : ClassEntry} {names : ClassNames} {above own : List MemberId}
       → info_of n.loaded part offset ≡ Some (IsClass entry) → names_of n.loaded part offset ≡ Some names → HasFields n may_name part offset entry names own
       → StandsBefore part offset (superclass n.loaded part offset) → Declares n may_name height (superclass n.loaded part offset) above

@@ -3,9 +3,9 @@ use Rattle.std.specs.Prelude.{◌≡◌, ℕ, List, ◌++◌, map, Some, None, B
 use Rattle.cjc_export.specs.declared.tree.ExportClass.{ExportClass}
 use Rattle.cjc_script.specs.Sorts.{Shape, OfClass, OfNumbers, OfReferences, shape_name}
 use Rattle.cjc_bytecode.specs.Renaming.{shape_as}
-use Rattle.cjc_card.specs.Classes.{Own, Foreign, Info, is_of, info_of, info_supers, foreign, foreign_named, object_class, object_above}
+use Rattle.cjc_card.specs.Classes.{Own, External, Info, is_of, info_of, info_supers, external, external_named, object_class, object_above}
 use Rattle.cjc_world.specs.Classes.{Class, class_named}
-use Rattle.cjc_world.specs.Kin.{Lists, Above}
+use Rattle.cjc_world.specs.Supertypes.{Lists, Above}
 use Rattle.cjc_world.specs.Lookup.{object}
 use Rattle.cjc_world.specs.Subtype.{is_subtype, starts}
 use Rattle.cjc_lower.specs.Naming.{Naming, IsClass}
@@ -32,8 +32,8 @@ pub data SaysSupers (w : List Class) (n : Naming) (x : List ℕ) (c : Class) : T
       → ((y : List ℕ) → IsToldOf n info listed y → (has_class w y ≡ true) × Above w x y)
       → ((y : List ℕ) → Lists y (c.supers ++ c.interfaces) → has_class w y ≡ true → IsToldOf n info listed y)
       → SaysSupers w n x c
-  of_file : (tree token : ℕ) (e : ExportClass) → n.class x ≡ Foreign tree token → foreign n.loaded tree token ≡ Some e → e.supers ≡ c.supers → e.interfaces ≡ c.interfaces
-      → ((y : List ℕ) → Lists y (c.supers ++ c.interfaces) → foreign_named n.loaded y ≡ (if has_class w y then Some (n.class y) else None))
+  of_file : (tree token : ℕ) (e : ExportClass) → n.class x ≡ External tree token → external n.loaded tree token ≡ Some e → e.supers ≡ c.supers → e.interfaces ≡ c.interfaces
+      → ((y : List ℕ) → Lists y (c.supers ++ c.interfaces) → external_named n.loaded y ≡ (if has_class w y then Some (n.class y) else None))
       → SaysSupers w n x c
 
 -- Class infos and export files say of each class what stands above it, and two names are never one class.

@@ -154,8 +154,8 @@ module _ {S T W : Type 0} (a : Device S) (b : Device T) (left : W → S) (right 
           (λ ended. alike_trans (alike_sym r.same) (alike (one_end r.count n (λ e. ended (sym r.same.outcome ∙ e)) over)))
           (is_running (one m).outcome)
 
-      noted : (n m : ℕ) → IsBegun (one n).notes (other m).notes ⊎ IsBegun (other m).notes (one n).notes
-      noted n m =
+      turn_after_event : (n m : ℕ) → IsBegun (one n).notes (other m).notes ⊎ IsBegun (other m).notes (one n).notes
+      turn_after_event n m =
           let r = reaches n w in
           ⊎_elim
           (λ l. inl (subst (λ q. IsBegun q (other m).notes) r.same.notes (law.grows r.count m (right w) (omega arith))))
@@ -172,7 +172,7 @@ module _ {S T W : Type 0} (a : Device S) (b : Device T) (left : W → S) (right 
       )
 
       pub agree : Agree most one other
-      agree = record { notes = noted; ends = finish; ends_only = finish_only; never_stuck = never }
+      agree = record { notes = turn_after_event; ends = finish; ends_only = finish_only; never_stuck = never }
 
 -- ---- what agrees with the one agrees with what is the same
 

@@ -80,7 +80,7 @@ module _ {P C F S M X : Type 0} (set : Setting P C F S M X) where
   run_same zero s = refl
   run_same (suc n) s = by (λ t. run_same n t) (Machine.turn set s)
     where
-      by : ((t : State P C F X) → run (device set) n t ≡ Machine.run set n t) → (x : Turn P C F X) → after (led set x) (run (device set) n) ≡ Machine.settled set x (Machine.run set n)
+      by : ((t : State P C F X) → run (device set) n t ≡ Machine.run set n t) → (x : Turn P C F X) → after (led set x) (run (device set) n) ≡ Machine.report_after_turn set x (Machine.run set n)
       by rest (Next t) = rest t
       by rest (Ended o t) = refl
       by rest (StuckAt at t) = refl
@@ -110,14 +110,14 @@ module _ {P C F S M X : Type 0} (set : Setting P C F S M X) where
       by None past = past
       by (Some target) past = room (nat_lt 0 (set.room f.code)) target
 
-  raised_adds : (o : Option C) (f : Frame P) (outer : List (Frame P)) (s : State P C F X) (otherwise : Turn P C F X) → Adds s.notes otherwise → Adds s.notes (Machine.raised set o f outer s otherwise)
+  raised_adds : (o : Option C) (f : Frame P) (outer : List (Frame P)) (s : State P C F X) (otherwise : Turn P C F X) → Adds s.notes otherwise → Adds s.notes (Machine.turn_after_raise set o f outer s otherwise)
   raised_adds None f outer s otherwise h = h
   raised_adds (Some c) f outer s otherwise h = caught_adds f.at (f ∷ outer) (length s.memory.heap) (OfClass c) (Machine.with_last set (Object c []) s)
 
-  failed_adds : (fault : Fault) (f : Frame P) (outer : List (Frame P)) (s : State P C F X) → Adds s.notes (Machine.failed set fault f outer s)
+  failed_adds : (fault : Fault) (f : Frame P) (outer : List (Frame P)) (s : State P C F X) → Adds s.notes (Machine.turn_after_fault set fault f outer s)
   failed_adds fault f outer s = raised_adds (set.fault fault) f outer s (StuckAt f.at s) (same_notes s.notes)
 
-  tossed_adds : (o : Option (HeapObject C F)) (f : Frame P) (outer : List (Frame P)) (object : ℕ) (s : State P C F X) → Adds s.notes (Machine.tossed set o f outer object s)
+  tossed_adds : (o : Option (HeapObject C F)) (f : Frame P) (outer : List (Frame P)) (object : ℕ) (s : State P C F X) → Adds s.notes (Machine.turn_after_toss set o f outer object s)
   tossed_adds None f outer object s = same_notes s.notes
   tossed_adds (Some thing) f outer object s = caught_adds f.at (f ∷ outer) object (shape thing) s
 
@@ -130,17 +130,17 @@ module _ {P C F S M X : Type 0} (set : Setting P C F S M X) where
 
   -- ---- acts of the script
 
-  prepared_adds : (acts : List Act) (number : ℕ) (s : State P C F X) (go : State P C F X → Turn P C F X) → ((t : State P C F X) → t.notes ≡ s.notes → Adds s.notes (go t)) → Adds s.notes (Machine.prepared set acts number s go)
+  prepared_adds : (acts : List Act) (number : ℕ) (s : State P C F X) (go : State P C F X → Turn P C F X) → ((t : State P C F X) → t.notes ≡ s.notes → Adds s.notes (go t)) → Adds s.notes (Machine.turn_after_acts set acts number s go)
   prepared_adds [] number s go h = h s refl
-  prepared_adds (a ∷ acts) number s go h = by (Machine.acted set a s.memory.heap) (λ heap. prepared_adds acts number (Machine.with_heap set heap s) go h)
+  prepared_adds (a ∷ acts) number s go h = by (Machine.heap_after set a s.memory.heap) (λ heap. prepared_adds acts number (Machine.with_heap set heap s) go h)
     where
-      by : (o : Option (List (HeapObject C F))) → ((heap : List (HeapObject C F)) → Adds s.notes (Machine.prepared set acts number (Machine.with_heap set heap s) go)) → Adds s.notes (Machine.prepared_by set o number s (λ t. Machine.prepared set acts number t go))
+      by : (o : Option (List (HeapObject C F))) → ((heap : List (HeapObject C F)) → Adds s.notes (Machine.turn_after_acts set acts number (Machine.with_heap set heap s) go)) → Adds s.notes (Machine.prepared_by set o number s (λ t. Machine.turn_after_acts set acts number t go))
       by None later = same_notes s.notes
       by (Some heap) later = later heap
 
   -- ---- imported calls
 
-  replied_adds : (r : Reply) (number : ℕ) (result : Option Sort) (f : Frame P) (outer : List (Frame P)) (s : State P C F X) → Adds s.notes (Machine.replied set r number result f outer s)
+  replied_adds : (r : Reply) (number : ℕ) (result : Option Sort) (f : Frame P) (outer : List (Frame P)) (s : State P C F X) → Adds s.notes (Machine.turn_after_reply set r number result f outer s)
   replied_adds (Give v) number result f outer s = by (result_fits (Machine.object_fits set s.memory.heap) result v)
     where
       by : (t : Bool) → Adds s.notes (if t then Machine.returned set f.at (result_words result v) f outer s else Ended (Unfit number) s)
@@ -148,12 +148,12 @@ module _ {P C F S M X : Type 0} (set : Setting P C F S M X) where
       by false = same_notes s.notes
   replied_adds (Throw class) number result f outer s = raised_adds (set.throwable class) f outer s (Ended (Unfit number) s) (same_notes s.notes)
 
-  answered_adds : (answers : List Answer) (result : Option Sort) (f : Frame P) (outer : List (Frame P)) (s : State P C F X) → Adds s.notes (Machine.answered set answers result f outer s)
+  answered_adds : (answers : List Answer) (result : Option Sort) (f : Frame P) (outer : List (Frame P)) (s : State P C F X) → Adds s.notes (Machine.turn_after_answer set answers result f outer s)
   answered_adds [] result f outer s = same_notes s.notes
   answered_adds (a ∷ answers) result f outer s =
-      prepared_adds a.acts a.number (record s { answers = answers }) _ (λ t e. subst (λ n. Adds n (Machine.replied set a.reply a.number result f outer t)) e (replied_adds a.reply a.number result f outer t))
+      prepared_adds a.acts a.number (record s { answers = answers }) _ (λ t e. subst (λ n. Adds n (Machine.turn_after_reply set a.reply a.number result f outer t)) e (replied_adds a.reply a.number result f outer t))
 
-  noted_adds : (id : MemberId) (result : Option Sort) (o : Option (List Value)) (f : Frame P) (outer : List (Frame P)) (s : State P C F X) → Adds s.notes (Machine.noted set id result o f outer s)
+  noted_adds : (id : MemberId) (result : Option Sort) (o : Option (List Value)) (f : Frame P) (outer : List (Frame P)) (s : State P C F X) → Adds s.notes (Machine.turn_after_event set id result o f outer s)
   noted_adds id result None f outer s = same_notes s.notes
   noted_adds id result (Some values) f outer s =
       adds_more s.notes (s.notes ++ Event id values ∷ []) _ (Event id values ∷ [], refl) (answered_adds s.answers result f outer (record s { notes = s.notes ++ Event id values ∷ [] }))
@@ -174,7 +174,7 @@ module _ {P C F S M X : Type 0} (set : Setting P C F S M X) where
   inside_adds : (m : Start P) (args : List Value) (f : Frame P) (outer : List (Frame P)) (s : State P C F X) → Adds s.notes (Machine.inside set m args f outer s)
   inside_adds m args f outer s = by m.is_abstract
     where
-      by : (t : Bool) → Adds s.notes (if t then StuckAt f.at s else Next (record s { frames = Machine.entered m args ∷ f ∷ outer }))
+      by : (t : Bool) → Adds s.notes (if t then StuckAt f.at s else Next (record s { frames = Machine.frame_for_call m args ∷ f ∷ outer }))
       by true = same_notes s.notes
       by false = same_notes s.notes
 
@@ -219,7 +219,7 @@ module _ {P C F S M X : Type 0} (set : Setting P C F S M X) where
 
   -- ---- a turn
 
-  fetched_adds : (o : Option (Fetched C F S M)) (f : Frame P) (outer : List (Frame P)) (s : State P C F X) → Adds s.notes (Machine.fetched set o f outer s)
+  fetched_adds : (o : Option (Fetched C F S M)) (f : Frame P) (outer : List (Frame P)) (s : State P C F X) → Adds s.notes (Machine.turn_after_fetch set o f outer s)
   fetched_adds None f outer s = same_notes s.notes
   fetched_adds (Some i) f outer s = made_adds (effect set.classes i.operation (set.room f.code) i.next f.locals s.memory f.stack) i.next f outer s
 

@@ -8,7 +8,7 @@ use Rattle.cjc_script.specs.declared.value.Value.TheVariants.{Num, Null, Obj}
 use Rattle.cjc_script.specs.Sorts.{Element, Shape, OfClass}
 use Rattle.cjc_bytecode.specs.Numbers.{spelt_by, is_word}
 use Rattle.cjc_bytecode.specs.Calculations.{IndexOutside, ClassCast, ArrayStore, Result, Fine, Fails, Wrong, Choice, Takes, Neither, one_number, two_numbers, one_value, one_int, int_words}
-use Rattle.cjc_bytecode.specs.Effects.{Letter, Reference, Byte, Short, Int, Access, Load, Store, Length, Throw, Return, Arm, Slot, HeapObject, Numbers, References, Object, shape, Memory, Classes, Operation, Do, Branch, Pick, Touch, Get, Put, GetStatic, PutStatic, Call, New, NewNumbers, NewReferences, Cast, Ask, Undone, Effect, Go, Raise, Stick, one_reference, operand, IsOperand, a_null, an_object, a_byte, a_short, an_int, words_of, same_kind, is_element, slot_of, slots_with, arm_of, with_some, item_at, finished, chosen, onward, thing_of, object_in, numbers_in, references_in, length_in, thrown, returned, receiver, sized, counted, made, truth, item_of, with_thing, kept, loaded, stored, touched, cast_of, cast, asked, put_slot, effect, load_reference_item, load_number, store_reference, store_number}
+use Rattle.cjc_bytecode.specs.Effects.{Letter, Reference, Byte, Short, Int, Access, Load, Store, Length, Throw, Return, Arm, Slot, HeapObject, Numbers, References, Object, shape, Memory, Classes, Operation, Do, Branch, Pick, Touch, Get, Put, GetStatic, PutStatic, Call, New, NewNumbers, NewReferences, Cast, Ask, Undone, Effect, Go, Raise, Stick, one_reference, operand, IsOperand, a_null, an_object, a_byte, a_short, an_int, words_of, same_kind, is_element, slot_of, slots_with, arm_of, with_some, item_at, effect_of_result, chosen, onward, thing_of, object_in, numbers_in, references_in, length_in, thrown, returned, receiver, sized, counted, made, truth, item_of, with_thing, kept, loaded, stored, effect_of_access, cast_of, cast, asked, put_slot, effect, load_reference_item, load_number, store_reference, store_number}
 use Rattle.cjc_bytecode.specs.Renaming.{option_as, shape_as, arm_as, heap_object_as, memory_as, operation_as, effect_as, Knows, KnownShape, KnownHeapObject, numbers_known, references_known, object_known, KnownHeap, no_things, one_thing, KnownMemory, KnownOperation, KnownEffect, UnmadeAlike, AreAlike, keys}
 
 -- ---- lists
@@ -207,7 +207,7 @@ module _ {C F S X D G T Y : Type 0} (known : Knows C F S X) (class : C → D) (f
 
     -- ---- instructions
 
-    by_result : (r : Result) (next : ℕ) (m : Memory C F X) → finished r (to next) (memory m) ≡ moved (finished r next m)
+    by_result : (r : Result) (next : ℕ) (m : Memory C F X) → effect_of_result r (to next) (memory m) ≡ moved (effect_of_result r next m)
     by_result (Fine stack locals) next m = refl
     by_result (Fails fault) next m = refl
     by_result Wrong next m = refl
@@ -285,7 +285,7 @@ module _ {C F S X D G T Y : Type 0} (known : Knows C F S X) (class : C → D) (f
     store_moved Short = store_number_moved Short
     store_moved Int = store_number_moved Int
 
-    touch_moved : (access : Access) (room next : ℕ) (locals : List (Option Value)) (m : Memory C F X) (stack : List Value) → KnownMemory known m → touched classes' access room (to next) locals (memory m) stack ≡ moved (touched classes access room next locals m stack)
+    touch_moved : (access : Access) (room next : ℕ) (locals : List (Option Value)) (m : Memory C F X) (stack : List Value) → KnownMemory known m → effect_of_access classes' access room (to next) locals (memory m) stack ≡ moved (effect_of_access classes access room next locals m stack)
     touch_moved (Load letter) room next locals m stack km = load_moved letter room next locals m stack km
     touch_moved (Store letter) room next locals m stack km = store_moved letter next locals m stack km
     touch_moved Length room next locals m stack km =
@@ -472,7 +472,7 @@ module _ {C F S X D G T Y : Type 0} (known : Knows C F S X) (class : C → D) (f
     on_made t room next locals m rest km kt =
         on_onward (Obj (length m.heap) ∷ []) room next locals (record m { heap = m.heap ++ t ∷ [] }) rest (record { heap = last_known known t km.heap kt; statics = km.statics })
 
-    on_result : (r : Result) (next : ℕ) (m : Memory C F X) → KnownMemory known m → Keeps (finished r next m)
+    on_result : (r : Result) (next : ℕ) (m : Memory C F X) → KnownMemory known m → Keeps (effect_of_result r next m)
     on_result (Fine stack locals) next m km = km
     on_result (Fails fault) next m km = tt
     on_result Wrong next m km = tt
@@ -526,7 +526,7 @@ module _ {C F S X D G T Y : Type 0} (known : Knows C F S X) (class : C → D) (f
         on_operand letter stack _ (λ v under op. on_number under _ (λ i below. on_value below _ (λ r rest. on_thing m.heap r _ km.heap (λ k t kt. on_numbers letter t _ (λ element items.
         on_item items i _ (λ n old. thing_put m k (Numbers element (slice_set items n (item_of v))) km numbers_known))))))
 
-    touch_keeps : (access : Access) (room next : ℕ) (locals : List (Option Value)) (m : Memory C F X) (stack : List Value) → KnownMemory known m → Keeps (touched classes access room next locals m stack)
+    touch_keeps : (access : Access) (room next : ℕ) (locals : List (Option Value)) (m : Memory C F X) (stack : List Value) → KnownMemory known m → Keeps (effect_of_access classes access room next locals m stack)
     touch_keeps (Load Reference) room next locals m stack km =
         on_number stack _ (λ i below. on_value below _ (λ r rest. on_thing m.heap r _ km.heap (λ k t kt. on_references t _ kt (λ c items kc.
         on_item items i _ (λ n v. on_onward (v ∷ []) room next locals m rest km)))))

@@ -125,24 +125,24 @@ module _ {P C F S M X Q D G T N Y : Type 0} (n : Names P C F S M X Q D G T N Y) 
   grown_known : (s : State P C F X) (t : HeapObject C F) → KnownMemory known s.memory → KnownHeapObject known t → KnownMemory known (record s.memory { heap = s.memory.heap ++ t ∷ [] })
   grown_known s t km kt = record { heap = last_known known t km.heap kt; statics = km.statics }
 
-  raised_together : (o : Option C) (f : Frame P) (outer : List (Frame P)) (s : State P C F X) (otherwise : Turn P C F X) (otherwise' : Turn Q D G Y) → ((c : C) → o ≡ Some c → KnownHeapObject known (Object c [])) → Frames (f ∷ outer) → KnownMemory known s.memory → Together otherwise otherwise' → Together (Machine.raised set o f outer s otherwise) (Machine.raised set' (option_as n.class o) (there f) (map there outer) (moved s) otherwise')
+  raised_together : (o : Option C) (f : Frame P) (outer : List (Frame P)) (s : State P C F X) (otherwise : Turn P C F X) (otherwise' : Turn Q D G Y) → ((c : C) → o ≡ Some c → KnownHeapObject known (Object c [])) → Frames (f ∷ outer) → KnownMemory known s.memory → Together otherwise otherwise' → Together (Machine.turn_after_raise set o f outer s otherwise) (Machine.turn_after_raise set' (option_as n.class o) (there f) (map there outer) (moved s) otherwise')
   raised_together None f outer s otherwise otherwise' kc kf km both = both
   raised_together (Some c) f outer s otherwise otherwise' kc kf km both =
       let kt = kc c refl in
       let new : State P C F X = Machine.with_last set (Object c []) s in
-      let one = Machine.raised set (Some c) f outer s otherwise in
+      let one = Machine.turn_after_raise set (Some c) f outer s otherwise in
       let two : ℕ → List (HeapObject D G) → Turn Q D G Y = λ k h. Machine.caught set' (n.to f.code f.at) (map there (f ∷ outer)) k (OfClass (n.class c)) (record (moved s) { memory = record { heap = h; statics = n.statics s.memory.statics } }) in
       subst (λ t. Together one (two (length (things s.memory.heap)) (things s.memory.heap ++ t ∷ []))) (bare_there c kt)
       (subst (λ k. Together one (two k (things s.memory.heap ++ thing (Object c []) ∷ []))) (sym (length_as thing s.memory.heap))
       (subst (λ h. Together one (two (length s.memory.heap) h)) (sym (map_last thing s.memory.heap (Object c [])))
       (caught_together f.at (n.to f.code f.at) (f ∷ outer) (length s.memory.heap) (OfClass c) new (receiver_of (Object c []) kt) kf (grown_known s (Object c []) km kt))))
 
-  failed_together : (fault : Fault) (f : Frame P) (outer : List (Frame P)) (s : State P C F X) → Frames (f ∷ outer) → KnownMemory known s.memory → Together (Machine.failed set fault f outer s) (Machine.failed set' fault (there f) (map there outer) (moved s))
+  failed_together : (fault : Fault) (f : Frame P) (outer : List (Frame P)) (s : State P C F X) → Frames (f ∷ outer) → KnownMemory known s.memory → Together (Machine.turn_after_fault set fault f outer s) (Machine.turn_after_fault set' fault (there f) (map there outer) (moved s))
   failed_together fault f outer s kf km =
-      subst (λ o. Together (Machine.failed set fault f outer s) (Machine.raised set' o (there f) (map there outer) (moved s) (StuckAt (n.to f.code f.at) (moved s)))) (sym (alike.fault fault))
+      subst (λ o. Together (Machine.turn_after_fault set fault f outer s) (Machine.turn_after_raise set' o (there f) (map there outer) (moved s) (StuckAt (n.to f.code f.at) (moved s)))) (sym (alike.fault fault))
       (raised_together (set.fault fault) f outer s (StuckAt f.at s) (StuckAt (n.to f.code f.at) (moved s)) (alike.fault_known fault) kf km stuck)
 
-  tossed_together : (o : Option (HeapObject C F)) (f : Frame P) (outer : List (Frame P)) (object : ℕ) (s : State P C F X) → ((t : HeapObject C F) → o ≡ Some t → KnownHeapObject known t) → Frames (f ∷ outer) → KnownMemory known s.memory → Together (Machine.tossed set o f outer object s) (Machine.tossed set' (option_as thing o) (there f) (map there outer) object (moved s))
+  tossed_together : (o : Option (HeapObject C F)) (f : Frame P) (outer : List (Frame P)) (object : ℕ) (s : State P C F X) → ((t : HeapObject C F) → o ≡ Some t → KnownHeapObject known t) → Frames (f ∷ outer) → KnownMemory known s.memory → Together (Machine.turn_after_toss set o f outer object s) (Machine.turn_after_toss set' (option_as thing o) (there f) (map there outer) object (moved s))
   tossed_together None f outer object s kt kf km = stuck
   tossed_together (Some t) f outer object s kt kf km =
       subst (λ k. Together (Machine.caught set f.at (f ∷ outer) object (shape t) s) (Machine.caught set' (n.to f.code f.at) (map there (f ∷ outer)) object k (moved s))) (sym (shape_there t))
@@ -264,7 +264,7 @@ module _ {P C F S M X Q D G T N Y : Type 0} (n : Names P C F S M X Q D G T N Y) 
   object_same None kc = no_thing
   object_same (Some c) kc = subst (λ t. SameThing (Some (Object c [])) (Some t)) (bare_there c (kc c refl)) (a_thing (Object c []) (kc c refl))
 
-  grown_same : (heap : List (HeapObject C F)) (o : Option (HeapObject C F)) (o' : Option (HeapObject D G)) → KnownHeap known heap → SameThing o o' → SameHeap (Machine.grown set heap o) (Machine.grown set' (things heap) o')
+  grown_same : (heap : List (HeapObject C F)) (o : Option (HeapObject C F)) (o' : Option (HeapObject D G)) → KnownHeap known heap → SameThing o o' → SameHeap (Machine.heap_with set heap o) (Machine.heap_with set' (things heap) o')
   grown_same heap _ _ kh no_thing = no_heap
   grown_same heap _ _ kh (a_thing t kt) =
       subst (λ h. SameHeap (Some (heap ++ t ∷ [])) (Some h)) (sym (map_last thing heap t)) (a_heap (heap ++ t ∷ []) (last_known known t kh kt))
@@ -307,31 +307,31 @@ module _ {P C F S M X Q D G T N Y : Type 0} (n : Names P C F S M X Q D G T N Y) 
   named_known None = tt
   named_known (Some kind) = shape_of_known kind
 
-  acted_same : (a : Act) (heap : List (HeapObject C F)) → KnownHeap known heap → SameHeap (Machine.acted set a heap) (Machine.acted set' a (things heap))
+  acted_same : (a : Act) (heap : List (HeapObject C F)) → KnownHeap known heap → SameHeap (Machine.heap_after set a heap) (Machine.heap_after set' a (things heap))
   acted_same (acts.Array desc size) heap kh =
-      subst (λ o. SameHeap (Machine.acted set (acts.Array desc size) heap) (Machine.grown set' (things heap) (Machine.array_of set' o size))) (sym (named_same (shape_named desc)))
+      subst (λ o. SameHeap (Machine.heap_after set (acts.Array desc size) heap) (Machine.heap_with set' (things heap) (Machine.array_of set' o size))) (sym (named_same (shape_named desc)))
       (grown_same heap _ _ kh (array_same (option_and_then (Machine.shape_of set) (shape_named desc)) size (named_known (shape_named desc))))
   acted_same (acts.Object name) heap kh =
-      subst (λ o. SameHeap (Machine.acted set (acts.Object name) heap) (Machine.grown set' (things heap) (Machine.object_of set' o))) (sym (alike.imported name))
+      subst (λ o. SameHeap (Machine.heap_after set (acts.Object name) heap) (Machine.heap_with set' (things heap) (Machine.object_of set' o))) (sym (alike.imported name))
       (grown_same heap _ _ kh (object_same (set.imported name) (alike.imported_known name)))
   acted_same (acts.Put k i v) heap kh =
-      subst (λ o. SameHeap (Machine.acted set (acts.Put k i v) heap) (Machine.put_item set' (things heap) k o i v)) (sym (get_map thing heap k))
+      subst (λ o. SameHeap (Machine.heap_after set (acts.Put k i v) heap) (Machine.put_item set' (things heap) k o i v)) (sym (get_map thing heap k))
       (put_same heap k (slice_get heap k) i v kh (λ t e. get_known known k t kh e))
 
-  prepared_together : (acts : List Act) (number : ℕ) (s : State P C F X) (go : State P C F X → Turn P C F X) (go' : State Q D G Y → Turn Q D G Y) → Known s → ((h : List (HeapObject C F)) → KnownHeap known h → Together (go (Machine.with_heap set h s)) (go' (moved (Machine.with_heap set h s)))) → Together (Machine.prepared set acts number s go) (Machine.prepared set' acts number (moved s) go')
+  prepared_together : (acts : List Act) (number : ℕ) (s : State P C F X) (go : State P C F X → Turn P C F X) (go' : State Q D G Y → Turn Q D G Y) → Known s → ((h : List (HeapObject C F)) → KnownHeap known h → Together (go (Machine.with_heap set h s)) (go' (moved (Machine.with_heap set h s)))) → Together (Machine.turn_after_acts set acts number s go) (Machine.turn_after_acts set' acts number (moved s) go')
   prepared_together [] number s go go' ks h = h s.memory.heap (let m = ks.memory in m.heap)
   prepared_together (a ∷ acts) number s go go' ks h =
-      by (Machine.acted set a s.memory.heap) (Machine.acted set' a (things s.memory.heap)) (acted_same a s.memory.heap (let m = ks.memory in m.heap)) (λ t kt. prepared_together acts number t go go' kt)
+      by (Machine.heap_after set a s.memory.heap) (Machine.heap_after set' a (things s.memory.heap)) (acted_same a s.memory.heap (let m = ks.memory in m.heap)) (λ t kt. prepared_together acts number t go go' kt)
     where
-      by : (o : Option (List (HeapObject C F))) (o' : Option (List (HeapObject D G))) → SameHeap o o' → ((t : State P C F X) → Known t → ((h : List (HeapObject C F)) → KnownHeap known h → Together (go (Machine.with_heap set h t)) (go' (moved (Machine.with_heap set h t)))) → Together (Machine.prepared set acts number t go) (Machine.prepared set' acts number (moved t) go')) → Together (Machine.prepared_by set o number s (λ t. Machine.prepared set acts number t go)) (Machine.prepared_by set' o' number (moved s) (λ t. Machine.prepared set' acts number t go'))
+      by : (o : Option (List (HeapObject C F))) (o' : Option (List (HeapObject D G))) → SameHeap o o' → ((t : State P C F X) → Known t → ((h : List (HeapObject C F)) → KnownHeap known h → Together (go (Machine.with_heap set h t)) (go' (moved (Machine.with_heap set h t)))) → Together (Machine.turn_after_acts set acts number t go) (Machine.turn_after_acts set' acts number (moved t) go')) → Together (Machine.prepared_by set o number s (λ t. Machine.turn_after_acts set acts number t go)) (Machine.prepared_by set' o' number (moved s) (λ t. Machine.turn_after_acts set' acts number t go'))
       by _ _ no_heap rest = over (Unfit number) s ks
       by _ _ (a_heap x kx) rest = rest (Machine.with_heap set x s) (record { frames = ks.frames; memory = record { heap = kx; statics = (let m = ks.memory in m.statics) } }) h
 
   -- ---- imported calls
 
-  replied_together : (r : Reply) (number : ℕ) (result : Option Sort) (f : Frame P) (outer : List (Frame P)) (s : State P C F X) → Frames (f ∷ outer) → Known s → Together (Machine.replied set r number result f outer s) (Machine.replied set' r number result (there f) (map there outer) (moved s))
+  replied_together : (r : Reply) (number : ℕ) (result : Option Sort) (f : Frame P) (outer : List (Frame P)) (s : State P C F X) → Frames (f ∷ outer) → Known s → Together (Machine.turn_after_reply set r number result f outer s) (Machine.turn_after_reply set' r number result (there f) (map there outer) (moved s))
   replied_together (Give v) number result f outer s kf ks =
-      subst (λ b. Together (Machine.replied set (Give v) number result f outer s) (if b then Machine.returned set' (n.to f.code f.at) (result_words result v) (there f) (map there outer) (moved s) else Ended (Unfit number) (moved s)))
+      subst (λ b. Together (Machine.turn_after_reply set (Give v) number result f outer s) (if b then Machine.returned set' (n.to f.code f.at) (result_words result v) (there f) (map there outer) (moved s) else Ended (Unfit number) (moved s)))
       (sym (result_fits_same (Machine.object_fits set s.memory.heap) (Machine.object_fits set' (things s.memory.heap)) (object_fits_same s.memory.heap (let m = ks.memory in m.heap)) result v))
       (by (result_fits (Machine.object_fits set s.memory.heap) result v))
     where
@@ -339,17 +339,17 @@ module _ {P C F S M X Q D G T N Y : Type 0} (n : Names P C F S M X Q D G T N Y) 
       by true = returned_together f.at (n.to f.code f.at) (result_words result v) f outer s kf ks.memory
       by false = over (Unfit number) s ks
   replied_together (Throw name) number result f outer s kf ks =
-      subst (λ o. Together (Machine.replied set (Throw name) number result f outer s) (Machine.raised set' o (there f) (map there outer) (moved s) (Ended (Unfit number) (moved s)))) (sym (alike.throwable name))
+      subst (λ o. Together (Machine.turn_after_reply set (Throw name) number result f outer s) (Machine.turn_after_raise set' o (there f) (map there outer) (moved s) (Ended (Unfit number) (moved s)))) (sym (alike.throwable name))
       (raised_together (set.throwable name) f outer s _ _ (alike.throwable_known name) kf ks.memory (over (Unfit number) s ks))
 
-  answered_together : (answers : List Answer) (result : Option Sort) (f : Frame P) (outer : List (Frame P)) (s : State P C F X) → Frames (f ∷ outer) → Known s → Together (Machine.answered set answers result f outer s) (Machine.answered set' answers result (there f) (map there outer) (moved s))
+  answered_together : (answers : List Answer) (result : Option Sort) (f : Frame P) (outer : List (Frame P)) (s : State P C F X) → Frames (f ∷ outer) → Known s → Together (Machine.turn_after_answer set answers result f outer s) (Machine.turn_after_answer set' answers result (there f) (map there outer) (moved s))
   answered_together [] result f outer s kf ks = over Waiting s ks
   answered_together (a ∷ answers) result f outer s kf ks =
       let t : State P C F X = record s { answers = answers } in
-      prepared_together a.acts a.number t (λ u. Machine.replied set a.reply a.number result f outer u) (λ u. Machine.replied set' a.reply a.number result (there f) (map there outer) u) (record { frames = ks.frames; memory = ks.memory })
+      prepared_together a.acts a.number t (λ u. Machine.turn_after_reply set a.reply a.number result f outer u) (λ u. Machine.turn_after_reply set' a.reply a.number result (there f) (map there outer) u) (record { frames = ks.frames; memory = ks.memory })
       (λ h kh. replied_together a.reply a.number result f outer (Machine.with_heap set h t) kf (record { frames = ks.frames; memory = record { heap = kh; statics = (let m = ks.memory in m.statics) } }))
 
-  noted_together : (id : MemberId) (result : Option Sort) (o : Option (List Value)) (f : Frame P) (outer : List (Frame P)) (s : State P C F X) → Frames (f ∷ outer) → Known s → Together (Machine.noted set id result o f outer s) (Machine.noted set' id result o (there f) (map there outer) (moved s))
+  noted_together : (id : MemberId) (result : Option Sort) (o : Option (List Value)) (f : Frame P) (outer : List (Frame P)) (s : State P C F X) → Frames (f ∷ outer) → Known s → Together (Machine.turn_after_event set id result o f outer s) (Machine.turn_after_event set' id result o (there f) (map there outer) (moved s))
   noted_together id result None f outer s kf ks = stuck
   noted_together id result (Some values) f outer s kf ks =
       answered_together s.answers result f outer (record s { notes = s.notes ++ Event id values ∷ [] }) kf (record { frames = ks.frames; memory = ks.memory })
@@ -370,9 +370,9 @@ module _ {P C F S M X Q D G T N Y : Type 0} (n : Names P C F S M X Q D G T N Y) 
   inside_together : (m : Start P) (args : List Value) (f : Frame P) (outer : List (Frame P)) (s : State P C F X) → KnownCode m.code → Frames (f ∷ outer) → Known s → Together (Machine.inside set m args f outer s) (Machine.inside set' (start_as n.code n.to m) args (there f) (map there outer) (moved s))
   inside_together m args f outer s km kf ks = by m.is_abstract
     where
-      by : (b : Bool) → Together (if b then StuckAt f.at s else Next (record s { frames = Machine.entered m args ∷ f ∷ outer })) (if b then StuckAt (n.to f.code f.at) (moved s) else Next (record (moved s) { frames = Machine.entered (start_as n.code n.to m) args ∷ there f ∷ map there outer }))
+      by : (b : Bool) → Together (if b then StuckAt f.at s else Next (record s { frames = Machine.frame_for_call m args ∷ f ∷ outer })) (if b then StuckAt (n.to f.code f.at) (moved s) else Next (record (moved s) { frames = Machine.frame_for_call (start_as n.code n.to m) args ∷ there f ∷ map there outer }))
       by true = stuck
-      by false = onward (record s { frames = Machine.entered m args ∷ f ∷ outer }) (record { frames = one_frame km kf; memory = ks.memory })
+      by false = onward (record s { frames = Machine.frame_for_call m args ∷ f ∷ outer }) (record { frames = one_frame km kf; memory = ks.memory })
 
   -- what the first reaches, the second reaches
   reaches_together : (m : M) (o : Option (Shape C)) (on : Bool) (args : List Value) (f : Frame P) (outer : List (Frame P)) (s : State P C F X) → KnownMethod m → Receiver o → Frames (f ∷ outer) → Known s → Together (Machine.reaches set (set.reached m o) on args f outer s) (Machine.reaches set' (set'.reached (n.method m) (option_as (shape_as n.class) o)) on args (there f) (map there outer) (moved s))
@@ -430,18 +430,18 @@ module _ {P C F S M X Q D G T N Y : Type 0} (n : Names P C F S M X Q D G T N Y) 
       onward (record s { frames = record f { at = at; stack = stack; locals = locals } ∷ outer; memory = m }) (record { frames = one_frame kc kfs; memory = ka })
   made_together (Raise fault) next f outer s ka kf ks = failed_together fault f outer s kf ks.memory
   made_together (Toss object) next f outer s ka kf ks =
-      subst (λ o. Together (Machine.tossed set (slice_get s.memory.heap object) f outer object s) (Machine.tossed set' o (there f) (map there outer) object (moved s))) (sym (get_map thing s.memory.heap object))
+      subst (λ o. Together (Machine.turn_after_toss set (slice_get s.memory.heap object) f outer object s) (Machine.turn_after_toss set' o (there f) (map there outer) object (moved s))) (sym (get_map thing s.memory.heap object))
       (tossed_together (slice_get s.memory.heap object) f outer object s (λ t e. get_known known object t (let m = ks.memory in m.heap) e) kf ks.memory)
   made_together (Invoke m) next f outer s ka (one_frame kc kfs) ks =
       counted_together (set.words m) m (record f { next = next }) outer s refl ka (one_frame kc kfs) ks
   made_together (Leave words) next f outer s ka kf ks = left_together words f outer s kf ks
   made_together Stick next f outer s ka kf ks = stuck
 
-  fetched_together : (o : Option (Fetched C F S M)) (f : Frame P) (outer : List (Frame P)) (s : State P C F X) → set.fetch f.code f.at ≡ o → Frames (f ∷ outer) → Known s → Together (Machine.fetched set o f outer s) (Machine.fetched set' (set'.fetch (n.code f.code) (n.to f.code f.at)) (there f) (map there outer) (moved s))
+  fetched_together : (o : Option (Fetched C F S M)) (f : Frame P) (outer : List (Frame P)) (s : State P C F X) → set.fetch f.code f.at ≡ o → Frames (f ∷ outer) → Known s → Together (Machine.turn_after_fetch set o f outer s) (Machine.turn_after_fetch set' (set'.fetch (n.code f.code) (n.to f.code f.at)) (there f) (map there outer) (moved s))
   fetched_together None f outer s e (one_frame kc kfs) ks =
-      sticks (n.to f.code f.at) (λ misses. ap (λ o. Machine.fetched set' o (there f) (map there outer) (moved s)) (misses.fetch f.code f.at kc e))
+      sticks (n.to f.code f.at) (λ misses. ap (λ o. Machine.turn_after_fetch set' o (there f) (map there outer) (moved s)) (misses.fetch f.code f.at kc e))
   fetched_together (Some i) f outer s e (one_frame kc kfs) ks =
-      subst (λ t. Together (Machine.fetched set (Some i) f outer s) t) (sym same)
+      subst (λ t. Together (Machine.turn_after_fetch set (Some i) f outer s) t) (sym same)
       (by (effect_natural known n.class n.field n.slots n.cell n.statics set.classes set'.classes alike.classes KnownMethod n.method (n.to f.code) i.operation (set.room f.code) i.next f.locals s.memory f.stack ks.memory kd)
       (effect_keeps known n.class n.field n.slots n.cell n.statics set.classes set'.classes alike.classes M KnownMethod i.operation (set.room f.code) i.next f.locals s.memory f.stack ks.memory kd))
     where
@@ -451,9 +451,9 @@ module _ {P C F S M X Q D G T N Y : Type 0} (n : Names P C F S M X Q D G T N Y) 
       after : Effect D G N Y → Turn Q D G Y
       after a = Machine.made set' a (n.to f.code i.next) (there f) (map there outer) (moved s)
 
-      same : Machine.fetched set' (set'.fetch (n.code f.code) (n.to f.code f.at)) (there f) (map there outer) (moved s) ≡ after (effect set'.classes (operation_as n.class n.field n.cell n.method (n.to f.code) i.operation) (set.room f.code) (n.to f.code i.next) f.locals (memory_as n.class n.slots n.statics s.memory) f.stack)
+      same : Machine.turn_after_fetch set' (set'.fetch (n.code f.code) (n.to f.code f.at)) (there f) (map there outer) (moved s) ≡ after (effect set'.classes (operation_as n.class n.field n.cell n.method (n.to f.code) i.operation) (set.room f.code) (n.to f.code i.next) f.locals (memory_as n.class n.slots n.statics s.memory) f.stack)
       same =
-          ap (λ o. Machine.fetched set' o (there f) (map there outer) (moved s)) (alike.fetch f.code f.at i kc e)
+          ap (λ o. Machine.turn_after_fetch set' o (there f) (map there outer) (moved s)) (alike.fetch f.code f.at i kc e)
           ∙ ap (λ r. after (effect set'.classes (operation_as n.class n.field n.cell n.method (n.to f.code) i.operation) r (n.to f.code i.next) f.locals (memory_as n.class n.slots n.statics s.memory) f.stack)) (alike.room f.code kc)
 
       by : {a : Effect C F M X} {b : Effect D G N Y} → Follows known n.class n.field n.slots n.cell n.statics set.classes set'.classes alike.classes KnownMethod n.method (n.to f.code) a b → KnownEffect known KnownMethod a → Together (Machine.made set a i.next f outer s) (after b)
@@ -525,7 +525,7 @@ module _ {P C F S M X Q D G T N Y : Type 0} (n : Names P C F S M X Q D G T N Y) 
   entered_together _ _ words e entries s no_start ks = over (Unfit e.number) s ks
   entered_together _ _ None e entries s (a_start m km) ks = over (Unfit e.number) s ks
   entered_together _ _ (Some words) e entries s (a_start m km) ks =
-      onward (record s { frames = Machine.entered m words ∷ []; entries = entries }) (record { frames = one_frame km no_frames; memory = ks.memory })
+      onward (record s { frames = Machine.frame_for_call m words ∷ []; entries = entries }) (record { frames = one_frame km no_frames; memory = ks.memory })
 
   begins_together : (frames : List (Frame P)) (entries : List Entry) (s : State P C F X) → Known s → Together (Machine.begins set frames entries s) (Machine.begins set' (map there frames) entries (moved s))
   begins_together [] [] s ks = over Done s ks
@@ -552,7 +552,7 @@ module _ {P C F S M X Q D G T N Y : Type 0} (n : Names P C F S M X Q D G T N Y) 
   idle_same [] (e ∷ entries) = refl
   idle_same (f ∷ outer) entries = refl
 
-  settled_same : (k : ℕ) → ((s : State P C F X) → Known s → IsFree n known KnownCode KnownMethod (Machine.run set k s) → Machine.run set' k (moved s) ≡ Machine.run set k s) → {t : Turn P C F X} {u : Turn Q D G Y} → Together t u → IsFree n known KnownCode KnownMethod (Machine.settled set t (Machine.run set k)) → Machine.settled set' u (Machine.run set' k) ≡ Machine.settled set t (Machine.run set k)
+  settled_same : (k : ℕ) → ((s : State P C F X) → Known s → IsFree n known KnownCode KnownMethod (Machine.run set k s) → Machine.run set' k (moved s) ≡ Machine.run set k s) → {t : Turn P C F X} {u : Turn Q D G Y} → Together t u → IsFree n known KnownCode KnownMethod (Machine.report_after_turn set t (Machine.run set k)) → Machine.report_after_turn set' u (Machine.run set' k) ≡ Machine.report_after_turn set t (Machine.run set k)
   settled_same k agree (onward s ks) free = agree s ks free
   settled_same k agree (over o s ks) free = report_same o s ks
   settled_same k agree (sticks {at = at} at' is) free = absurd (free at refl)
@@ -561,11 +561,11 @@ module _ {P C F S M X Q D G T N Y : Type 0} (n : Names P C F S M X Q D G T N Y) 
   runs_agree zero s ks free = ap (λ o. Machine.report set' o (moved s)) (idle_same s.frames s.entries) ∙ report_same (Machine.idle set s.frames s.entries) s ks
   runs_agree (suc k) s ks free = settled_same k (runs_agree k) (turn_together s ks) free
 
-  settled_stick : (k : ℕ) → Misses → ((s : State P C F X) → Known s → IsFree n known KnownCode KnownMethod (Machine.run set' k (moved s)) → IsFree n known KnownCode KnownMethod (Machine.run set k s)) → {t : Turn P C F X} {u : Turn Q D G Y} → Together t u → IsFree n known KnownCode KnownMethod (Machine.settled set' u (Machine.run set' k)) → IsFree n known KnownCode KnownMethod (Machine.settled set t (Machine.run set k))
+  settled_stick : (k : ℕ) → Misses → ((s : State P C F X) → Known s → IsFree n known KnownCode KnownMethod (Machine.run set' k (moved s)) → IsFree n known KnownCode KnownMethod (Machine.run set k s)) → {t : Turn P C F X} {u : Turn Q D G Y} → Together t u → IsFree n known KnownCode KnownMethod (Machine.report_after_turn set' u (Machine.run set' k)) → IsFree n known KnownCode KnownMethod (Machine.report_after_turn set t (Machine.run set k))
   settled_stick k misses stick (onward s ks) free = stick s ks free
   settled_stick k misses stick (over o s ks) free = free
   settled_stick k misses stick (sticks {at = at} at' is) free =
-      absurd (subst (λ u. IsFree n known KnownCode KnownMethod (Machine.settled set' u (Machine.run set' k))) (is misses) free at' refl)
+      absurd (subst (λ u. IsFree n known KnownCode KnownMethod (Machine.report_after_turn set' u (Machine.run set' k))) (is misses) free at' refl)
 
   pub runs_stick_alike : Misses → RunsStickAlike n known KnownCode KnownMethod set set'
   runs_stick_alike misses zero s ks free =

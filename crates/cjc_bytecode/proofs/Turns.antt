@@ -15,7 +15,7 @@ module _ {P C F S M X : Type 0} (set : Setting P C F S M X) (s : State P C F X) 
   fetched_turn =
       ap (λ frames. Machine.and_then set (Machine.begins set frames s.entries s) (λ t. Machine.step set t.frames t)) has
       ∙ ap (λ frames. Machine.step set frames s) has
-      ∙ ap (λ o. Machine.spent_by set s.spent (Machine.fetched set o f outer (record s { spent = s.spent + 1 }))) at
+      ∙ ap (λ o. Machine.spent_by set s.spent (Machine.turn_after_fetch set o f outer (record s { spent = s.spent + 1 }))) at
 
   -- an instruction that goes on
   pub go_turn : (to : ℕ) (stack : List Value) (locals : List (Option Value)) (m : Memory C F X) → what ≡ Go to stack locals m → led set (Machine.turn set s) ≡ On (record s { frames = record f { at = to; stack = stack; locals = locals } ∷ outer; memory = m; spent = s.spent + 1 })

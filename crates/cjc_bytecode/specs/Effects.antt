@@ -187,10 +187,10 @@ result_words Int stuck stack go = stuck
 
 module _ {C F M X : Type 0} where
   -- what a calculation leads to
-  abbrev pub finished : Result → (next : ℕ) → Memory C F X → Effect C F M X
-  finished (Fine stack locals) next m = Go next stack locals m
-  finished (Fails fault) next m = Raise fault
-  finished Wrong next m = Stick
+  abbrev pub effect_of_result : Result → (next : ℕ) → Memory C F X → Effect C F M X
+  effect_of_result (Fine stack locals) next m = Go next stack locals m
+  effect_of_result (Fails fault) next m = Raise fault
+  effect_of_result Wrong next m = Stick
 
   -- where a condition leads
   abbrev pub chosen : Choice → (to next : ℕ) → List (Option Value) → Memory C F X → Effect C F M X
@@ -326,13 +326,13 @@ module _ {C F S M X : Type 0} (classes : Classes C F S X) where
   stored Int = store_number Int
 
   -- what sees the heap and no name
-  abbrev pub touched : Access → (room next : ℕ) → List (Option Value) → Memory C F X → List Value → Effect C F M X
-  touched (Load letter) room next locals m stack = loaded letter room next locals m stack
-  touched (Store letter) room next locals m stack = stored letter next locals m stack
-  touched Length room next locals m stack =
+  abbrev pub effect_of_access : Access → (room next : ℕ) → List (Option Value) → Memory C F X → List Value → Effect C F M X
+  effect_of_access (Load letter) room next locals m stack = loaded letter room next locals m stack
+  effect_of_access (Store letter) room next locals m stack = stored letter next locals m stack
+  effect_of_access Length room next locals m stack =
       one_value Stick stack (λ r rest. thing_of m.heap r (λ k. length_in (λ n. Go next (Num (low_word (pos n)) ∷ rest) locals m)))
-  touched Throw room next locals m stack = one_value Stick stack (λ r rest. thrown r)
-  touched (Return letter) room next locals m stack = returned letter stack
+  effect_of_access Throw room next locals m stack = one_value Stick stack (λ r rest. thrown r)
+  effect_of_access (Return letter) room next locals m stack = returned letter stack
 
   -- whether the object of a reference is of a type
   abbrev pub cast_of : Shape C → List (HeapObject C F) → Value → (Bool → Effect C F M X) → Effect C F M X
@@ -361,13 +361,13 @@ module _ {C F S M X : Type 0} (classes : Classes C F S X) where
 
   -- What an operation asks of the machine, where `room` is the greatest height of the stack and `next` the place behind it.
   abbrev pub effect : Operation C F S M → (room next : ℕ) (locals : List (Option Value)) (m : Memory C F X) → List Value → Effect C F M X
-  effect (Do calculation) room next locals m stack = finished (calculation room locals stack) next m
+  effect (Do calculation) room next locals m stack = effect_of_result (calculation room locals stack) next m
   effect (Branch test to) room next locals m stack = chosen (test stack) to next locals m
   effect (Pick false other arms) room next locals m stack =
       one_number Stick stack (λ x rest. Go (arm_of other arms x) rest locals m)
   effect (Pick true other arms) room next locals m stack =
       one_int Stick stack (λ x rest. Go (arm_of other arms x) rest locals m)
-  effect (Touch access) room next locals m stack = touched access room next locals m stack
+  effect (Touch access) room next locals m stack = effect_of_access access room next locals m stack
   effect (Get this letter f) room next locals m stack =
       receiver this locals stack (λ r rest. thing_of m.heap r (λ k. object_in (λ class slots.
       with_some Stick (slot_of classes.same_field slots f) (λ v. words_of letter v Stick (λ words. onward words room next locals m rest)))))

@@ -100,8 +100,8 @@ abbrev pub locals_of : (nargs max_locals : ℕ) → List Value → List (Option 
 locals_of nargs max_locals args = take (nargs + max_locals) (map (λ v. Some v) args ++ replicate (nargs + max_locals) None)
 
 -- a method that begins with these arguments
-abbrev pub entered : {P : Type 0} → Start P → List Value → Frame P
-entered m args = record { code = m.code; at = m.at; next = m.at; stack = []; locals = locals_of m.nargs m.max_locals args }
+abbrev pub frame_for_call : {P : Type 0} → Start P → List Value → Frame P
+frame_for_call m args = record { code = m.code; at = m.at; next = m.at; stack = []; locals = locals_of m.nargs m.max_locals args }
 
 -- java/lang/Object.<init>()V is no event and returns at once
 abbrev pub is_at_once : MemberId → Bool
@@ -162,18 +162,18 @@ module _ {P C F S M X : Type 0} (set : Setting P C F S M X) where
   with_last thing s = record s { memory = record s.memory { heap = s.memory.heap ++ thing ∷ [] } }
 
   -- an object of the class is made and thrown
-  abbrev pub raised : Option C → Frame P → List (Frame P) → State P C F X → (otherwise : Turn P C F X) → Turn P C F X
-  raised None f outer s otherwise = otherwise
-  raised (Some c) f outer s otherwise = caught f.at (f ∷ outer) (length s.memory.heap) (OfClass c) (with_last (Object c []) s)
+  abbrev pub turn_after_raise : Option C → Frame P → List (Frame P) → State P C F X → (otherwise : Turn P C F X) → Turn P C F X
+  turn_after_raise None f outer s otherwise = otherwise
+  turn_after_raise (Some c) f outer s otherwise = caught f.at (f ∷ outer) (length s.memory.heap) (OfClass c) (with_last (Object c []) s)
 
   -- an exception of the machine's own
-  abbrev pub failed : Fault → Frame P → List (Frame P) → State P C F X → Turn P C F X
-  failed fault f outer s = raised (set.fault fault) f outer s (StuckAt f.at s)
+  abbrev pub turn_after_fault : Fault → Frame P → List (Frame P) → State P C F X → Turn P C F X
+  turn_after_fault fault f outer s = turn_after_raise (set.fault fault) f outer s (StuckAt f.at s)
 
   -- the array or object of this number is thrown
-  abbrev pub tossed : Option (HeapObject C F) → Frame P → List (Frame P) → (object : ℕ) → State P C F X → Turn P C F X
-  tossed None f outer object s = StuckAt f.at s
-  tossed (Some thing) f outer object s = caught f.at (f ∷ outer) object (shape thing) s
+  abbrev pub turn_after_toss : Option (HeapObject C F) → Frame P → List (Frame P) → (object : ℕ) → State P C F X → Turn P C F X
+  turn_after_toss None f outer object s = StuckAt f.at s
+  turn_after_toss (Some thing) f outer object s = caught f.at (f ∷ outer) object (shape thing) s
 
   -- words go to the frame that called, where its stack has room
   abbrev pub returned : (from : ℕ) → List Value → Frame P → List (Frame P) → State P C F X → Turn P C F X
@@ -225,15 +225,15 @@ module _ {P C F S M X : Type 0} (set : Setting P C F S M X) where
   put_item heap array thing i v = None
 
   -- the heap with one more
-  abbrev pub grown : List (HeapObject C F) → Option (HeapObject C F) → Option (List (HeapObject C F))
-  grown heap None = None
-  grown heap (Some thing) = Some (heap ++ thing ∷ [])
+  abbrev pub heap_with : List (HeapObject C F) → Option (HeapObject C F) → Option (List (HeapObject C F))
+  heap_with heap None = None
+  heap_with heap (Some thing) = Some (heap ++ thing ∷ [])
 
   -- the heap after an act, where it fits
-  abbrev pub acted : Act → List (HeapObject C F) → Option (List (HeapObject C F))
-  acted (acts.Array desc size) heap = grown heap (array_of (option_and_then shape_of (shape_named desc)) size)
-  acted (acts.Object class) heap = grown heap (object_of (set.imported class))
-  acted (acts.Put array i v) heap = put_item heap array (slice_get heap array) i v
+  abbrev pub heap_after : Act → List (HeapObject C F) → Option (List (HeapObject C F))
+  heap_after (acts.Array desc size) heap = heap_with heap (array_of (option_and_then shape_of (shape_named desc)) size)
+  heap_after (acts.Object class) heap = heap_with heap (object_of (set.imported class))
+  heap_after (acts.Put array i v) heap = put_item heap array (slice_get heap array) i v
 
   -- the state with another heap
   abbrev pub with_heap : List (HeapObject C F) → State P C F X → State P C F X
@@ -245,33 +245,33 @@ module _ {P C F S M X : Type 0} (set : Setting P C F S M X) where
   prepared_by (Some heap) number s go = go (with_heap heap s)
 
   -- acts, and what follows them
-  abbrev pub prepared : List Act → (number : ℕ) → State P C F X → (State P C F X → Turn P C F X) → Turn P C F X
-  prepared [] number s go = go s
-  prepared (a ∷ acts) number s go = prepared_by (acted a s.memory.heap) number s (λ t. prepared acts number t go)
+  abbrev pub turn_after_acts : List Act → (number : ℕ) → State P C F X → (State P C F X → Turn P C F X) → Turn P C F X
+  turn_after_acts [] number s go = go s
+  turn_after_acts (a ∷ acts) number s go = prepared_by (heap_after a s.memory.heap) number s (λ t. turn_after_acts acts number t go)
 
   -- ---- imported calls
 
   -- a value that fits the result, or an exception of a class that fits
-  abbrev pub replied : Reply → (number : ℕ) (result : Option Sort) → Frame P → List (Frame P) → State P C F X → Turn P C F X
-  replied (Give v) number result f outer s =
+  abbrev pub turn_after_reply : Reply → (number : ℕ) (result : Option Sort) → Frame P → List (Frame P) → State P C F X → Turn P C F X
+  turn_after_reply (Give v) number result f outer s =
       if result_fits (object_fits s.memory.heap) result v then returned f.at (result_words result v) f outer s else Ended (Unfit number) s
-  replied (Throw class) number result f outer s = raised (set.throwable class) f outer s (Ended (Unfit number) s)
+  turn_after_reply (Throw class) number result f outer s = turn_after_raise (set.throwable class) f outer s (Ended (Unfit number) s)
 
   -- the next answer, after its acts
-  abbrev pub answered : List Answer → (result : Option Sort) → Frame P → List (Frame P) → State P C F X → Turn P C F X
-  answered [] result f outer s = Ended Waiting s
-  answered (a ∷ answers) result f outer s =
-      prepared a.acts a.number (record s { answers = answers }) (λ t. replied a.reply a.number result f outer t)
+  abbrev pub turn_after_answer : List Answer → (result : Option Sort) → Frame P → List (Frame P) → State P C F X → Turn P C F X
+  turn_after_answer [] result f outer s = Ended Waiting s
+  turn_after_answer (a ∷ answers) result f outer s =
+      turn_after_acts a.acts a.number (record s { answers = answers }) (λ t. turn_after_reply a.reply a.number result f outer t)
 
   -- an imported method: its event, and then the next answer
-  abbrev pub noted : MemberId → (result : Option Sort) → Option (List Value) → Frame P → List (Frame P) → State P C F X → Turn P C F X
-  noted id result None f outer s = StuckAt f.at s
-  noted id result (Some values) f outer s = answered s.answers result f outer (record s { notes = s.notes ++ Event id values ∷ [] })
+  abbrev pub turn_after_event : MemberId → (result : Option Sort) → Option (List Value) → Frame P → List (Frame P) → State P C F X → Turn P C F X
+  turn_after_event id result None f outer s = StuckAt f.at s
+  turn_after_event id result (Some values) f outer s = turn_after_answer s.answers result f outer (record s { notes = s.notes ++ Event id values ∷ [] })
 
   -- its words are of the kinds that its descriptor says
   abbrev pub typed : (on_object : Bool) → MemberId → Option Signature → List Value → Frame P → List (Frame P) → State P C F X → Turn P C F X
   typed on_object id None args f outer s = StuckAt f.at s
-  typed on_object id (Some types) args f outer s = noted id types.result (event_values on_object types.params args) f outer s
+  typed on_object id (Some types) args f outer s = turn_after_event id types.result (event_values on_object types.params args) f outer s
 
   -- an imported call, with its receiver
   abbrev pub outside : (on_object : Bool) → MemberId → List Value → Frame P → List (Frame P) → State P C F X → Turn P C F X
@@ -282,7 +282,7 @@ module _ {P C F S M X : Type 0} (set : Setting P C F S M X) where
 
   -- a method with code begins
   abbrev pub inside : Start P → List Value → Frame P → List (Frame P) → State P C F X → Turn P C F X
-  inside m args f outer s = if m.is_abstract then StuckAt f.at s else Next (record s { frames = entered m args ∷ f ∷ outer })
+  inside m args f outer s = if m.is_abstract then StuckAt f.at s else Next (record s { frames = frame_for_call m args ∷ f ∷ outer })
 
   -- what a call does with what it reaches
   abbrev pub reaches : Reached P → (on_object : Bool) → List Value → Frame P → List (Frame P) → State P C F X → Turn P C F X
@@ -299,7 +299,7 @@ module _ {P C F S M X : Type 0} (set : Setting P C F S M X) where
   abbrev pub on_receiver : M → List Value → Frame P → List (Frame P) → State P C F X → Turn P C F X
   on_receiver m [] f outer s = StuckAt f.at s
   on_receiver m (Num x ∷ args) f outer s = StuckAt f.at s
-  on_receiver m (Null ∷ args) f outer s = failed NullPointer f outer s
+  on_receiver m (Null ∷ args) f outer s = turn_after_fault NullPointer f outer s
   on_receiver m (Obj k ∷ args) f outer s = reaches_on m (slice_get s.memory.heap k) (Obj k ∷ args) f outer s
 
   -- a call with its words, the deepest first
@@ -323,8 +323,8 @@ module _ {P C F S M X : Type 0} (set : Setting P C F S M X) where
   -- what follows from an effect
   abbrev pub made : Effect C F M X → (next : ℕ) → Frame P → List (Frame P) → State P C F X → Turn P C F X
   made (Go at stack locals m) next f outer s = Next (record s { frames = record f { at = at; stack = stack; locals = locals } ∷ outer; memory = m })
-  made (Raise fault) next f outer s = failed fault f outer s
-  made (Toss object) next f outer s = tossed (slice_get s.memory.heap object) f outer object s
+  made (Raise fault) next f outer s = turn_after_fault fault f outer s
+  made (Toss object) next f outer s = turn_after_toss (slice_get s.memory.heap object) f outer object s
   made (Invoke m) next f outer s = counted (set.words m) m (record f { next = next }) outer s
   made (Leave words) next f outer s = left words f outer s
   made Stick next f outer s = StuckAt f.at s
@@ -332,9 +332,9 @@ module _ {P C F S M X : Type 0} (set : Setting P C F S M X) where
   -- ---- a turn
 
   -- the instruction at a frame's place
-  abbrev pub fetched : Option (Fetched C F S M) → Frame P → List (Frame P) → State P C F X → Turn P C F X
-  fetched None f outer s = StuckAt f.at s
-  fetched (Some i) f outer s = made (effect set.classes i.operation (set.room f.code) i.next f.locals s.memory f.stack) i.next f outer s
+  abbrev pub turn_after_fetch : Option (Fetched C F S M) → Frame P → List (Frame P) → State P C F X → Turn P C F X
+  turn_after_fetch None f outer s = StuckAt f.at s
+  turn_after_fetch (Some i) f outer s = made (effect set.classes i.operation (set.room f.code) i.next f.locals s.memory f.stack) i.next f outer s
 
   -- an instruction that is stuck is not spent
   abbrev pub spent_by : (before : ℕ) → Turn P C F X → Turn P C F X
@@ -345,7 +345,7 @@ module _ {P C F S M X : Type 0} (set : Setting P C F S M X) where
   -- one instruction of the innermost frame
   abbrev pub step : List (Frame P) → State P C F X → Turn P C F X
   step [] s = Ended Done s
-  step (f ∷ outer) s = spent_by s.spent (fetched (set.fetch f.code f.at) f outer (record s { spent = s.spent + 1 }))
+  step (f ∷ outer) s = spent_by s.spent (turn_after_fetch (set.fetch f.code f.at) f outer (record s { spent = s.spent + 1 }))
 
   -- ---- entries
 
@@ -389,7 +389,7 @@ module _ {P C F S M X : Type 0} (set : Setting P C F S M X) where
 
   -- an entry begins where its method and its arguments fit
   abbrev pub entered_by : Option (Start P) → Option (List Value) → Entry → List Entry → State P C F X → Turn P C F X
-  entered_by (Some m) (Some words) e entries s = Next (record s { frames = entered m words ∷ []; entries = entries })
+  entered_by (Some m) (Some words) e entries s = Next (record s { frames = frame_for_call m words ∷ []; entries = entries })
   entered_by (Some m) None e entries s = Ended (Unfit e.number) s
   entered_by None words e entries s = Ended (Unfit e.number) s
 
@@ -397,7 +397,7 @@ module _ {P C F S M X : Type 0} (set : Setting P C F S M X) where
   abbrev pub begins : List (Frame P) → List Entry → State P C F X → Turn P C F X
   begins [] [] s = Ended Done s
   begins [] (e ∷ entries) s =
-      prepared e.acts e.number s (λ t. entered_by (entry_start t.memory.heap e) (entry_words t.memory.heap e) e entries t)
+      turn_after_acts e.acts e.number s (λ t. entered_by (entry_start t.memory.heap e) (entry_words t.memory.heap e) e entries t)
   begins (f ∷ outer) entries s = Next s
 
   -- ---- a run
@@ -429,15 +429,15 @@ module _ {P C F S M X : Type 0} (set : Setting P C F S M X) where
   turn s = and_then (begins s.frames s.entries s) (λ t. step t.frames t)
 
   -- the report of a turn, or of what follows it
-  abbrev pub settled : Turn P C F X → (State P C F X → Report) → Report
-  settled (Next s) go = go s
-  settled (Ended o s) go = report o s
-  settled (StuckAt at s) go = report (Stuck at) s
+  abbrev pub report_after_turn : Turn P C F X → (State P C F X → Report) → Report
+  report_after_turn (Next s) go = go s
+  report_after_turn (Ended o s) go = report o s
+  report_after_turn (StuckAt at s) go = report (Stuck at) s
 
   -- the run of n instructions
   abbrev pub run : ℕ → State P C F X → Report
   run zero s = report (idle s.frames s.entries) s
-  run (suc n) s = settled (turn s) (run n)
+  run (suc n) s = report_after_turn (turn s) (run n)
 
 -- the first state
 abbrev pub start : {P C F X : Type 0} → Memory C F X → Script → State P C F X

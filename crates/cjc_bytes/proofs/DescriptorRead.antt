@@ -2,10 +2,10 @@
 use Rattle.std.proofs.Common.{◌≡◌, ℕ, zero, suc, ◌<◌, ◌≤◌, ◌⊎◌, Bool, true, false, cond, eqb, List, [], ◌∷◌, ◌++◌, length, take, drop, get_or, ◌+◌, drop-cons, add-one, Option, Some, None, option_map, refl, sym, ap, subst, ◌∙◌, append_assoc, arith, inl, inr}
 use Rattle.std.proofs.lemmas.Bool.{eqb-true, cases_Bool}
 use Rattle.std.proofs.lemmas.List.{append-nil, drop_all}
-use Rattle.cjc_bytes.specs.declared.names.Kind.{Kind}
-use Rattle.cjc_bytes.specs.declared.names.Kind.TheVariants as kinds
-use Rattle.cjc_bytes.specs.declared.names.Spot.{Spot}
-use Rattle.cjc_bytes.specs.declared.names.Spot.TheVariants as spots
+use Rattle.cjc_bytes.specs.declared.descriptor.Kind.{Kind}
+use Rattle.cjc_bytes.specs.declared.descriptor.Kind.TheVariants as kinds
+use Rattle.cjc_bytes.specs.declared.descriptor.ParseState.{ParseState}
+use Rattle.cjc_bytes.specs.declared.descriptor.ParseState.TheVariants as spots
 use Rattle.cjc_bytes.specs.Descriptor.{Part, Parts, plain, base_kind, is_name_byte, IsName, last, more, IsClassName, simple, inside, IsType, base, object, array, AreTypes, none, next, IsResult, value, nothing, IsDescriptor, field, method}
 use Rattle.cjc_bytes.specs.Spots.{behind_type, type_begun, after, one_more, end_at, bad_at}
 
@@ -51,7 +51,7 @@ record NameRest (is_param : Bool) (bytes : List ℕ) : Type 0 where
   is : (b : ℕ) → is_name_byte b ≡ true → IsClassName (b ∷ name)
   ends : Ends is_param back
 
-Tail : Spot → List ℕ → Type 0
+Tail : ParseState → List ℕ → Type 0
 Tail spots.Start bytes = (d : Parts) × IsDescriptor d bytes
 Tail spots.Param bytes = ParamsTail bytes
 Tail spots.Result bytes = (r : Part) × IsResult r bytes
@@ -66,28 +66,28 @@ ends_of true bytes h = h
 ends_of false bytes h = h
 
 -- the three ways in which a type begins
-base_begins : (is_param : Bool) (b : ℕ) (o : Option Kind) (t : Spot) → option_map (λ (_ : Kind). behind_type is_param) o ≡ Some t → (kind : Kind) × (o ≡ Some kind) × (behind_type is_param ≡ t)
+base_begins : (is_param : Bool) (b : ℕ) (o : Option Kind) (t : ParseState) → option_map (λ (_ : Kind). behind_type is_param) o ≡ Some t → (kind : Kind) × (o ≡ Some kind) × (behind_type is_param ≡ t)
 base_begins is_param b (Some kind) t e = (kind, refl, cc)
 base_begins is_param b None t e = absurd cc
 
-type_step : (is_param : Bool) (b : ℕ) (bs : List ℕ) (t : Spot) → type_begun is_param b ≡ Some t → Tail t bs → TypeTail is_param (b ∷ bs)
+type_step : (is_param : Bool) (b : ℕ) (bs : List ℕ) (t : ParseState) → type_begun is_param b ≡ Some t → Tail t bs → TypeTail is_param (b ∷ bs)
 unfolding Tail
 type_step is_param b bs t e h = elim (chosen (eqb b 91) _ _ (Some t) e) [
   | inl (is, same) ↦
       let at : spots.Element is_param ≡ t = cc in
-      let tail : TypeTail is_param bs = subst (λ (s : Spot). Tail s bs) (sym at) h in
+      let tail : TypeTail is_param bs = subst (λ (s : ParseState). Tail s bs) (sym at) h in
       let byte : b ≡ 91 = eqb-true b 91 is in
       record { front = 91 ∷ tail.front; back = tail.back; p = _; parts = rw byte (ap (λ (q : List ℕ). 91 ∷ q) tail.parts); is = array tail.is; ends = tail.ends }
   | inr (not_array, e2) ↦ elim (chosen (eqb b 76) _ _ (Some t) e2) [
     | inl (is, same) ↦
         let at : spots.NameStart is_param ≡ t = cc in
-        let tail : NameTail is_param bs = subst (λ (s : Spot). Tail s bs) (sym at) h in
+        let tail : NameTail is_param bs = subst (λ (s : ParseState). Tail s bs) (sym at) h in
         let byte : b ≡ 76 = eqb-true b 76 is in
         let same_bytes : bs ≡ (tail.name ++ 59 ∷ []) ++ tail.back = rw append_assoc tail.parts in
         record { front = 76 ∷ tail.name ++ 59 ∷ []; back = tail.back; p = _; parts = rw byte (ap (λ (q : List ℕ). 76 ∷ q) same_bytes); is = object tail.is; ends = tail.ends }
     | inr (not_object, e3) ↦
         let k = base_begins is_param b (base_kind b) t e3 in
-        record { front = b ∷ []; back = bs; p = _; parts = refl; is = base k.1; ends = ends_of is_param bs (subst (λ (s : Spot). Tail s bs) (sym k.2) h) }
+        record { front = b ∷ []; back = bs; p = _; parts = refl; is = base k.1; ends = ends_of is_param bs (subst (λ (s : ParseState). Tail s bs) (sym k.2) h) }
   ]
 ]
 
@@ -111,25 +111,25 @@ front_byte name (inside n rest) c good = inside (more good n) rest
 method_step : (b : ℕ) (bs : List ℕ) → b ≡ 40 → ParamsTail bs → (d : Parts) × IsDescriptor d (b ∷ bs)
 method_step b bs is tail = (record { is_method = true; params = tail.ps; result = tail.r }, rw (is, tail.parts) (method tail.params tail.result))
 
-tail_step : (s : Spot) (b : ℕ) (bs : List ℕ) (t : Spot) → after s b ≡ Some t → Tail t bs → Tail s (b ∷ bs)
+tail_step : (s : ParseState) (b : ℕ) (bs : List ℕ) (t : ParseState) → after s b ≡ Some t → Tail t bs → Tail s (b ∷ bs)
 unfolding Tail after
 tail_step spots.Start b bs t e h = elim (chosen (eqb b 40) _ _ (Some t) e) [
   | inl (is, same) ↦
       let at : spots.Param ≡ t = cc in
-      method_step b bs (eqb-true b 40 is) (subst (λ (s : Spot). Tail s bs) (sym at) h)
+      method_step b bs (eqb-true b 40 is) (subst (λ (s : ParseState). Tail s bs) (sym at) h)
   | inr (other, e2) ↦ let w = whole_type b bs (type_step false b bs t e2 h) in (_, field w.1)
 ]
 tail_step spots.Param b bs t e h = elim (chosen (eqb b 41) _ _ (Some t) e) [
   | inl (is, same) ↦
       let at : spots.Result ≡ t = cc in
-      let tail : (r : Part) × IsResult r bs = subst (λ (s : Spot). Tail s bs) (sym at) h in
+      let tail : (r : Part) × IsResult r bs = subst (λ (s : ParseState). Tail s bs) (sym at) h in
       record { front = []; back = bs; ps = []; r = tail.0; parts = rw (eqb-true b 41 is) refl; params = none; result = tail.1 }
   | inr (other, e2) ↦ param_step b bs (type_step true b bs t e2 h)
 ]
 tail_step spots.Result b bs t e h = elim (chosen (eqb b 86) _ _ (Some t) e) [
   | inl (is, same) ↦
       let at : spots.End ≡ t = cc in
-      let tail : bs ≡ [] = subst (λ (s : Spot). Tail s bs) (sym at) h in
+      let tail : bs ≡ [] = subst (λ (s : ParseState). Tail s bs) (sym at) h in
       (plain kinds.Void, rw (eqb-true b 86 is, tail) nothing)
   | inr (other, e2) ↦ let w = whole_type b bs (type_step false b bs t e2 h) in (w.0, value w.1)
 ]
@@ -137,23 +137,23 @@ tail_step (spots.Element is_param) b bs t e h = type_step is_param b bs t e h
 tail_step (spots.NameStart is_param) b bs t e h = elim (chosen (is_name_byte b) _ _ (Some t) e) [
   | inl (is, same) ↦
       let at : spots.Name is_param ≡ t = cc in
-      let tail : NameRest is_param bs = subst (λ (s : Spot). Tail s bs) (sym at) h in
+      let tail : NameRest is_param bs = subst (λ (s : ParseState). Tail s bs) (sym at) h in
       record { name = b ∷ tail.name; back = tail.back; parts = ap (λ (q : List ℕ). b ∷ q) tail.parts; is = tail.is b is; ends = tail.ends }
   | inr (other, bad) ↦ absurd cc
 ]
 tail_step (spots.Name is_param) b bs t e h = elim (chosen (eqb b 59) _ _ (Some t) e) [
   | inl (is, same) ↦
       let at : behind_type is_param ≡ t = cc in
-      record { name = []; back = bs; parts = rw (eqb-true b 59 is) refl; is = λ c good. simple (last good); ends = ends_of is_param bs (subst (λ (s : Spot). Tail s bs) (sym at) h) }
+      record { name = []; back = bs; parts = rw (eqb-true b 59 is) refl; is = λ c good. simple (last good); ends = ends_of is_param bs (subst (λ (s : ParseState). Tail s bs) (sym at) h) }
   | inr (other, e2) ↦ elim (chosen (eqb b 47) _ _ (Some t) e2) [
     | inl (is, same) ↦
         let at : spots.NameStart is_param ≡ t = cc in
-        let tail : NameTail is_param bs = subst (λ (s : Spot). Tail s bs) (sym at) h in
+        let tail : NameTail is_param bs = subst (λ (s : ParseState). Tail s bs) (sym at) h in
         record { name = b ∷ tail.name; back = tail.back; parts = ap (λ (q : List ℕ). b ∷ q) tail.parts; is = λ c good. rw (eqb-true b 47 is) (inside (last good) tail.is); ends = tail.ends }
     | inr (no_slash, e3) ↦ elim (chosen (is_name_byte b) _ _ (Some t) e3) [
       | inl (is, same) ↦
           let at : spots.Name is_param ≡ t = cc in
-          let tail : NameRest is_param bs = subst (λ (s : Spot). Tail s bs) (sym at) h in
+          let tail : NameRest is_param bs = subst (λ (s : ParseState). Tail s bs) (sym at) h in
           record { name = b ∷ tail.name; back = tail.back; parts = ap (λ (q : List ℕ). b ∷ q) tail.parts; is = λ c good. front_byte (b ∷ tail.name) (tail.is b is) c good; ends = tail.ends }
       | inr (bad, none_left) ↦ absurd cc
     ]
@@ -161,7 +161,7 @@ tail_step (spots.Name is_param) b bs t e h = elim (chosen (eqb b 59) _ _ (Some t
 ]
 tail_step spots.End b bs t e h = absurd cc
 
-read_on : (o : Option Spot) (f : Spot → Option ℕ) → one_more o f ≡ None → (t : Spot) × (o ≡ Some t) × (f t ≡ None)
+read_on : (o : Option ParseState) (f : ParseState → Option ℕ) → one_more o f ≡ None → (t : ParseState) × (o ≡ Some t) × (f t ≡ None)
 read_on None f e = absurd cc
 read_on (Some t) f e = (t, refl, ended (f t) e)
   where
@@ -169,7 +169,7 @@ read_on (Some t) f e = (t, refl, ended (f t) e)
     ended None e = refl
     ended (Some n) e = absurd cc
 
-sound : (s : Spot) (bytes : List ℕ) → bad_at s bytes ≡ None → Tail s bytes
+sound : (s : ParseState) (bytes : List ℕ) → bad_at s bytes ≡ None → Tail s bytes
 unfolding Tail bad_at
 sound spots.End [] e = refl
 sound spots.Start [] e = absurd cc
@@ -238,10 +238,10 @@ type_reads (object {name = name} c) is_param rest e =
 type_reads (array t) is_param rest e = let r = type_reads t is_param rest e in rw r refl
 
 -- a type may stand where something else may stand too
-begun_there : (is_param : Bool) (n b : ℕ) (x : Option Spot) (t : Spot) → type_begun is_param n ≡ None → type_begun is_param b ≡ Some t → cond (eqb b n) x (type_begun is_param b) ≡ Some t
+begun_there : (is_param : Bool) (n b : ℕ) (x : Option ParseState) (t : ParseState) → type_begun is_param n ≡ None → type_begun is_param b ≡ Some t → cond (eqb b n) x (type_begun is_param b) ≡ Some t
 begun_there is_param n b x t bad good = rw (differs (type_begun is_param) n b t bad good) good
 
-type_at : (s : Spot) (is_param : Bool) → ((b : ℕ) (t : Spot) → type_begun is_param b ≡ Some t → after s b ≡ Some t) → (bytes : List ℕ) → bad_at (spots.Element is_param) bytes ≡ None → bad_at s bytes ≡ None
+type_at : (s : ParseState) (is_param : Bool) → ((b : ℕ) (t : ParseState) → type_begun is_param b ≡ Some t → after s b ≡ Some t) → (bytes : List ℕ) → bad_at (spots.Element is_param) bytes ≡ None → bad_at s bytes ≡ None
 unfolding bad_at after
 type_at s is_param there [] e = absurd cc
 type_at s is_param there (b ∷ bs) e =
@@ -284,7 +284,7 @@ descriptor_reads (method {front = front} {back = back} ts r) =
 -- ---- where reading stops
 
 -- bytes that end a descriptor
-ending : Spot → List ℕ
+ending : ParseState → List ℕ
 ending spots.Start = 83 ∷ []
 ending spots.Param = 41 ∷ 86 ∷ []
 ending spots.Result = 86 ∷ []
@@ -296,7 +296,7 @@ ending (spots.Name true) = 59 ∷ 41 ∷ 86 ∷ []
 ending (spots.Name false) = 59 ∷ []
 ending spots.End = []
 
-ending_reads : (s : Spot) → bad_at s (ending s) ≡ None
+ending_reads : (s : ParseState) → bad_at s (ending s) ≡ None
 unfolding bad_at after ending
 ending_reads spots.Start = refl
 ending_reads spots.Param = refl
@@ -310,7 +310,7 @@ ending_reads (spots.Name false) = refl
 ending_reads spots.End = refl
 
 -- where reading stops: at the end or at a byte, or further on
-stopped_end : (s : Spot) (k : ℕ) → end_at s 0 ≡ Some k → k ≡ 0
+stopped_end : (s : ParseState) (k : ℕ) → end_at s 0 ≡ Some k → k ≡ 0
 stopped_end spots.End k e = absurd cc
 stopped_end spots.Start k e = cc
 stopped_end spots.Param k e = cc
@@ -319,7 +319,7 @@ stopped_end (spots.Element p) k e = cc
 stopped_end (spots.NameStart p) k e = cc
 stopped_end (spots.Name p) k e = cc
 
-stopped : (o : Option Spot) (f : Spot → Option ℕ) (k : ℕ) → one_more o f ≡ Some k → ((o ≡ None) × (k ≡ 0)) ⊎ ((t : Spot) × (j : ℕ) × (o ≡ Some t) × (f t ≡ Some j) × (k ≡ suc j))
+stopped : (o : Option ParseState) (f : ParseState → Option ℕ) (k : ℕ) → one_more o f ≡ Some k → ((o ≡ None) × (k ≡ 0)) ⊎ ((t : ParseState) × (j : ℕ) × (o ≡ Some t) × (f t ≡ Some j) × (k ≡ suc j))
 stopped None f k e = inl (refl, cc)
 stopped (Some t) f k e = let r = further (f t) e in inr (t, r.0, refl, r.1, r.2)
   where
@@ -327,12 +327,12 @@ stopped (Some t) f k e = let r = further (f t) e in inr (t, r.0, refl, r.1, r.2)
     further (Some j) e = (j, refl, cc)
     further None e = absurd cc
 
-pub record Start (s : Spot) (bytes : List ℕ) (k : ℕ) : Type 0 where
+pub record Start (s : ParseState) (bytes : List ℕ) (k : ℕ) : Type 0 where
   pub within : k ≤ length bytes
   pub rest : List ℕ
   pub reads : bad_at s (take k bytes ++ rest) ≡ None
 
-pub start_of : (s : Spot) (bytes : List ℕ) (k : ℕ) → bad_at s bytes ≡ Some k → Start s bytes k
+pub start_of : (s : ParseState) (bytes : List ℕ) (k : ℕ) → bad_at s bytes ≡ Some k → Start s bytes k
 unfolding bad_at
 start_of s [] k e =
     let none_read : k ≡ 0 = stopped_end s k e in
@@ -345,7 +345,7 @@ start_of s (b ∷ bs) k e = elim (stopped (after s b) (λ t. bad_at t bs) k e) [
       record { within = omega arith; rest = r.rest; reads = rw (is, on, r.reads) refl }
 ]
 
-pub no_longer : (s : Spot) (bytes : List ℕ) (k n : ℕ) (rest : List ℕ) → bad_at s bytes ≡ Some k → k < n → n ≤ length bytes → bad_at s (take n bytes ++ rest) ≡ None → ⊥
+pub no_longer : (s : ParseState) (bytes : List ℕ) (k n : ℕ) (rest : List ℕ) → bad_at s bytes ≡ Some k → k < n → n ≤ length bytes → bad_at s (take n bytes ++ rest) ≡ None → ⊥
 unfolding bad_at
 no_longer s [] k n rest e lt le h = omega arith
 no_longer s (b ∷ bs) k zero rest e lt le h = omega arith
@@ -355,10 +355,10 @@ no_longer s (b ∷ bs) k (suc n) rest e lt le h =
       | inl (bad, none_read) ↦ none_of (after s b) r.0 bad r.1
       | inr (t, j, on, later, is) ↦
           let same : r.0 ≡ t = some_is r.0 t (sym r.1 ∙ on) in
-          no_longer t bs j n rest later (omega arith) (omega arith) (subst (λ (q : Spot). bad_at q (take n bs ++ rest) ≡ None) same r.2)
+          no_longer t bs j n rest later (omega arith) (omega arith) (subst (λ (q : ParseState). bad_at q (take n bs ++ rest) ≡ None) same r.2)
     ]
   where
-    some_is : (x y : Spot) → Some x ≡ Some y → x ≡ y
+    some_is : (x y : ParseState) → Some x ≡ Some y → x ≡ y
     some_is x y e = cc
 
 -- ---- the loop that reads byte by byte
@@ -371,21 +371,21 @@ shifted_more : (n : ℕ) (o : Option ℕ) → shifted n (option_map suc o) ≡ s
 shifted_more n None = refl
 shifted_more n (Some k) = ap Some (omega arith)
 
-pub reads_on : (s t : Spot) (bytes : List ℕ) (i d : ℕ) (total : Option ℕ) → after s (get_or bytes i d) ≡ Some t → i < length bytes
+pub reads_on : (s t : ParseState) (bytes : List ℕ) (i d : ℕ) (total : Option ℕ) → after s (get_or bytes i d) ≡ Some t → i < length bytes
     → shifted i (bad_at s (drop i bytes)) ≡ total → shifted (i + 1) (bad_at t (drop (i + 1) bytes)) ≡ total
 unfolding bad_at
 reads_on s t bytes i d total on lt h =
     let step : bad_at s (drop i bytes) ≡ option_map suc (bad_at t (drop (i + 1) bytes)) = rw (add-one, drop-cons bytes i d lt, on) refl in
     sym (shifted_more i (bad_at t (drop (i + 1) bytes))) ∙ (ap (shifted i) (sym step) ∙ h)
 
-pub reads_stop : (s : Spot) (bytes : List ℕ) (i d : ℕ) (total : Option ℕ) → after s (get_or bytes i d) ≡ None → i < length bytes
+pub reads_stop : (s : ParseState) (bytes : List ℕ) (i d : ℕ) (total : Option ℕ) → after s (get_or bytes i d) ≡ None → i < length bytes
     → shifted i (bad_at s (drop i bytes)) ≡ total → total ≡ Some i
 unfolding bad_at
 reads_stop s bytes i d total on lt h =
     let step : bad_at s (drop i bytes) ≡ Some 0 = rw (drop-cons bytes i d lt, on) refl in
     sym h ∙ (ap (shifted i) step ∙ ap Some (omega arith))
 
-shifted_end : (s : Spot) (i : ℕ) → shifted i (end_at s 0) ≡ end_at s i
+shifted_end : (s : ParseState) (i : ℕ) → shifted i (end_at s 0) ≡ end_at s i
 shifted_end spots.End i = refl
 shifted_end spots.Start i = ap Some (omega arith)
 shifted_end spots.Param i = ap Some (omega arith)
@@ -394,7 +394,7 @@ shifted_end (spots.Element p) i = ap Some (omega arith)
 shifted_end (spots.NameStart p) i = ap Some (omega arith)
 shifted_end (spots.Name p) i = ap Some (omega arith)
 
-pub reads_end : (s : Spot) (bytes : List ℕ) (i : ℕ) (total : Option ℕ) → length bytes ≤ i
+pub reads_end : (s : ParseState) (bytes : List ℕ) (i : ℕ) (total : Option ℕ) → length bytes ≤ i
     → shifted i (bad_at s (drop i bytes)) ≡ total → total ≡ end_at s i
 unfolding bad_at
 reads_end s bytes i total le h =

@@ -2,11 +2,11 @@
 use Rattle.std.proofs.Common.{◌≡◌, ℕ, zero, suc, ◌+◌, ◌-◌, ◌<◌, ◌≤◌, Bool, true, false, List, [], ◌∷◌, ◌++◌, length, take, drop, get_or, map, Option, Some, None, refl, sym, ap, subst, ◌∙◌, append_assoc, arith, drop-cons, add-one, add-zero}
 use Rattle.std.proofs.lemmas.List.{append-nil, drop_all, map-append, take_at, length-append, length-drop, get_or-drop, drop-drop, take_all, length-map}
 use Rattle.std.proofs.Math.Seq.{take-suc}
-use Rattle.cjc_bytes.specs.declared.names.Role.{Role}
-use Rattle.cjc_bytes.specs.declared.names.Role.TheVariants as roles
+use Rattle.cjc_bytes.specs.declared.descriptor.Role.{Role}
+use Rattle.cjc_bytes.specs.declared.descriptor.Role.TheVariants as roles
 use Rattle.cjc_bytes.specs.Descriptor.{Part, Parts, part_at, base_kind, IsName, last, more, IsClassName, simple, inside, IsType, base, object, array, AreTypes, none, next, IsResult, value, nothing, IsDescriptor, field, method, IsLongestStart}
 use Rattle.cjc_bytes.specs.Spots.{role_of, cut_by, types_from, types, part_of, gathered, begins_method, parts_of, bad_at, where_none, desc_of}
-use Rattle.cjc_bytes.specs.declared.names.Spot.TheVariants as spots
+use Rattle.cjc_bytes.specs.declared.descriptor.ParseState.TheVariants as spots
 use Rattle.cjc_bytes.proofs.DescriptorRead.{differs, byte_differs, is_descriptor, descriptor_reads, start_of, no_longer}
 
 -- ---- one type

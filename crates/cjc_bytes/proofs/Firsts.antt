@@ -5,7 +5,7 @@ use Rattle.std.specs.Prelude.{◌⊎◌, ◌*◌, ◌/◌, ◌==◌, ◌&&◌, �
 use Rattle.std.proofs.lemmas.Grind.{common_steps}
 use Rattle.std.proofs.lemmas.Bool.Decides.{nat_tests}
 use Rattle.cjc_bytes.specs.Order.{numbers, AreUpTo}
-use Rattle.cjc_bytes.specs.Breaks.{Break, Spot, Among, foremost, after, IsFirst, IsFirstOf, broken_at, at, each_from}
+use Rattle.cjc_bytes.specs.Breaks.{Break, RulePlace, Among, foremost, after, IsFirst, IsFirstOf, broken_at, at, each_from}
 use Rattle.cjc_bytes.specs.Working.Ranks.{is_up_to}
 
 -- ---- the order of two ranks
@@ -63,13 +63,13 @@ among_one a b (after i) = elim i [ ]
 pub first_of_one : (b : Break) → IsFirst b (b ∷ [])
 first_of_one b = record { among = foremost; least = λ a i. subst (λ (v : Break). AreUpTo (numbers b.rank) (numbers v.rank)) (sym (among_one a b i)) (upto_refl (numbers b.rank)) }
 
-pub at_true : (b : Bool) (s : Spot) (rule : ℕ) → b ≡ true → IsFirstOf (at b s rule) (Some (broken_at s rule))
+pub at_true : (b : Bool) (s : RulePlace) (rule : ℕ) → b ≡ true → IsFirstOf (at b s rule) (Some (broken_at s rule))
 at_true b s rule e = subst (λ (v : Bool). IsFirst (broken_at s rule) (at v s rule)) (sym e) (first_of_one (broken_at s rule))
 
 -- the same test at the same place
-pub at_same : {b b' : Bool} {s s' : Spot} (rule : ℕ) (o : Option Break) → b ≡ b' → s ≡ s' → IsFirstOf (at b s rule) o → IsFirstOf (at b' s' rule) o
+pub at_same : {b b' : Bool} {s s' : RulePlace} (rule : ℕ) (o : Option Break) → b ≡ b' → s ≡ s' → IsFirstOf (at b s rule) o → IsFirstOf (at b' s' rule) o
 at_same {b} {b'} {s} {s'} rule o e f h =
-    subst (λ (v : Spot). IsFirstOf (at b' v rule) o) f (subst (λ (v : Bool). IsFirstOf (at v s rule) o) e h)
+    subst (λ (v : RulePlace). IsFirstOf (at b' v rule) o) f (subst (λ (v : Bool). IsFirstOf (at v s rule) o) e h)
 
 -- ---- two lists
 

@@ -10,7 +10,7 @@ use Rattle.cjc_bytes.specs.Order.{FilePlace, Rank, NotAfter, file_number}
 use Rattle.cjc_bytes.specs.Refused.{refused_at, in_class, in_file}
 
 -- A place that a rule speaks of: where it stands in the order of refusals, and what is told of it.
-pub record Spot : Type 0 where
+pub record RulePlace : Type 0 where
   pub file : FileKey
   -- the class's place in its file, from 1; the empty class is 0
   pub class : ℕ
@@ -24,7 +24,7 @@ pub record Break : Type 0 where
   pub refusal : Refusal
 
 -- A rule is broken at a place. Its family is its hundreds digit.
-abbrev pub broken_at : Spot → ℕ → Break
+abbrev pub broken_at : RulePlace → ℕ → Break
 broken_at s rule = record {
   rank = record { family = rule / 100; file = file_number s.file; class = s.class; member = s.member; offset = s.place.offset; rule = rule };
   refusal = refused_at rule s.place;
@@ -33,21 +33,21 @@ broken_at s rule = record {
 -- ---- places
 
 -- the list, of this name
-abbrev pub list_spot : List ℕ → Spot
+abbrev pub list_spot : List ℕ → RulePlace
 list_spot list = record { file = keys.List; class = 0; member = 0; place = in_file list 0 }
 
 -- the class at this place of a file, of this name; 0 and no name is the file as a whole
-abbrev pub class_spot : FilePlace → (class : ℕ) → (name : List ℕ) → Spot
+abbrev pub class_spot : FilePlace → (class : ℕ) → (name : List ℕ) → RulePlace
 class_spot f class name = record { file = f.key; class = class; member = 0; place = in_class f.name name [] 0 }
 
 -- an offset of a member of a class, which is told by this text; the member's place counts from 1, fields first
-abbrev pub member_spot : FilePlace → (class : ℕ) → (name : List ℕ) → (member : ℕ) → (text : List ℕ) → (offset : ℕ) → Spot
+abbrev pub member_spot : FilePlace → (class : ℕ) → (name : List ℕ) → (member : ℕ) → (text : List ℕ) → (offset : ℕ) → RulePlace
 member_spot f class name member text offset = record { file = f.key; class = class; member = member; place = in_class f.name name text offset }
 
 -- ---- lists of breaks
 
 -- a rule at a place, where it is broken there
-abbrev pub at : Bool → Spot → ℕ → List Break
+abbrev pub at : Bool → RulePlace → ℕ → List Break
 at true s rule = broken_at s rule ∷ []
 at false s rule = []
 

@@ -1,7 +1,7 @@
 -- Descriptors of fields and methods (Java Virtual Machine Specification, sections 4.3.2 and 4.3.3).
 use Rattle.std.specs.Prelude.{◌≡◌, ◌<◌, ◌≤◌, ℕ, Bool, true, false, ◌==◌, if◌then◌else◌, List, [], ◌∷◌, ◌++◌, length, take, get_or, Option, Some, None}
-use Rattle.cjc_bytes.specs.declared.names.Kind.{Kind}
-use Rattle.cjc_bytes.specs.declared.names.Kind.TheVariants as kinds
+use Rattle.cjc_bytes.specs.declared.descriptor.Kind.{Kind}
+use Rattle.cjc_bytes.specs.declared.descriptor.Kind.TheVariants as kinds
 
 -- a type of a descriptor: its kind, and the name of a class or the whole descriptor of an array type
 pub record Part : Type 0 where

@@ -1,26 +1,26 @@
 -- Reading a descriptor byte by byte, and its parts as functions of its bytes.
 use Rattle.std.specs.Prelude.{ℕ, suc, ◌-◌, Bool, true, false, ◌==◌, if◌then◌else◌, List, [], ◌∷◌, ◌++◌, map, length, take, Option, Some, None, option_map, unwrap_or}
-use Rattle.cjc_bytes.specs.declared.names.Kind.TheVariants as kinds
-use Rattle.cjc_bytes.specs.declared.names.Role.{Role}
-use Rattle.cjc_bytes.specs.declared.names.Role.TheVariants as roles
-use Rattle.cjc_bytes.specs.declared.names.Spot.{Spot}
-use Rattle.cjc_bytes.specs.declared.names.Spot.TheVariants as spots
+use Rattle.cjc_bytes.specs.declared.descriptor.Kind.TheVariants as kinds
+use Rattle.cjc_bytes.specs.declared.descriptor.Role.{Role}
+use Rattle.cjc_bytes.specs.declared.descriptor.Role.TheVariants as roles
+use Rattle.cjc_bytes.specs.declared.descriptor.ParseState.{ParseState}
+use Rattle.cjc_bytes.specs.declared.descriptor.ParseState.TheVariants as spots
 use Rattle.cjc_bytes.specs.Descriptor.{Part, Parts, plain, base_kind, is_name_byte}
 
 -- what may stand behind a type
-abbrev pub behind_type : Bool → Spot
+abbrev pub behind_type : Bool → ParseState
 behind_type true = spots.Param
 behind_type false = spots.End
 
 -- behind the first byte of a type
-abbrev pub type_begun : Bool → ℕ → Option Spot
+abbrev pub type_begun : Bool → ℕ → Option ParseState
 type_begun is_param b =
     if b == 91 then Some (spots.Element is_param)
     else if b == 76 then Some (spots.NameStart is_param)
     else option_map (λ _. behind_type is_param) (base_kind b)
 
 -- behind a byte that may stand here
-unfoldable pub after : Spot → ℕ → Option Spot
+unfoldable pub after : ParseState → ℕ → Option ParseState
 after spots.Start b = if b == 40 then Some spots.Param else type_begun false b
 after spots.Param b = if b == 41 then Some spots.Result else type_begun true b
 after spots.Result b = if b == 86 then Some spots.End else type_begun false b
@@ -34,17 +34,17 @@ after (spots.Name is_param) b =
 after spots.End b = None
 
 -- how many bytes stand from a byte on before the first bad one, if there is one: none where the byte itself is bad
-abbrev pub one_more : Option Spot → (Spot → Option ℕ) → Option ℕ
+abbrev pub one_more : Option ParseState → (ParseState → Option ℕ) → Option ℕ
 one_more None bad = Some 0
 one_more (Some spot) bad = option_map suc (bad spot)
 
 -- where bytes end too soon, at so many
-abbrev pub end_at : Spot → ℕ → Option ℕ
+abbrev pub end_at : ParseState → ℕ → Option ℕ
 end_at spots.End n = None
 end_at _ n = Some n
 
 -- how many bytes stand before the first that may not stand there, if there is one; where more have to follow, all
-unfoldable pub bad_at : Spot → List ℕ → Option ℕ
+unfoldable pub bad_at : ParseState → List ℕ → Option ℕ
 bad_at spot [] = end_at spot 0
 bad_at spot (b ∷ bs) = one_more (after spot b) (λ next. bad_at next bs)
 

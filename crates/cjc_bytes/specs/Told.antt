@@ -4,12 +4,12 @@ use Rattle.cjc_bytes.specs.declared.breaks.Break.{Break as Broken}
 use Rattle.cjc_bytes.specs.declared.breaks.Part.{Part}
 use Rattle.cjc_bytes.specs.declared.breaks.Part.TheVariants as parts
 use Rattle.cjc_bytes.specs.declared.breaks.PlaceRef.{PlaceRef}
-use Rattle.cjc_bytes.specs.declared.breaks.Spot.{Spot as SpotRef}
+use Rattle.cjc_bytes.specs.declared.breaks.RulePlace.{RulePlace as RulePlaceRef}
 use Rattle.cjc_bytes.specs.declared.fault.Place.{Place}
 use Rattle.cjc_bytes.specs.declared.order.FileRef.{FileRef}
 use Rattle.cjc_bytes.specs.Order.{FilePlace}
 use Rattle.cjc_bytes.specs.Refused.{field_text, in_class, method_text}
-use Rattle.cjc_bytes.specs.Breaks.{Break, Spot, broken_at}
+use Rattle.cjc_bytes.specs.Breaks.{Break, RulePlace, broken_at}
 
 -- the text that tells the part of a class: of the class itself none, of a field or a method its name and descriptor
 abbrev pub text_of : Part → List ℕ
@@ -26,7 +26,7 @@ abbrev pub place_of : PlaceRef → Place
 place_of p = in_class p.file.now p.class.now (text_of p.part) p.offset
 
 -- a spot of the code: where it stands in the order of refusals, and what is told of it
-abbrev pub spot_of : SpotRef → Spot
+abbrev pub spot_of : RulePlaceRef → RulePlace
 spot_of s = record { file = s.file; class = s.class; member = s.member; place = place_of s.place }
 
 -- a broken rule of the code, with its rank and its refusal

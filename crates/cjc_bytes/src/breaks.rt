@@ -46,7 +46,7 @@ pub struct PlaceRef<'w> {
 
 /// A place that a rule speaks of: where it stands in the order of refusals, and what is told of it.
 #[derive(Clone, Copy)]
-pub struct Spot<'w> {
+pub struct RulePlace<'w> {
     pub file: FileKey,
     /// The class's place in its file, from 1; the empty class is 0.
     pub class: usize,
@@ -55,12 +55,12 @@ pub struct Spot<'w> {
     pub place: PlaceRef<'w>,
 }
 
-impl<'w> Spot<'w> {
+impl<'w> RulePlace<'w> {
     /// The list, of this name.
-    pub fn of_list(list: &'w [u8]) -> Spot<'w>
+    pub fn of_list(list: &'w [u8]) -> RulePlace<'w>
         ensures { spot_of result ≡ list_spot list.now }
     {
-        Spot {
+        RulePlace {
             file: FileKey::List,
             class: 0,
             member: 0,
@@ -74,10 +74,10 @@ impl<'w> Spot<'w> {
     }
 
     /// The class at this place of a file, from 1, of this name; 0 and no name is the file as a whole.
-    pub fn of_class(file: FileRef<'w>, class: usize, name: &'w [u8]) -> Spot<'w>
+    pub fn of_class(file: FileRef<'w>, class: usize, name: &'w [u8]) -> RulePlace<'w>
         ensures { spot_of result ≡ class_spot (file_place_of file.entry) class name.now }
     {
-        Spot {
+        RulePlace {
             file: file.key,
             class,
             member: 0,
@@ -95,11 +95,11 @@ impl<'w> Spot<'w> {
 #[derive(Clone, Copy)]
 pub struct Break<'w> {
     pub rule: u16,
-    pub spot: Spot<'w>,
+    pub spot: RulePlace<'w>,
 }
 
 /// The rule at a place, where it is broken there.
-pub fn broken<'w>(is_broken: bool, spot: Spot<'w>, rule: u16) -> Option<Break<'w>>
+pub fn broken<'w>(is_broken: bool, spot: RulePlace<'w>, rule: u16) -> Option<Break<'w>>
     ensures { IsFirstOf (at is_broken (spot_of spot.entry) rule) (option_map break_of result) }
 {
     if is_broken {
@@ -117,7 +117,7 @@ fn up_to(left: u128, right: u128, rest: bool) -> bool
 }
 
 /// Whether a place does not stand after another in its class, where by an equal place the rule decides.
-fn is_up_to_in_class(left: &Spot<'_>, right: &Spot<'_>, rule: bool) -> bool
+fn is_up_to_in_class(left: &RulePlace<'_>, right: &RulePlace<'_>, rule: bool) -> bool
     ensures { result ≡ (nat_lt left.now.member right.now.member || ((left.now.member == right.now.member) && (nat_lt left.now.place.offset right.now.place.offset || ((left.now.place.offset == right.now.place.offset) && rule)))) }
 {
     let left_offset = u128::from(left.place.offset);

@@ -4,9 +4,9 @@
 
 mod breaks;
 mod cursor;
+mod descriptor;
 mod fault;
 mod flags;
-mod names;
 mod order;
 mod output;
 mod row;
@@ -15,9 +15,10 @@ mod stop;
 mod text;
 
 pub use breaks::{
-    Break, BrokenAt, Part, PlaceRef, Spot, answer, broken, first, refusal, refused, refused_at,
+    Break, BrokenAt, Part, PlaceRef, RulePlace, answer, broken, first, refusal, refused, refused_at,
 };
 pub use cursor::Cursor;
+pub use descriptor::{BadDesc, Desc, Kind, descriptors};
 pub use fault::{Fault, MemberId, Place, Refusal, Rule};
 pub use flags::{
     ACC_ABSTRACT, ACC_ANNOTATION, ACC_ENUM, ACC_FINAL, ACC_INTERFACE, ACC_NATIVE, ACC_PRIVATE,
@@ -25,7 +26,6 @@ pub use flags::{
     ACC_SYNTHETIC, ACC_TRANSIENT, ACC_VOLATILE, access_flags, has, is_abstract, is_final,
     is_interface, is_private, is_protected, is_public, is_static,
 };
-pub use names::{BadDesc, Desc, Kind, descriptors};
 pub use order::{FileKey, FileRef, GroupKey, file_of};
 pub use output::Out;
 pub use row::{Bytes, Row};

@@ -6,7 +6,7 @@ use Rattle.std.proofs.lemmas.List.{reverse-append}
 use Rattle.cjc_bytes.specs.AccessFlags.{is_static}
 use Rattle.cjc_world.specs.Classes.{Class, Member, all_classes}
 use Rattle.cjc_world.specs.Files.{Files}
-use Rattle.cjc_world.specs.Kin.{line}
+use Rattle.cjc_world.specs.Supertypes.{line}
 use Rattle.cjc_by_name.specs.OnePackage.{declared_fields, instance_fields, member_of, object_fields}
 use Rattle.cjc_call_laws.specs.Solid.{IsSolid}
 use Rattle.cjc_upward_laws.specs.Upwards.{Has, OnLine, after, foremost}

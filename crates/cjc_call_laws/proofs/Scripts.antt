@@ -10,7 +10,7 @@ use Rattle.cjc_world.specs.Lookup.{find_method, is_selectable, member_at, own_me
 use Rattle.cjc_world.specs.Subtype.{is_subtype}
 use Rattle.cjc_world.proofs.Cycles.{class_named-name}
 use Rattle.cjc_by_name.specs.Linked.{Abroad, Callee, Inside, Method}
-use Rattle.cjc_by_name.specs.OnePackage.{Hit, callee_at, entry_in, entry_named, is_constructor, is_initialiser, is_sendable, method_at, method_by, method_hit, of_class, select_in, sent_by, sent_named}
+use Rattle.cjc_by_name.specs.OnePackage.{ResolvedMember, callee_at, entry_in, entry_named, is_constructor, is_initialiser, is_sendable, method_at, method_by, method_hit, of_class, select_in, sent_by, sent_named}
 use Rattle.cjc_call_laws.specs.Solid.{IsOwn, IsSolid}
 use Rattle.cjc_call_laws.specs.Targets.{IsOwnCode, IsReceiver, IsSentTo, IsTarget, abroad, inside}
 use Rattle.cjc_call_laws.proofs.Own.{IsAt, hit_is, method_is, own_at}
@@ -105,14 +105,14 @@ module _ (files : Files) (solid : IsSolid files) where
       same_place e = cc
 
   -- what a script calls: a static method of the package
-  called_at : (d : Class) → class_named w d.name ≡ Some d → (id : MemberId) (f : Found) (at : IsAt false id.name id.desc d f) (h : Hit) (m : Method) → method_hit (d ∷ []) f ≡ Some h → is_static h.flags ≡ true → method_at files f ≡ Some m
+  called_at : (d : Class) → class_named w d.name ≡ Some d → (id : MemberId) (f : Found) (at : IsAt false id.name id.desc d f) (h : ResolvedMember) (m : Method) → method_hit (d ∷ []) f ≡ Some h → is_static h.flags ≡ true → method_at files f ≡ Some m
       → (code : IsOwnCode files id m) × (is_static (let k = code.method in k.flags) ≡ true)
   called_at d named id f at h m hit static found =
       let n = at.member in
       let flags : h.flags ≡ n.flags = same_flags (sym hit ∙ ap (method_hit (d ∷ [])) at.is ∙ hit_is (d ∷ []) d at.place n (alone d) at.is_member) in
       by n at.is_member at.has_name at.has_desc (sym (ap is_static flags) ∙ static)
     where
-      same_flags : {a b : Hit} → Some a ≡ Some b → a.flags ≡ b.flags
+      same_flags : {a b : ResolvedMember} → Some a ≡ Some b → a.flags ≡ b.flags
       same_flags e = cc
 
       own : d.is_imported ≡ false
@@ -137,6 +137,6 @@ module _ (files : Files) (solid : IsSolid files) where
       let d = two.0 in
       let three = then_some (λ f. option_and_then (λ hit. if is_static hit.flags then method_at files f else None) (method_hit (d ∷ []) f)) (own_method false id.name id.desc d) m two.2 in
       let f = three.0 in
-      let four = then_some (λ (hit : Hit). if is_static hit.flags then method_at files f else None) (method_hit (d ∷ []) f) m three.2 in
+      let four = then_some (λ (hit : ResolvedMember). if is_static hit.flags then method_at files f else None) (method_hit (d ∷ []) f) m three.2 in
       let five = where_true (is_static (let h = four.0 in h.flags)) (method_at files f) m four.2 in
       called_at d (ap (class_named w) (class_named-name w id.class d two.1) ∙ two.1) id f (own_at false id.name id.desc d f three.1) four.0 m four.1 five.0 five.1

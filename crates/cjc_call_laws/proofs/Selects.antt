@@ -9,12 +9,12 @@ use Rattle.cjc_classfile.specs.declared.tree.MethodTree.{MethodTree}
 use Rattle.cjc_world.specs.declared.found.Found.{Found}
 use Rattle.cjc_world.specs.Classes.{Class, Member, all_classes, class_named, declared, method_of_class}
 use Rattle.cjc_world.specs.Files.{Files}
-use Rattle.cjc_world.specs.Kin.{line}
+use Rattle.cjc_world.specs.Supertypes.{line}
 use Rattle.cjc_world.specs.Lookup.{first, is_called, is_selectable, member_at, own_method, receiver, selected}
 use Rattle.cjc_world.specs.Subtype.{starts}
 use Rattle.cjc_world.proofs.Settled.{bytes-refl}
 use Rattle.cjc_by_name.specs.Linked.{Abroad, Callee, Inside}
-use Rattle.cjc_by_name.specs.OnePackage.{Hit, callee_at, first_imported, interface_callee, is_initialiser, method_at, method_by, method_hit, of_class, select_in, selected_from}
+use Rattle.cjc_by_name.specs.OnePackage.{ResolvedMember, callee_at, first_imported, interface_callee, is_initialiser, method_at, method_by, method_hit, of_class, select_in, selected_from}
 use Rattle.cjc_call_laws.specs.Solid.{IsConcrete, IsOwn, IsSolid}
 use Rattle.cjc_call_laws.specs.Targets.{IsReceiver, IsTarget, abroad, inside}
 use Rattle.cjc_call_laws.proofs.Own.{IsAt, hit_is, mapped_at, method_is, own_at, own_is}
@@ -128,7 +128,7 @@ module _ (files : Files) (solid : IsSolid files) where
             let flags : m.flags ≡ (let h = code.hit in h.flags) = same_flags hit in
             absurd (true_not_false (is_abstract m.flags) bare (ap is_abstract flags ∙ code.is_concrete))
           where
-            same_flags : {a b : Hit} → Some a ≡ Some b → a.flags ≡ b.flags
+            same_flags : {a b : ResolvedMember} → Some a ≡ Some b → a.flags ≡ b.flags
             same_flags e = cc
 
     -- a method that can be selected, and that is declared at or above the class, is selected or overridden there

@@ -4,7 +4,7 @@ use Rattle.std.specs.Prelude.{◌⊎◌, not, ◌&&◌, Some, option_and_then, s
 use Rattle.cjc_bytes.specs.AccessFlags.{is_abstract, is_private, is_static}
 use Rattle.cjc_bytes.specs.declared.fault.MemberId.{MemberId}
 use Rattle.cjc_by_name.specs.Linked.{Callee}
-use Rattle.cjc_by_name.specs.OnePackage.{Hit, callee_at, first_imported, first_super, is_constructor, method_hit, select_in, selected_from}
+use Rattle.cjc_by_name.specs.OnePackage.{ResolvedMember, callee_at, first_imported, first_super, is_constructor, method_hit, select_in, selected_from}
 use Rattle.cjc_call_laws.specs.Solid.{HasCode, IsOwn, IsSolid}
 use Rattle.cjc_call_laws.specs.Targets.{IsTarget}
 use Rattle.cjc_call_laws.proofs.Own.{IsAt, hit_is, own_at}
@@ -14,8 +14,8 @@ use Rattle.cjc_upward_laws.proofs.Lines.{first_has, line_below, line_named, list
 use Rattle.cjc_world.specs.declared.found.Found.{Found}
 use Rattle.cjc_world.specs.Classes.{Class, Member, all_classes, class_named}
 use Rattle.cjc_world.specs.Files.{Files}
-use Rattle.cjc_world.specs.Kin.{Lists, foremost, line}
-use Rattle.cjc_world.specs.Kin as kin
+use Rattle.cjc_world.specs.Supertypes.{Lists, foremost, line}
+use Rattle.cjc_world.specs.Supertypes as supertypes
 use Rattle.cjc_world.specs.Lookup.{is_selectable, own_method, receiver, selected}
 use Rattle.cjc_world.proofs.Settled.{lists-front}
 
@@ -73,12 +73,12 @@ module _ (files : Files) (solid : IsSolid files) where
       let at = own_at true id.name id.desc e code.place r.2 in
       let m = at.member in
       let hit : Some (record { owner = e; flags = m.flags }) ≡ Some code.hit = sym (hit_is w e at.place m (solid.numbered e.name e e_named) at.is_member) ∙ ap (method_hit w) (sym at.is) ∙ code.is_hit in
-      let below : Below w holder.name e.name = listed_below w holder.name super e.name holder named (subst (Lists super) (sym (ap (λ xs. xs ++ holder.interfaces) one)) (lists-front super (super ∷ []) holder.interfaces kin.foremost)) (subst (λ y. Below w y e.name) plain (line_below w x e on)) in
+      let below : Below w holder.name e.name = listed_below w holder.name super e.name holder named (subst (Lists super) (sym (ap (λ xs. xs ++ holder.interfaces) one)) (lists-front super (super ∷ []) holder.interfaces supertypes.foremost)) (subst (λ y. Below w y e.name) plain (line_below w x e on)) in
       let target = reaches files solid (first_imported (line w x)) id (λ t k. (is_static k.flags ≡ false) × Below w holder.name t.name) e at.place m code.place e_named at.is_member at.is at.has_name at.has_desc (inr (same_flags hit ∙ code.is_concrete))
       (λ t k a b same_class same_member. (sym (ap (λ (v : Member). is_static v.flags) same_member) ∙ no_static m.flags at.wanted, subst (λ n. Below w holder.name n) (ap (λ (v : Class). v.name) same_class) below)) in
       (target.0, ap (λ o. option_and_then (λ super. selected_from files w (select_in w) super id) (first_super o)) named ∙ ap (λ xs. option_and_then (λ super. selected_from files w (select_in w) super id) (slice_get xs 0)) one ∙ ap (option_and_then (λ f. callee_at files (first_imported (line w x)) id f)) code.found ∙ target.1, target.2)
     where
-      same_flags : {a b : Hit} → Some a ≡ Some b → is_abstract a.flags ≡ is_abstract b.flags
+      same_flags : {a b : ResolvedMember} → Some a ≡ Some b → is_abstract a.flags ≡ is_abstract b.flags
       same_flags e = cc
 
       no_static : (flags : ℕ) → is_selectable flags ≡ true → is_static flags ≡ false

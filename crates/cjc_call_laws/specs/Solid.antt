@@ -10,7 +10,7 @@ use Rattle.cjc_world.specs.Classes.{Class, Member, all_classes, class_at, class_
 use Rattle.cjc_world.specs.Files.{Files}
 use Rattle.cjc_world.specs.Lookup.{selected}
 use Rattle.cjc_world.specs.Subtype.{starts}
-use Rattle.cjc_by_name.specs.OnePackage.{Hit, is_constructor, is_initialiser, method_hit}
+use Rattle.cjc_by_name.specs.OnePackage.{ResolvedMember, is_constructor, is_initialiser, method_hit}
 use Rattle.cjc_upward_laws.specs.Upwards.{Below, IsOrdered, OnLine}
 
 -- A method of a class file.
@@ -23,7 +23,7 @@ pub record IsOwn (files : Files) (class : ClassTree) (method : MethodTree) : Typ
 -- What selection on a class gives is no abstract method.
 pub record HasCode (w : List Class) (x name desc : List ℕ) : Type 0 where
   pub place : Found
-  pub hit : Hit
+  pub hit : ResolvedMember
   pub found : selected w x name desc ≡ Some place
   pub is_hit : method_hit w place ≡ Some hit
   pub is_concrete : is_abstract hit.flags ≡ false

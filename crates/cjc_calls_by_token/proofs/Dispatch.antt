@@ -5,17 +5,17 @@ use Rattle.std.proofs.lemmas.Bool.Decides.{nat_tests}
 use Rattle.std.specs.Str.{bytes_eq}
 use Rattle.cjc_capread.specs.declared.tree.ClassEntry.{ClassEntry}
 use Rattle.cjc_capread.specs.declared.tree.ImplementedInterface.{ImplementedInterface}
-use Rattle.cjc_card.specs.Classes.{Own, Foreign, Info, IsClass, same_class, info_of, class_of, foreign}
+use Rattle.cjc_card.specs.Classes.{Own, External, Info, IsClass, same_class, info_of, class_of, external}
 use Rattle.cjc_card.specs.Classes as card
 use Rattle.cjc_card.specs.Dispatch.{Tower, Exported, Table, Selection, At, Outward, above, exported_line, is_same, map_in, map_of, at_index, at_map, tower, tower_from, table_or_missing, at_table, held, dispatched_open, dispatched_hidden, dispatched_interface}
 use Rattle.cjc_world.specs.declared.found.Found.{Found}
 use Rattle.cjc_world.specs.Classes.{Class, class_named}
-use Rattle.cjc_world.specs.Kin.{Kin, IsKin, kin, upwards}
+use Rattle.cjc_world.specs.Supertypes.{Supertypes, AreSupertypes, supertypes, upwards}
 use Rattle.cjc_world.specs.Lookup.{first}
 use Rattle.cjc_tokens.specs.Members.{Signature}
 use Rattle.cjc_tokens.specs.Lines.{line_at}
 use Rattle.cjc_tokens.specs.Slots.{row, hidden_row}
-use Rattle.cjc_tokens.proofs.Walks.{kin-known}
+use Rattle.cjc_tokens.proofs.Walks.{supertypes-known}
 use Rattle.cjc_vtable.specs.declared.table.InterfaceMap.{InterfaceMap}
 use Rattle.cjc_vtable.specs.Dispatch.{own_by_token, tower_in, tower_of}
 use Rattle.cjc_vtable.specs.Dispatch as tables
@@ -59,19 +59,19 @@ own_methods (o ∷ os) k g e = by (of_package o) refl k e (own_methods os)
     by (Some f) is zero h rest = let same : f ≡ g = cc in own_entry o g (is ∙ ap Some same)
     by (Some f) is (suc k) h rest = rest k g h
 
-module _ (w : List Class) (is_kin : (xs : List (List ℕ)) → IsKin w xs (kin w xs)) (one_kin : (xs : List (List ℕ)) (j k : Kin) → IsKin w xs j → IsKin w xs k → j ≡ k) (n : Naming) (offset : Found → ℕ) (low : (f : Found) → offset f < 0xFFFF) (kinds : SaysKinds w n) where
+module _ (w : List Class) (are_supertypes : (xs : List (List ℕ)) → AreSupertypes w xs (supertypes w xs)) (one_supertypes : (xs : List (List ℕ)) (j k : Supertypes) → AreSupertypes w xs j → AreSupertypes w xs k → j ≡ k) (n : Naming) (offset : Found → ℕ) (low : (f : Found) → offset f < 0xFFFF) (kinds : SaysKinds w n) where
   -- ---- towers
 
   tower_package : (x super : List ℕ) (c : Class) → class_named w x ≡ Some c → c.is_imported ≡ false → c.supers ≡ super ∷ [] → tower_of w x ≡ tables.Info (table_of w c) (tower_of w super)
   tower_package x super c e imported supers =
-      ap (tower_in w) (kin-known w is_kin one_kin x c e)
-      ∙ (ap (λ t. if t then tables.Exported (c ∷ upwards (kin w c.supers)) else tables.Info (table_of w c) (tower_in w (kin w c.supers))) imported
-      ∙ ap (λ xs. tables.Info (table_of w c) (tower_in w (kin w xs))) supers)
+      ap (tower_in w) (supertypes-known w are_supertypes one_supertypes x c e)
+      ∙ (ap (λ t. if t then tables.Exported (c ∷ upwards (supertypes w c.supers)) else tables.Info (table_of w c) (tower_in w (supertypes w c.supers))) imported
+      ∙ ap (λ xs. tables.Info (table_of w c) (tower_in w (supertypes w xs))) supers)
 
-  tower_file : (x : List ℕ) (c : Class) → class_named w x ≡ Some c → c.is_imported ≡ true → tower_of w x ≡ tables.Exported (c ∷ upwards (kin w c.supers))
+  tower_file : (x : List ℕ) (c : Class) → class_named w x ≡ Some c → c.is_imported ≡ true → tower_of w x ≡ tables.Exported (c ∷ upwards (supertypes w c.supers))
   tower_file x c e imported =
-      ap (tower_in w) (kin-known w is_kin one_kin x c e)
-      ∙ ap (λ t. if t then tables.Exported (c ∷ upwards (kin w c.supers)) else tables.Info (table_of w c) (tower_in w (kin w c.supers))) imported
+      ap (tower_in w) (supertypes-known w are_supertypes one_supertypes x c e)
+      ∙ ap (λ t. if t then tables.Exported (c ∷ upwards (supertypes w c.supers)) else tables.Info (table_of w c) (tower_in w (supertypes w c.supers))) imported
 
   abbrev on_card : (depth : ℕ) → List ℕ → Tower
   on_card d x = tower_on_card n d x
@@ -113,7 +113,7 @@ module _ (w : List Class) (is_kin : (xs : List (List ℕ)) → IsKin w xs (kin w
 
   open_same : {h : ℕ} {x z : List ℕ} → SaysTower w n offset h x z → (d : ℕ) → h ≤ d → (t : ℕ) (f : Found) (s : Signature) → tables.dispatched (tower_of w x) t ≡ Some f → named w f ≡ Some s → dispatched_open (on_card d x) t ≡ selection_of n offset z s f
   open_same (says.of_file {x = x} c known imported file) d le t f s e is =
-      let found : first (own_by_token t) (c ∷ upwards (kin w c.supers)) ≡ Some f = sym (ap (λ q. tables.dispatched q t) (tower_file x c known imported)) ∙ e in
+      let found : first (own_by_token t) (c ∷ upwards (supertypes w c.supers)) ≡ Some f = sym (ap (λ q. tables.dispatched q t) (tower_file x c known imported)) ∙ e in
       ap (λ q. dispatched_open q t) (card_file w n offset d x c file)
       ∙ (file.methods t f s found is ∙ sym (ap (λ b. if b then Outward (event x s) else At n.part (offset f)) (file.imported t f found)))
   open_same (says.of_package c super known imported supers class more) zero le t f s e is = absurd (omega arith)

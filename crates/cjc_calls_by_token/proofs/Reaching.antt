@@ -18,7 +18,7 @@ use Rattle.cjc_world.specs.declared.image.StaticImage.{StaticImage}
 use Rattle.cjc_world.specs.declared.found.Found.{Found}
 use Rattle.cjc_world.specs.Files.{Files}
 use Rattle.cjc_world.specs.Classes.{Class, all_classes, class_named}
-use Rattle.cjc_world.specs.Kin.{line}
+use Rattle.cjc_world.specs.Supertypes.{line}
 use Rattle.cjc_world.specs.Lookup.{find_method, first, own_method, receiver, selected}
 use Rattle.cjc_world.specs.Subtype.{is_subtype}
 use Rattle.cjc_by_name.specs.Linked.{Method, Inside}

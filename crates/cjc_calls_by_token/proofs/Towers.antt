@@ -2,7 +2,7 @@
 use Rattle.std.proofs.Common.{◌≡◌, ℕ, zero, suc, ◌+◌, ◌≤◌, sym, ap, ◌∙◌, arith, one-add, List, length}
 use Rattle.std.specs.Prelude.{Some}
 use Rattle.cjc_capread.specs.declared.tree.ClassEntry.{ClassEntry}
-use Rattle.cjc_card.specs.Classes.{class_of, foreign, depth, info_count}
+use Rattle.cjc_card.specs.Classes.{class_of, external, depth, info_count}
 use Rattle.cjc_card.specs.Loaded.{Loaded}
 use Rattle.cjc_card.specs.Dispatch.{Tower, Exported, Table, above, exported_line, tower, tower_from, table_or_missing}
 use Rattle.cjc_world.specs.declared.found.Found.{Found}

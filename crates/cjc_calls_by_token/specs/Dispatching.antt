@@ -3,11 +3,11 @@ use Rattle.std.specs.Prelude.{◌≡◌, ℕ, suc, List, [], ◌∷◌, map, Opt
 use Rattle.cjc_bytes.specs.declared.fault.MemberId.{MemberId}
 use Rattle.cjc_capread.specs.declared.tree.ClassEntry.{ClassEntry}
 use Rattle.cjc_export.specs.declared.tree.ExportClass.{ExportClass}
-use Rattle.cjc_card.specs.Classes.{Own, Foreign, IsClass, info_of, class_of, foreign}
+use Rattle.cjc_card.specs.Classes.{Own, External, IsClass, info_of, class_of, external}
 use Rattle.cjc_card.specs.Dispatch.{Selection, At, Outward, exported_line, in_files, tower, dispatched_open, dispatched_hidden, dispatched_interface}
 use Rattle.cjc_world.specs.declared.found.Found.{Found}
 use Rattle.cjc_world.specs.Classes.{Class, class_named}
-use Rattle.cjc_world.specs.Kin.{kin, upwards}
+use Rattle.cjc_world.specs.Supertypes.{supertypes, upwards}
 use Rattle.cjc_world.specs.Lookup.{first}
 use Rattle.cjc_tokens.specs.Members.{Signature}
 use Rattle.cjc_vtable.specs.declared.table.InterfaceMap.{InterfaceMap}
@@ -54,10 +54,10 @@ pub record SaysFile (w : List Class) (n : Naming) (x : List ℕ) (c : Class) : T
   pub tree : ℕ
   pub token : ℕ
   pub entry : ExportClass
-  pub on_card : n.class x ≡ Foreign tree token
-  pub there : foreign n.loaded tree token ≡ Some entry
-  pub imported : (t : ℕ) (f : Found) → first (own_by_token t) (c ∷ upwards (kin w c.supers)) ≡ Some f → f.imported ≡ true
-  pub methods : (t : ℕ) (f : Found) (s : Signature) → first (own_by_token t) (c ∷ upwards (kin w c.supers)) ≡ Some f → named w f ≡ Some s → in_files (exported_line n.loaded (Some entry)) t ≡ Outward (event x s)
+  pub on_card : n.class x ≡ External tree token
+  pub there : external n.loaded tree token ≡ Some entry
+  pub imported : (t : ℕ) (f : Found) → first (own_by_token t) (c ∷ upwards (supertypes w c.supers)) ≡ Some f → f.imported ≡ true
+  pub methods : (t : ℕ) (f : Found) (s : Signature) → first (own_by_token t) (c ∷ upwards (supertypes w c.supers)) ≡ Some f → named w f ≡ Some s → in_files (exported_line n.loaded (Some entry)) t ≡ Outward (event x s)
 
 -- A class with so many superclasses of the package, below an imported class, which events name.
 pub data SaysTower (w : List Class) (n : Naming) (offset : Found → ℕ) : (height : ℕ) → List ℕ → (imported : List ℕ) → Type 0 where

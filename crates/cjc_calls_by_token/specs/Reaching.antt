@@ -8,14 +8,14 @@ use Rattle.cjc_bytecode.specs.Machine.{Start, Reached, Nowhere, Within, Abroad}
 use Rattle.cjc_bytecode.specs.Alike.{IsFound, reached_as}
 use Rattle.cjc_bytecode.specs.Renaming.{option_as, shape_as}
 use Rattle.cjc_card.specs.Calls
-use Rattle.cjc_card.specs.Classes.{Foreign}
+use Rattle.cjc_card.specs.Classes.{External}
 use Rattle.cjc_card.specs.Dispatch.{Outward, above, interface_method, tower}
 use Rattle.cjc_card.specs.Operations as card
 use Rattle.cjc_card.specs.Methods.{start_of}
 use Rattle.cjc_world.specs.declared.found.Found.{Found}
 use Rattle.cjc_world.specs.Files.{Files}
 use Rattle.cjc_world.specs.Classes.{Class, all_classes, class_named}
-use Rattle.cjc_world.specs.Kin.{line}
+use Rattle.cjc_world.specs.Supertypes.{line}
 use Rattle.cjc_world.specs.Lookup.{find_method, receiver}
 use Rattle.cjc_world.specs.Order.{method_order}
 use Rattle.cjc_world.specs.Subtype.{is_subtype}
@@ -139,5 +139,5 @@ pub record SaysOutside (w : List Class) (n : Naming) (x : List ℕ) (m : MemberI
   pub imported : c.is_imported ≡ true
   pub tree : ℕ
   pub token : ℕ
-  pub on_card : n.class x ≡ Foreign tree token
+  pub on_card : n.class x ≡ External tree token
   pub event : interface_method n.loaded (n.class m.class) (n.interface_token m) ≡ Outward m

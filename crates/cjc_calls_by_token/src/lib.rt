@@ -10,7 +10,7 @@ ghost use Rattle.cjc_world.specs.declared.found.Found.{Found};
 ghost use Rattle.cjc_bytes.specs.AccessFlags.{is_abstract, is_interface};
 ghost use Rattle.cjc_bytes.specs.declared.fault.MemberId.{MemberId};
 ghost use Rattle.cjc_world.specs.Classes.{Class, class_named};
-ghost use Rattle.cjc_world.specs.Kin.{IsAcyclic};
+ghost use Rattle.cjc_world.specs.Supertypes.{IsAcyclic};
 ghost use Rattle.cjc_lower.specs.Naming.{Naming};
 ghost use Rattle.cjc_by_token.specs.Supers.{SaysKinds};
 ghost use Rattle.cjc_vtable.specs.Laws.{KeepsInterfaces, KeepsRules};

@@ -9,7 +9,7 @@ ghost use Rattle.cjc_components.specs.Limits.{size_breaks, widest_method};
 ghost use Rattle.cjc_components.specs.Methods.{handler_count};
 ghost use Rattle.cjc_components.specs.Package.{Package, codes};
 
-use cjc_bytes::{Break, NoMemory, Spot};
+use cjc_bytes::{Break, NoMemory, RulePlace};
 use cjc_capread::CapTree;
 use cjc_capwrite::broken_limit;
 use cjc_ncode::NMethod;
@@ -51,7 +51,7 @@ pub fn widest_method(handlers: usize, methods: &[NMethod]) -> Result<u64, NoMemo
 pub fn size_break<'w>(list: &'w [u8], tree: &CapTree, widest: u64) -> Option<Break<'w>>
     ensures { (p : Package) → (let named = p.list in list.now ≡ named.name) → tree.now ≡ components_of p → widest ≡ widest_method p → IsFirstOf (size_breaks p) (option_map break_of result) }
 {
-    let spot = Spot::of_list(list);
+    let spot = RulePlace::of_list(list);
     match broken_limit(tree) {
         Some(rule) => Some(Break { rule, spot }),
         None => {

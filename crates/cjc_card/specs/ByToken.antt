@@ -10,7 +10,7 @@ use Rattle.cjc_bytecode.specs.Effects
 use Rattle.cjc_bytecode.specs.Machine.{Setting, State}
 use Rattle.cjc_bytecode.specs.Machine
 use Rattle.cjc_card.specs.Loaded.{FieldName, ClassNames, CellName, Part, Loaded}
-use Rattle.cjc_card.specs.Classes.{Class, Own, Foreign, Field, same_field, is_of, fresh, name_of, names_of, class_named, fault_class, superclass, depth}
+use Rattle.cjc_card.specs.Classes.{Class, Own, External, Field, same_field, is_of, fresh, name_of, names_of, class_named, fault_class, superclass, depth}
 use Rattle.cjc_card.specs.Statics.{Image, StaticCell, get_static, put_static, first_memory}
 use Rattle.cjc_card.specs.Operations.{Callee}
 use Rattle.cjc_card.specs.Methods.{Code, fetch, handler}
@@ -39,7 +39,7 @@ shown_own c slots (Some names) = map (shown_field c names.name slots) names.fiel
 abbrev pub shown_upwards : Loaded → (depth : ℕ) → Option Class → List (Slot Field) → List FieldValue
 shown_upwards l zero class slots = []
 shown_upwards l (suc n) None slots = []
-shown_upwards l (suc n) (Some (Foreign tree token)) slots = []
+shown_upwards l (suc n) (Some (External tree token)) slots = []
 shown_upwards l (suc n) (Some (Own p offset)) slots =
     shown_upwards l n (superclass l p offset) slots ++ shown_own (Own p offset) slots (names_of l p offset)
 

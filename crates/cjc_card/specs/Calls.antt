@@ -13,7 +13,7 @@ use Rattle.cjc_script.specs.Sorts.{Shape, OfClass, Signature, signature_of}
 use Rattle.cjc_bytecode.specs.Arguments.{widths}
 use Rattle.cjc_bytecode.specs.Machine.{Start, Reached, Nowhere, Within, Abroad}
 use Rattle.cjc_card.specs.Loaded.{MethodName, ClassNames, Part, Loaded}
-use Rattle.cjc_card.specs.Classes.{Class, Own, Foreign, or_else, foreign, foreign_named, class_named, names_of, superclass, depth, upwards, object_class, is_interface, is_of, is_kind_of, shape_class}
+use Rattle.cjc_card.specs.Classes.{Class, Own, External, or_else, external, external_named, class_named, names_of, superclass, depth, upwards, object_class, is_interface, is_of, is_kind_of, shape_class}
 use Rattle.cjc_card.specs.Dispatch.{Token, Open, Hidden, Selection, NotFound, At, Outward, tower, above, dispatched, dispatched_interface, exported_line}
 use Rattle.cjc_card.specs.Operations.{Callee, Fixed, Outer, OnObject, OnSuper, OnInterface}
 use Rattle.cjc_card.specs.Methods.{Code, start_of}
@@ -101,7 +101,7 @@ named_in_part p offset id names part =
 
 -- the method of this name that a class declares
 abbrev pub declared : Loaded → Class → MemberId → Option Described
-declared l (Foreign tree token) id = None
+declared l (External tree token) id = None
 declared l (Own p offset) id =
     option_and_then (λ names. option_and_then (named_in_part p offset id names) (slice_get l.parts p)) (names_of l p offset)
 
@@ -147,7 +147,7 @@ token_or (Some d) above = Some (described_token d)
 abbrev pub found_token : Loaded → (depth : ℕ) → Option Class → MemberId → Option (Option Token)
 found_token l zero class id = None
 found_token l (suc n) None id = None
-found_token l (suc n) (Some (Foreign tree token)) id = option_map (option_map Open) (token_in_files (exported_line l (foreign l tree token)) id)
+found_token l (suc n) (Some (External tree token)) id = option_map (option_map Open) (token_in_files (exported_line l (external l tree token)) id)
 found_token l (suc n) (Some (Own p offset)) id = token_or (declared l (Own p offset) id) (found_token l n (superclass l p offset) id)
 
 -- the place of the method of this name
@@ -157,7 +157,7 @@ place_named (n ∷ names) id = if is_named n id then Some 0 else option_map suc 
 
 -- the token of a method of an interface
 abbrev pub interface_token : Loaded → Class → MemberId → Option ℕ
-interface_token l (Foreign tree token) id = option_and_then (λ c. option_and_then (λ t. t) (listed_token c.methods id)) (foreign l tree token)
+interface_token l (External tree token) id = option_and_then (λ c. option_and_then (λ t. t) (listed_token c.methods id)) (external l tree token)
 interface_token l (Own p offset) id = option_and_then (λ names. place_named names.interface_methods id) (names_of l p offset)
 
 -- the same of a class that may be an interface
@@ -209,7 +209,7 @@ imported_class_of l c = if is_interface l c then None else Some c
 
 -- the imported class of a name
 abbrev pub imported : Loaded → List ℕ → Option Class
-imported l name = option_and_then (imported_class_of l) (foreign_named l name)
+imported l name = option_and_then (imported_class_of l) (external_named l name)
 
 -- a class that is another or stands below it
 abbrev pub if_below : Loaded → Class → (sup : Class) → Option Class
@@ -217,4 +217,4 @@ if_below l c sup = if is_kind_of l c sup then Some c else None
 
 -- java/lang/Throwable or a subclass of it
 abbrev pub throwable : Loaded → List ℕ → Option Class
-throwable l name = option_and_then (λ c. option_and_then (if_below l c) (foreign_named l (codes "java/lang/Throwable"))) (imported l name)
+throwable l name = option_and_then (λ c. option_and_then (if_below l c) (external_named l (codes "java/lang/Throwable"))) (imported l name)

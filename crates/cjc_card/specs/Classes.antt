@@ -21,14 +21,14 @@ use Rattle.cjc_card.specs.Loaded.{ClassNames, Import, OfGroup, OfFile, Part, Loa
 -- a class or interface: by its package and offset in a group, or by its token in an export file
 pub data Class : Type 0 where
   Own : (part offset : ℕ) → Class
-  Foreign : (tree token : ℕ) → Class
+  External : (tree token : ℕ) → Class
 
 -- the same place or token
 abbrev pub same_class : Class → Class → Bool
 same_class (Own p a) (Own q b) = (p == q) && (a == b)
-same_class (Foreign p a) (Foreign q b) = (p == q) && (a == b)
-same_class (Own p a) (Foreign q b) = false
-same_class (Foreign p a) (Own q b) = false
+same_class (External p a) (External q b) = (p == q) && (a == b)
+same_class (Own p a) (External q b) = false
+same_class (External p a) (Own q b) = false
 
 -- a field of an object by the class that declares it and its token
 pub record Field : Type 0 where
@@ -100,8 +100,8 @@ with_token [] token = None
 with_token (c ∷ classes) token = if c.token == token then Some c else with_token classes token
 
 -- the class of an export file by its token
-abbrev pub foreign : Loaded → (tree token : ℕ) → Option ExportClass
-foreign l tree token = option_and_then (λ t. with_token t.classes token) (slice_get l.trees tree)
+abbrev pub external : Loaded → (tree token : ℕ) → Option ExportClass
+external l tree token = option_and_then (λ t. with_token t.classes token) (slice_get l.trees tree)
 
 -- the token of the class of a name
 abbrev pub token_named : List ExportClass → List ℕ → Option ℕ
@@ -114,20 +114,20 @@ or_else None other = other
 or_else (Some x) other = Some x
 
 -- the first class of this name in files from a number on
-abbrev pub foreign_from : (tree : ℕ) → List ExportTree → List ℕ → Option Class
-foreign_from tree [] name = None
-foreign_from tree (t ∷ trees) name = or_else (option_map (Foreign tree) (token_named t.classes name)) (foreign_from (tree + 1) trees name)
+abbrev pub external_from : (tree : ℕ) → List ExportTree → List ℕ → Option Class
+external_from tree [] name = None
+external_from tree (t ∷ trees) name = or_else (option_map (External tree) (token_named t.classes name)) (external_from (tree + 1) trees name)
 
 -- the first class of this name in the export files
-abbrev pub foreign_named : Loaded → List ℕ → Option Class
-foreign_named l name = foreign_from 0 l.trees name
+abbrev pub external_named : Loaded → List ℕ → Option Class
+external_named l name = external_from 0 l.trees name
 
 -- ---- what a class_ref means, seen from a package
 
 -- the class is one of the group or of the export files
 abbrev pub is_there : Loaded → Class → Bool
 is_there l (Own p offset) = is_some (info_of l p offset)
-is_there l (Foreign tree token) = is_some (foreign l tree token)
+is_there l (External tree token) = is_some (external l tree token)
 
 -- the class, where it is there
 abbrev pub where_there : Loaded → Class → Option Class
@@ -135,7 +135,7 @@ where_there l c = if is_there l c then Some c else None
 
 -- through the import of a package token, and through that package's Export where it is of the group
 abbrev pub imported_class : Loaded → (token : ℕ) → Import → Option Class
-imported_class l token (OfFile tree) = where_there l (Foreign tree token)
+imported_class l token (OfFile tree) = where_there l (External tree token)
 imported_class l token (OfGroup q) =
     option_and_then (λ part. option_and_then (λ e. where_there l (Own q e.class_offset)) (slice_get part.exports token)) (slice_get l.parts q)
 
@@ -157,7 +157,7 @@ names_of l p offset = option_and_then (λ part. option_and_then (slice_get part.
 -- the name of a class
 abbrev pub name_of : Loaded → Class → List ℕ
 name_of l (Own p offset) = unwrap_or (option_map (λ c. c.name) (names_of l p offset)) []
-name_of l (Foreign tree token) = unwrap_or (option_map (λ c. c.name) (foreign l tree token)) []
+name_of l (External tree token) = unwrap_or (option_map (λ c. c.name) (external l tree token)) []
 
 -- the number of the info with a name
 abbrev pub number_named : List ClassNames → List ℕ → Option ℕ
@@ -172,7 +172,7 @@ own_from p (part ∷ parts) name =
 
 -- a class of the group by its name, else of the export files
 abbrev pub class_named : Loaded → List ℕ → Option Class
-class_named l name = or_else (own_from 0 l.parts name) (foreign_named l name)
+class_named l name = or_else (own_from 0 l.parts name) (external_named l name)
 
 -- the class that Java gives each exception
 abbrev pub fault_name : Fault → List ℕ
@@ -185,7 +185,7 @@ fault_name ArrayStore = codes "java/lang/ArrayStoreException"
 
 -- the class of an exception of the machine's own
 abbrev pub fault_class : Loaded → Fault → Option Class
-fault_class l fault = foreign_named l (fault_name fault)
+fault_class l fault = external_named l (fault_name fault)
 
 -- ---- what stands above a class
 
@@ -215,8 +215,8 @@ object_above l info = []
 -- what stands directly above a class: its superclass and superinterfaces
 abbrev pub supers : Loaded → Class → List Class
 supers l (Own p offset) = let info = info_of l p offset in some_of (map (class_of l p) (all_supers info)) ++ object_above l info
-supers l (Foreign tree token) =
-    flat_map (λ c. some_of (map (foreign_named l) (c.supers ++ c.interfaces))) (option_to_list (foreign l tree token))
+supers l (External tree token) =
+    flat_map (λ c. some_of (map (external_named l) (c.supers ++ c.interfaces))) (option_to_list (external l tree token))
 
 -- the classes that are reached from some by steps, each once and followed by those above it
 abbrev pub closure : (next : Class → List Class) → (steps : ℕ) → (seen pending : List Class) → List Class
@@ -301,7 +301,7 @@ is_interface_file (Some c) = flags.is_interface c.flags
 -- no object is made of it
 abbrev pub is_interface : Loaded → Class → Bool
 is_interface l (Own p offset) = is_interface_info (info_of l p offset)
-is_interface l (Foreign tree token) = is_interface_file (foreign l tree token)
+is_interface l (External tree token) = is_interface_file (external l tree token)
 
 -- the superclass of a class of the group
 abbrev pub superclass_by : Loaded → (part : ℕ) → Option Info → Option Class
@@ -346,7 +346,7 @@ own_slots class info = []
 abbrev pub slots_upwards : Loaded → (depth : ℕ) → Option Class → List (Slot Field)
 slots_upwards l zero class = []
 slots_upwards l (suc n) None = []
-slots_upwards l (suc n) (Some (Foreign tree token)) = []
+slots_upwards l (suc n) (Some (External tree token)) = []
 slots_upwards l (suc n) (Some (Own p offset)) =
     slots_upwards l n (superclass l p offset) ++ own_slots (Own p offset) (info_of l p offset)
 

@@ -7,7 +7,7 @@ use Rattle.cjc_export.specs.declared.tree.ExportClass.{ExportClass}
 use Rattle.cjc_export.specs.declared.tree.ExportMethod.{ExportMethod}
 use Rattle.cjc_export.specs.Supers.{classes_of, upwards, virtual_method}
 use Rattle.cjc_card.specs.Loaded.{MethodName, ClassNames, Loaded}
-use Rattle.cjc_card.specs.Classes.{Class, Own, Foreign, same_class, Info, IsClass, info_of, class_of, foreign, names_of, depth}
+use Rattle.cjc_card.specs.Classes.{Class, Own, External, same_class, Info, IsClass, info_of, class_of, external, names_of, depth}
 
 -- the token of a virtual method: of a public or protected one, or of a package-visible one with its package and without the high bit
 pub data Token : Type 0 where
@@ -34,7 +34,7 @@ table_or_missing p info go = Missing
 abbrev pub tower_from : Loaded → (depth : ℕ) → Option Class → Tower
 tower_from l zero class = Missing
 tower_from l (suc n) None = Missing
-tower_from l (suc n) (Some (Foreign tree token)) = Exported (exported_line l (foreign l tree token))
+tower_from l (suc n) (Some (External tree token)) = Exported (exported_line l (external l tree token))
 tower_from l (suc n) (Some (Own p offset)) = table_or_missing p (info_of l p offset) (λ c. tower_from l n (class_of l p c.superclass))
 
 -- the tables of a class and its superclasses
@@ -144,12 +144,12 @@ of_file (Some c) token = outward c.name (virtual_method token c) NotFound
 
 -- the method of an interface itself, which an object of an imported class is asked for
 abbrev pub interface_method : Loaded → (interface : Class) → (token : ℕ) → Selection
-interface_method l (Foreign tree number) token = of_file (foreign l tree number) token
+interface_method l (External tree number) token = of_file (external l tree number) token
 interface_method l (Own p offset) token = of_names (names_of l p offset) token
 
 -- A method of an interface on an object of a class.
 abbrev pub dispatched_interface : Loaded → Option Class → (interface : Class) → (token : ℕ) → Selection
 dispatched_interface l None interface token = NotFound
-dispatched_interface l (Some (Foreign tree number)) interface token = interface_method l interface token
+dispatched_interface l (Some (External tree number)) interface token = interface_method l interface token
 dispatched_interface l (Some (Own p offset)) interface token =
     let t = tower l (Own p offset) in at_map t (map_of l t interface) token

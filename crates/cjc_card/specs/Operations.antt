@@ -11,7 +11,7 @@ use Rattle.cjc_script.specs.Sorts.{Element, Booleans, Bytes, Shorts, Ints, Shape
 use Rattle.cjc_bytecode.specs.Effects.{Arm, Operation, Do, Branch, Pick, Touch, Get, Put, GetStatic, PutStatic, Call, New, NewNumbers, NewReferences, Cast, Ask, Undone}
 use Rattle.cjc_bytecode.specs.Meanings.{Meaning, Plain, Branches, Ranged, Paired, Touches, Uses, CallsInterface, MakesNumbers, Casts, Asks, Use, Gets, Puts, GetsStatic, PutsStatic, Calls, Makes, MakesReferences, Mode, Virtual, Special, Static}
 use Rattle.cjc_card.specs.Loaded.{Import, OfGroup, OfFile, Loaded}
-use Rattle.cjc_card.specs.Classes.{Class, Own, Foreign, Field, foreign, import_of, class_of}
+use Rattle.cjc_card.specs.Classes.{Class, Own, External, Field, external, import_of, class_of}
 use Rattle.cjc_card.specs.Statics.{StaticCell}
 use Rattle.cjc_card.specs.Dispatch.{Token, Open, Hidden}
 
@@ -52,7 +52,7 @@ paired at numbers = []
 -- the token of a virtual method as a pool entry writes it: the high bit marks a package-visible one, which no imported class has
 abbrev pub token_of : Class → (token : ℕ) → Option Token
 token_of (Own p offset) token = Some (if nat_lt token 0x80 then Open token else Hidden p (token - 0x80))
-token_of (Foreign tree number) token = if nat_lt token 0x80 then Some (Open token) else None
+token_of (External tree number) token = if nat_lt token 0x80 then Some (Open token) else None
 
 -- a static method or constructor that an export file lists
 abbrev pub unbound_of : List ExportMethod → (token : ℕ) → Option ExportMethod
@@ -66,7 +66,7 @@ outer on_object class m = Outer on_object (record { class = class; name = m.name
 -- a static method through an import
 abbrev pub method_through : Loaded → (on_object : Bool) (class token : ℕ) → Import → Option Callee
 method_through l on_object class token (OfFile tree) =
-    option_and_then (λ c. option_map (outer on_object c.name) (unbound_of c.methods token)) (foreign l tree class)
+    option_and_then (λ c. option_map (outer on_object c.name) (unbound_of c.methods token)) (external l tree class)
 method_through l on_object class token (OfGroup q) =
     option_and_then (λ part. option_and_then (λ e. option_map (Fixed on_object q) (slice_get e.methods token)) (slice_get part.exports class)) (slice_get l.parts q)
 

@@ -5,7 +5,7 @@ ghost use Rattle.std.specs.Prelude.{◌≡◌, ◌≤◌, ◌+◌, ℕ, Some, le
 ghost use Rattle.cjc_script.specs.declared.report.Outcome.TheVariants.{Unfit};
 ghost use Rattle.cjc_script.specs.Sorts.{element_sort, shape_named};
 ghost use Rattle.cjc_acts.specs.Meant.{sort_meant};
-ghost use Rattle.cjc_bytecode.specs.Machine.{Ended, acted, array_of, grown, object_of, prepared, put_item, shape_of as shape_by_name, sized_array, with_heap};
+ghost use Rattle.cjc_bytecode.specs.Machine.{Ended, heap_after, array_of, heap_with, object_of, turn_after_acts, put_item, shape_of as shape_by_name, sized_array, with_heap};
 ghost use Rattle.cjc_card.specs.ByToken.{by_token};
 ghost use Rattle.cjc_card_heap.specs.Objects.{element_of, shape_of};
 ghost use Rattle.cjc_card_acts.specs.Acts.{IsPerformed, put_by};
@@ -70,7 +70,7 @@ fn object_of<L: LookUps>(alloc: Global, links: &L, class: &[u8]) -> Option<HeapO
 
 // One array or object more, where there is one.
 fn grow<L: LookUps>(links: &L, heap: &mut Heap, thing: Option<HeapObject>) -> Result<bool, NoMemory>
-    ensures act { IfOk result (λ fit. IsPerformed fit (grown (by_token (L.loaded links.now)) heap.old thing) heap.old heap.new) }
+    ensures act { IfOk result (λ fit. IsPerformed fit (heap_with (by_token (L.loaded links.now)) heap.old thing) heap.old heap.new) }
     ensures len { OnOk result (length heap.new ≤ length heap.old + 1) }
 {
     match thing {
@@ -150,7 +150,7 @@ fn put_item<L: LookUps>(links: &L, heap: &mut Heap, array: u32, index: i32, valu
 
 // One act; whether it fits.
 fn act<L: LookUps>(alloc: Global, links: &L, heap: &mut Heap, act: &Act) -> Result<bool, NoMemory>
-    ensures act { IfOk result (λ fit. IsPerformed fit (acted (by_token (L.loaded links.now)) act.now heap.old) heap.old heap.new) }
+    ensures act { IfOk result (λ fit. IsPerformed fit (heap_after (by_token (L.loaded links.now)) act.now heap.old) heap.old heap.new) }
     ensures len { OnOk result (length heap.new ≤ length heap.old + 1) }
 {
     match act {
@@ -177,7 +177,7 @@ pub fn perform<L: LookUps>(
     heap: &mut Heap,
     acts: &[Act],
 ) -> Result<bool, NoMemory>
-    ensures acts { IfOk result (λ done. (number : ℕ) (s : StateByToken) (go : StateByToken → TurnByToken) → prepared (by_token (L.loaded links.now)) acts.now number (with_heap (by_token (L.loaded links.now)) heap.old s) go ≡ (if done then go (with_heap (by_token (L.loaded links.now)) heap.new s) else Ended (Unfit number) (with_heap (by_token (L.loaded links.now)) heap.new s))) }
+    ensures acts { IfOk result (λ done. (number : ℕ) (s : StateByToken) (go : StateByToken → TurnByToken) → turn_after_acts (by_token (L.loaded links.now)) acts.now number (with_heap (by_token (L.loaded links.now)) heap.old s) go ≡ (if done then go (with_heap (by_token (L.loaded links.now)) heap.new s) else Ended (Unfit number) (with_heap (by_token (L.loaded links.now)) heap.new s))) }
     ensures len { OnOk result (length heap.new ≤ length heap.old + length acts.now) }
 {
     for one in acts {

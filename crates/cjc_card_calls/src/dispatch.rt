@@ -67,6 +67,6 @@ pub(crate) fn dispatched_above<'a>(
             let class = tables.superclass(part, offset);
             dispatched(tables, files, class, tables.depth(), token)
         }
-        Class::Foreign(_, _) => Found::NotFound,
+        Class::External(_, _) => Found::NotFound,
     }
 }

@@ -36,7 +36,7 @@ fn interface_method<'a>(tables: &Tables<'a>, interface: Class, token: u64) -> Fo
     ensures { found_of result ≡ interface_method (loaded_of tables.now) (class_of interface) token }
 {
     match interface {
-        Class::Foreign(tree, number) => match tables.foreign(tree, number) {
+        Class::External(tree, number) => match tables.external(tree, number) {
             Some(class) => of_file(class, token),
             None => Found::NotFound,
         },
@@ -109,7 +109,7 @@ pub fn dispatched_interface<'a>(
 {
     match receiver {
         None => Found::NotFound,
-        Some(Class::Foreign(_, _)) => interface_method(tables, interface, token),
+        Some(Class::External(_, _)) => interface_method(tables, interface, token),
         Some(Class::Own(part, offset)) => on_own(tables, files, part, offset, interface, token),
     }
 }

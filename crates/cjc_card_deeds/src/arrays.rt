@@ -2,7 +2,7 @@
 
 ghost use Rattle.std.specs.Prelude.{◌≡◌, ℕ, ℤ, pos, length, FitsSigned, IfOk};
 ghost use Rattle.std.specs.Int.{w16};
-ghost use Rattle.cjc_bytecode.specs.Effects.{Length, Load, Store, item_of, kept, length_in, load_number, store_number, thing_of, touched};
+ghost use Rattle.cjc_bytecode.specs.Effects.{Length, Load, Store, item_of, kept, length_in, load_number, store_number, thing_of, effect_of_access};
 ghost use Rattle.cjc_words.specs.Words.{low_word};
 ghost use Rattle.cjc_card.specs.Loaded.{Loaded};
 ghost use Rattle.cjc_card.specs.ByToken.{classes};
@@ -24,7 +24,7 @@ use cjc_script::Value;
 
 /// aaload.
 fn load_reference<'a>(cells: &mut Cells, heap: &Heap, room: usize) -> Result<Deed<'a>, NoMemory>
-    ensures { IfOk result (λ deed. (l : Loaded) → FollowsOn (λ next locals m stack. touched (classes l) (Load (letter_of Letter.Reference)) room next locals m stack) deed cells.old cells.new heap.now heap.now) }
+    ensures { IfOk result (λ deed. (l : Loaded) → FollowsOn (λ next locals m stack. effect_of_access (classes l) (Load (letter_of Letter.Reference)) room next locals m stack) deed cells.old cells.new heap.now heap.now) }
 {
     let Some((reference, index)) = value_and_number(cells, 0) else {
         return Ok(Deed::Stick);
@@ -60,7 +60,7 @@ pub fn load<'a>(
     room: usize,
     letter: Letter,
 ) -> Result<Deed<'a>, NoMemory>
-    ensures { IfOk result (λ deed. (l : Loaded) → FollowsOn (λ next locals m stack. touched (classes l) (Load (letter_of letter)) room next locals m stack) deed cells.old cells.new heap.now heap.now) }
+    ensures { IfOk result (λ deed. (l : Loaded) → FollowsOn (λ next locals m stack. effect_of_access (classes l) (Load (letter_of letter)) room next locals m stack) deed cells.old cells.new heap.now heap.now) }
 {
     match letter {
         Letter::Reference => Ok(load_reference(cells, heap, room)?),
@@ -92,7 +92,7 @@ fn kept<L: LookUps>(links: &L, heap: &Heap, class: Class, value: Value) -> Resul
 
 /// aastore.
 fn store_reference<'a, L: LookUps>(links: &L, cells: &mut Cells, heap: &mut Heap) -> Deed<'a>
-    ensures row { (room : ℕ) → FollowsOn (λ next locals m stack. touched (classes (L.loaded links.now)) (Store (letter_of Letter.Reference)) room next locals m stack) result cells.old cells.new heap.old heap.new }
+    ensures row { (room : ℕ) → FollowsOn (λ next locals m stack. effect_of_access (classes (L.loaded links.now)) (Store (letter_of Letter.Reference)) room next locals m stack) result cells.old cells.new heap.old heap.new }
     ensures len { length heap.new ≡ length heap.old }
 {
     let Some((value, taken)) = operand(cells, Letter::Reference) else {
@@ -154,7 +154,7 @@ pub fn store<'a, L: LookUps>(
     heap: &mut Heap,
     letter: Letter,
 ) -> Deed<'a>
-    ensures row { (room : ℕ) → FollowsOn (λ next locals m stack. touched (classes (L.loaded links.now)) (Store (letter_of letter)) room next locals m stack) result cells.old cells.new heap.old heap.new }
+    ensures row { (room : ℕ) → FollowsOn (λ next locals m stack. effect_of_access (classes (L.loaded links.now)) (Store (letter_of letter)) room next locals m stack) result cells.old cells.new heap.old heap.new }
     ensures len { length heap.new ≡ length heap.old }
 {
     match letter {
@@ -193,7 +193,7 @@ fn low_word_of(n: usize) -> i32
 
 /// arraylength.
 pub fn array_length<'a>(cells: &mut Cells, heap: &Heap) -> Result<Deed<'a>, NoMemory>
-    ensures { IfOk result (λ deed. (l : Loaded) (room : ℕ) → FollowsOn (λ next locals m stack. touched (classes l) Length room next locals m stack) deed cells.old cells.new heap.now heap.now) }
+    ensures { IfOk result (λ deed. (l : Loaded) (room : ℕ) → FollowsOn (λ next locals m stack. effect_of_access (classes l) Length room next locals m stack) deed cells.old cells.new heap.now heap.now) }
 {
     let Some(reference) = cells.word(0) else {
         return Ok(Deed::Stick);

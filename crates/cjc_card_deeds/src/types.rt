@@ -2,7 +2,7 @@
 //! ireturn and return.
 
 ghost use Rattle.std.specs.Prelude.{◌≡◌, ℕ, Some, option_map, slice_get, IfOk};
-ghost use Rattle.cjc_bytecode.specs.Effects.{Ask, Cast, Return, Throw, effect, shape, touched};
+ghost use Rattle.cjc_bytecode.specs.Effects.{Ask, Cast, Return, Throw, effect, shape, effect_of_access};
 ghost use Rattle.cjc_card.specs.Loaded.{Loaded};
 ghost use Rattle.cjc_card.specs.Classes.{is_of};
 ghost use Rattle.cjc_card.specs.ByToken.{classes};
@@ -77,7 +77,7 @@ pub fn instance_of<'a, L: LookUps>(
 
 /// athrow.
 pub fn throw<'a>(cells: &Cells) -> Deed<'a>
-    ensures { (l : Loaded) (room : ℕ) → FollowsAlone (λ next locals m stack. touched (classes l) Throw room next locals m stack) result cells.now cells.now }
+    ensures { (l : Loaded) (room : ℕ) → FollowsAlone (λ next locals m stack. effect_of_access (classes l) Throw room next locals m stack) result cells.now cells.now }
 {
     match cells.word(0) {
         Some(Value::Null) => Deed::Raise(Exception::NullPointer),
@@ -89,7 +89,7 @@ pub fn throw<'a>(cells: &Cells) -> Deed<'a>
 
 /// A word is returned, where it is of the letter's kind.
 fn leave_with<'a>(cells: &Cells, letter: Letter) -> Deed<'a>
-    ensures { (l : Loaded) (room : ℕ) → FollowsAlone (λ next locals m stack. touched (classes l) (Return (Some (letter_of letter))) room next locals m stack) result cells.now cells.now }
+    ensures { (l : Loaded) (room : ℕ) → FollowsAlone (λ next locals m stack. effect_of_access (classes l) (Return (Some (letter_of letter))) room next locals m stack) result cells.now cells.now }
 {
     match letter {
         Letter::Reference => match cells.word(0) {
@@ -115,7 +115,7 @@ fn leave_with<'a>(cells: &Cells, letter: Letter) -> Deed<'a>
 
 /// areturn, sreturn, ireturn and return.
 pub fn leave<'a>(cells: &Cells, letter: Option<Letter>) -> Deed<'a>
-    ensures { (l : Loaded) (room : ℕ) → FollowsAlone (λ next locals m stack. touched (classes l) (Return (letter_if letter)) room next locals m stack) result cells.now cells.now }
+    ensures { (l : Loaded) (room : ℕ) → FollowsAlone (λ next locals m stack. effect_of_access (classes l) (Return (letter_if letter)) room next locals m stack) result cells.now cells.now }
 {
     match letter {
         Some(letter) => leave_with(cells, letter),

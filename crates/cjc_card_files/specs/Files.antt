@@ -6,7 +6,7 @@ use Rattle.cjc_export.specs.declared.tree.ExportClass.{ExportClass}
 use Rattle.cjc_export.specs.declared.tree.ExportTree.{ExportTree}
 use Rattle.cjc_export.specs.Supers.{upwards}
 use Rattle.cjc_card.specs.Loaded.{Loaded}
-use Rattle.cjc_card.specs.Classes.{foreign, with_token}
+use Rattle.cjc_card.specs.Classes.{external, with_token}
 use Rattle.cjc_card.specs.Dispatch.{exported_line}
 use Rattle.cjc_card_files.specs.declared.file.File.{File}
 use Rattle.cjc_card_files.specs.declared.files.Files.{Files}
@@ -50,4 +50,4 @@ line_under files tree token = line_in (unwrap_or (slice_get files.kept tree) fil
 
 -- Each imported class is kept with what stands above it.
 abbrev pub AreFiles : Loaded → Files → Type 0
-AreFiles l files = (tree token : ℕ) → line_under files tree token ≡ exported_line l (foreign l tree token)
+AreFiles l files = (tree token : ℕ) → line_under files tree token ≡ exported_line l (external l tree token)

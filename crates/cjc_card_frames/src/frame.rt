@@ -4,7 +4,7 @@
 ghost use Rattle.std.specs.Prelude.{◌≡◌, ◌≤◌, ◌∷◌, [], ◌++◌, length, reverse, nat_le, true, IfOk, OnOk, if◌then◌else◌};
 ghost use Rattle.std.specs.List.{All};
 ghost use Rattle.cjc_script.specs.declared.value.Value.TheVariants.{Obj};
-ghost use Rattle.cjc_bytecode.specs.Machine.{entered};
+ghost use Rattle.cjc_bytecode.specs.Machine.{frame_for_call};
 ghost use Rattle.cjc_card_frame.specs.Frames.{IsWord};
 ghost use Rattle.cjc_card_parts.specs.Kinds.{start_of};
 
@@ -40,7 +40,7 @@ impl Frame {
     /// A method that begins with these words.
     pub fn enter(alloc: Global, start: Start, args: &[Value]) -> Result<Frame, NoMemory>
         requires { All IsWord args.now }
-        ensures { IfOk result (λ f. f ≡ entered (start_of start) args.now) }
+        ensures { IfOk result (λ f. f ≡ frame_for_call (start_of start) args.now) }
     {
         let locals = locals_of(alloc, start.nargs, start.max_locals, args)?;
         Ok(Frame {

@@ -60,7 +60,7 @@ impl LookUps for Group<'_> {
     }
 
     fn fault_class(&self, exception: Exception) -> Option<Class> {
-        self.tables.foreign_named(fault_name(exception))
+        self.tables.external_named(fault_name(exception))
     }
 
     fn class_named(&self, name: &[u8]) -> Option<Class> {

@@ -105,7 +105,7 @@ fn put_upwards(
     }
     match class {
         None => Ok(()),
-        Some(Class::Foreign(_, _)) => Ok(()),
+        Some(Class::External(_, _)) => Ok(()),
         Some(Class::Own(part, offset)) => {
             let above = tables.superclass(part, offset);
             put_upwards(alloc, tables, fields, above, slots, depth - 1)?;

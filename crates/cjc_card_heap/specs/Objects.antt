@@ -25,7 +25,7 @@ use Rattle.cjc_card_heap.specs.declared.object.Parts.TheVariants as parts
 -- a class of a loaded part by its offset, or one of an export file by its token
 abbrev pub class_of : ClassData → Class
 class_of (classes.Own part offset) = Classes.Own part offset
-class_of (classes.Foreign tree token) = Classes.Foreign tree token
+class_of (classes.External tree token) = Classes.External tree token
 
 -- an instance field by its class and token
 abbrev pub field_of : FieldData → Field

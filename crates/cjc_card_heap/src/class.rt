@@ -8,7 +8,7 @@ ghost use Rattle.cjc_card_heap.specs.Objects.{class_of, element_of, field_of};
 #[derive(Clone, Copy)]
 pub enum Class {
     Own(u32, u32),
-    Foreign(u32, u8),
+    External(u32, u8),
 }
 
 /// A field of an object: the class that declares it, and its token.
@@ -41,9 +41,9 @@ pub fn same_class(a: Class, b: Class) -> bool
 {
     match (a, b) {
         (Class::Own(p, x), Class::Own(q, y)) => p == q && x == y,
-        (Class::Foreign(p, x), Class::Foreign(q, y)) => p == q && x == y,
-        (Class::Own(_, _), Class::Foreign(_, _)) => false,
-        (Class::Foreign(_, _), Class::Own(_, _)) => false,
+        (Class::External(p, x), Class::External(q, y)) => p == q && x == y,
+        (Class::Own(_, _), Class::External(_, _)) => false,
+        (Class::External(_, _), Class::Own(_, _)) => false,
     }
 }
 

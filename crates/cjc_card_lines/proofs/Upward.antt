@@ -3,7 +3,7 @@ use Rattle.std.proofs.Common.{◌≡◌, ℕ, suc, ◌+◌, List, [], ◌∷◌,
 use Rattle.std.specs.Prelude.{flat_map, option_to_list, is_some, if◌then◌else◌, ◌||◌}
 use Rattle.cjc_export.specs.declared.tree.ExportClass.{ExportClass}
 use Rattle.cjc_card.specs.Loaded.{Loaded}
-use Rattle.cjc_card.specs.Classes.{Class, Own, Foreign, Info, all_supers, class_of as class_by_ref, closure, foreign, foreign_named, info_of, is_in, is_kind_of, is_there, object_above, part_steps, same_class, some_of, steps, supers, tree_steps, upwards}
+use Rattle.cjc_card.specs.Classes.{Class, Own, External, Info, all_supers, class_of as class_by_ref, closure, external, external_named, info_of, is_in, is_kind_of, is_there, object_above, part_steps, same_class, some_of, steps, supers, tree_steps, upwards}
 
 none_is_there : {A : Type 0} (o : Option A) → is_some o ≡ false → o ≡ None
 none_is_there None e = refl
@@ -15,8 +15,8 @@ none_is_there (Some x) e = absurd (true_is_false e) where
 none_above : (l : Loaded) (c : Class) → is_there l c ≡ false → supers l c ≡ []
 none_above l (Own p offset) gone =
     ap (λ (i : Option Info). some_of (map (class_by_ref l p) (all_supers i)) ++ object_above l i) (none_is_there (info_of l p offset) gone)
-none_above l (Foreign tree token) gone =
-    ap (λ (c : Option ExportClass). flat_map (λ d. some_of (map (foreign_named l) (d.supers ++ d.interfaces))) (option_to_list c)) (none_is_there (foreign l tree token) gone)
+none_above l (External tree token) gone =
+    ap (λ (c : Option ExportClass). flat_map (λ d. some_of (map (external_named l) (d.supers ++ d.interfaces))) (option_to_list c)) (none_is_there (external l tree token) gone)
 
 alone : (next : Class → List Class) (c : Class) (n : ℕ) → next c ≡ [] → closure next (suc (suc n)) [] (c ∷ []) ≡ c ∷ []
 alone next c n none = ap (λ (ys : List Class). c ∷ closure next (suc n) (c ∷ []) (ys ++ [])) none

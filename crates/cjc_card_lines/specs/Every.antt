@@ -3,7 +3,7 @@ use Rattle.std.specs.Prelude.{ℕ, ◌+◌, List, [], ◌∷◌, ◌++◌, map}
 use Rattle.cjc_export.specs.declared.tree.ExportTree.{ExportTree}
 use Rattle.cjc_sentences.specs.Spots.{starts}
 use Rattle.cjc_card.specs.Loaded.{Part, Loaded}
-use Rattle.cjc_card.specs.Classes.{Class, Own, Foreign, info_size, infos}
+use Rattle.cjc_card.specs.Classes.{Class, Own, External, info_size, infos}
 
 -- those of packages, by the offsets of their infos in the first
 abbrev pub part_classes : List Part → List Class
@@ -17,4 +17,4 @@ own_classes l = part_classes l.parts
 -- those of export files from a number on, by their tokens
 abbrev pub files_classes : (tree : ℕ) → List ExportTree → List Class
 files_classes k [] = []
-files_classes k (t ∷ trees) = map (λ c. Foreign k c.token) t.classes ++ files_classes (k + 1) trees
+files_classes k (t ∷ trees) = map (λ c. External k c.token) t.classes ++ files_classes (k + 1) trees

@@ -2,7 +2,7 @@
 //! by `lines`.
 
 ghost use Rattle.std.specs.Prelude.{◌≡◌, ◌<◌, ◌^◌, ◌++◌, length, map, option_map, option_to_list, IfOk, OnOk};
-ghost use Rattle.cjc_card.specs.Classes.{Class as ByToken, Foreign, is_in, is_there};
+ghost use Rattle.cjc_card.specs.Classes.{Class as ByToken, External, is_in, is_there};
 ghost use Rattle.cjc_card_heap.specs.Objects.{class_of};
 ghost use Rattle.cjc_card_lines.specs.Every.{files_classes, own_classes};
 ghost use Rattle.cjc_card_lookups.specs.Tables.{AreKept, loaded_of};
@@ -39,10 +39,10 @@ fn put_own(classes: &mut Row<Class>, tables: &Tables<'_>) -> Result<(), NoMemory
 
 // Puts the classes of an export file at the end.
 fn put_file(classes: &mut Row<Class>, tree: u32, listed: &[ExportClass]) -> Result<(), NoMemory>
-    ensures { OnOk result (map class_of classes.new ≡ map class_of classes.old ++ map (λ c. Foreign tree c.token) listed.now) }
+    ensures { OnOk result (map class_of classes.new ≡ map class_of classes.old ++ map (λ c. External tree c.token) listed.now) }
 {
     for class in listed {
-        classes.push(Class::Foreign(tree, class.token))?;
+        classes.push(Class::External(tree, class.token))?;
     }
     Ok(())
 }

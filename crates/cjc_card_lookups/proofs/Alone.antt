@@ -6,7 +6,7 @@ use Rattle.cjc_capread.specs.declared.tree.StaticRef.TheVariants as statics
 use Rattle.cjc_export.specs.declared.tree.ExportClass.{ExportClass}
 use Rattle.cjc_export.specs.declared.tree.ExportTree.{ExportTree}
 use Rattle.cjc_card.specs.Loaded.{OfFile}
-use Rattle.cjc_card.specs.Classes.{Foreign, class_of, imported_class, with_token}
+use Rattle.cjc_card.specs.Classes.{External, class_of, imported_class, with_token}
 use Rattle.cjc_card.specs.Operations.{static_cell, cell_through}
 use Rattle.cjc_card_lookups.specs.declared.part.Part.{Part}
 use Rattle.cjc_card_lookups.specs.Exported.{exported_class}
@@ -19,24 +19,24 @@ file_of k (t ∷ trees) zero = ap (λ n. Some (OfFile n)) (omega arith)
 file_of k (t ∷ trees) (suc i) = file_of (k + 1) trees i ∙ ap (λ n. option_map (λ u. OfFile n) (slice_get trees i)) (omega arith)
 
 pub outside_class : (p : Part) (trees : List ExportTree) («package» token : ℕ)
-    → (if is_some (exported_class trees «package» token) then Some (Foreign «package» token) else None) ≡ class_of (alone p trees) 0 (Outside «package» token)
+    → (if is_some (exported_class trees «package» token) then Some (External «package» token) else None) ≡ class_of (alone p trees) 0 (Outside «package» token)
 outside_class p trees «package» token = sym (ap (option_and_then (imported_class (alone p trees) token)) (file_of 0 trees «package») ∙ by (slice_get trees «package») refl) where
   by : (t : Option ExportTree) → slice_get trees «package» ≡ t
-      → option_and_then (imported_class (alone p trees) token) (option_map (λ u. OfFile (0 + «package»)) t) ≡ (if is_some (exported_class trees «package» token) then Some (Foreign «package» token) else None)
-  by None e = ap (λ o. if is_some (option_and_then (λ (t : ExportTree). with_token t.classes token) o) then Some (Foreign «package» token) else None) (sym e)
-  by (Some t) e = ap (λ n. if is_some (exported_class trees n token) then Some (Foreign n token) else None) (omega arith)
+      → option_and_then (imported_class (alone p trees) token) (option_map (λ u. OfFile (0 + «package»)) t) ≡ (if is_some (exported_class trees «package» token) then Some (External «package» token) else None)
+  by None e = ap (λ o. if is_some (option_and_then (λ (t : ExportTree). with_token t.classes token) o) then Some (External «package» token) else None) (sym e)
+  by (Some t) e = ap (λ n. if is_some (exported_class trees n token) then Some (External n token) else None) (omega arith)
 
 pub outside_found : (p : Part) (trees : List ExportTree) («package» token tree : ℕ) (e : ExportClass) → tree ≡ «package» → Some e ≡ exported_class trees tree token
-    → Some (Foreign tree token) ≡ class_of (alone p trees) 0 (Outside «package» token)
+    → Some (External tree token) ≡ class_of (alone p trees) 0 (Outside «package» token)
 outside_found p trees «package» token tree e same is =
-    ap (λ n. Some (Foreign n token)) same
-    ∙ ap (λ (o : Option ExportClass). if is_some o then Some (Foreign «package» token) else None) (is ∙ ap (λ n. exported_class trees n token) same)
+    ap (λ n. Some (External n token)) same
+    ∙ ap (λ (o : Option ExportClass). if is_some o then Some (External «package» token) else None) (is ∙ ap (λ n. exported_class trees n token) same)
     ∙ outside_class p trees «package» token
 
 pub outside_none : (p : Part) (trees : List ExportTree) («package» token tree : ℕ) → tree ≡ «package» → None ≡ exported_class trees tree token
     → None ≡ class_of (alone p trees) 0 (Outside «package» token)
 outside_none p trees «package» token tree same is =
-    ap (λ (o : Option ExportClass). if is_some o then Some (Foreign «package» token) else None) (is ∙ ap (λ n. exported_class trees n token) same)
+    ap (λ (o : Option ExportClass). if is_some o then Some (External «package» token) else None) (is ∙ ap (λ n. exported_class trees n token) same)
     ∙ outside_class p trees «package» token
 
 -- a static field of an imported package has no cell

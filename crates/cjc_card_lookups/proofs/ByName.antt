@@ -4,7 +4,7 @@ use Rattle.std.specs.Prelude.{option_map, if◌then◌else◌, ◌==◌}
 use Rattle.std.specs.List.{find}
 use Rattle.std.specs.Str.{bytes_eq}
 use Rattle.cjc_export.specs.declared.tree.ExportClass.{ExportClass}
-use Rattle.cjc_card.specs.Classes.{Class, Foreign, or_else, token_named, with_token}
+use Rattle.cjc_card.specs.Classes.{Class, External, or_else, token_named, with_token}
 use Rattle.cjc_card_heap.specs.declared.class.Class.{Class as ClassData}
 use Rattle.cjc_card_heap.specs.Objects.{class_of}
 use Rattle.cjc_card_lookups.proofs.OrElse.{or_map}
@@ -19,12 +19,12 @@ class_noted b class old new e =
     ap (option_map class_of) e ∙ or_map class_of old (if b then Some class else None)
     ∙ ap (λ (o : Option Class). or_else (option_map class_of old) o) (by_test b class)
 
-by_name : (b : Bool) (tree token : ℕ) (rest : Option ℕ) → option_map (Foreign tree) (if b then Some token else rest) ≡ or_else (if b then Some (Foreign tree token) else None) (option_map (Foreign tree) rest)
+by_name : (b : Bool) (tree token : ℕ) (rest : Option ℕ) → option_map (External tree) (if b then Some token else rest) ≡ or_else (if b then Some (External tree token) else None) (option_map (External tree) rest)
 by_name true tree token rest = refl
 by_name false tree token rest = refl
 
 pub one_class : (tree : ℕ) (x : List ℕ) (c : ExportClass) (cs : List ExportClass)
-    → option_map (Foreign tree) (token_named (c ∷ cs) x) ≡ or_else (if bytes_eq c.name x then Some (Foreign tree c.token) else None) (option_map (Foreign tree) (token_named cs x))
+    → option_map (External tree) (token_named (c ∷ cs) x) ≡ or_else (if bytes_eq c.name x then Some (External tree c.token) else None) (option_map (External tree) (token_named cs x))
 one_class tree x c cs = by_name (bytes_eq c.name x) tree c.token (token_named cs x)
 
 pub with_token_find : (cs : List ExportClass) (token : ℕ) → find (λ c. c.token == token) cs ≡ with_token cs token

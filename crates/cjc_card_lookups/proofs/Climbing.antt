@@ -8,7 +8,7 @@ use Rattle.cjc_card.specs.Loaded.{Loaded}
 use Rattle.cjc_capread.specs.declared.tree.ClassEntry.{ClassEntry}
 use Rattle.cjc_capread.specs.declared.tree.InterfaceEntry.{InterfaceEntry}
 use Rattle.cjc_export.specs.declared.tree.ExportClass.{ExportClass}
-use Rattle.cjc_card.specs.Classes.{Class, Foreign, IsClass, IsInterface, all_supers, class_of as class_by_ref, closure, foreign, foreign_named, is_in, object_above, object_class, or_else, same_class, some_of, supers}
+use Rattle.cjc_card.specs.Classes.{Class, External, IsClass, IsInterface, all_supers, class_of as class_by_ref, closure, external, external_named, is_in, object_above, object_class, or_else, same_class, some_of, supers}
 use Rattle.cjc_card_heap.specs.declared.class.Class.{Class as ClassData}
 use Rattle.cjc_card_heap.specs.Objects.{class_of}
 use Rattle.cjc_card_lookups.specs.declared.supers.Climb.{Climb}
@@ -51,17 +51,17 @@ put_class l part c old mid new n m =
     ∙ ap (λ (os : List (Option Class)). (option_to_list (f c.superclass) ++ some_of os) ++ old) (sym (map-map f (λ m. m.interface) c.interfaces))
     ∙ ap (λ (ys : List Class). ys ++ old) (sym (append-nil (option_to_list (f c.superclass) ++ some_of (map f (map (λ m. m.interface) c.interfaces)))))
 
-pub put_foreign : (l : Loaded) (tree token : ℕ) (c : ExportClass) (old mid new : List Class) → Some c ≡ foreign l tree token
-    → new ≡ some_of (map (foreign_named l) c.supers) ++ mid → mid ≡ some_of (map (foreign_named l) c.interfaces) ++ old → new ≡ supers l (Foreign tree token) ++ old
-put_foreign l tree token c old mid new is n m =
-    let f = foreign_named l in
+pub put_external : (l : Loaded) (tree token : ℕ) (c : ExportClass) (old mid new : List Class) → Some c ≡ external l tree token
+    → new ≡ some_of (map (external_named l) c.supers) ++ mid → mid ≡ some_of (map (external_named l) c.interfaces) ++ old → new ≡ supers l (External tree token) ++ old
+put_external l tree token c old mid new is n m =
+    let f = external_named l in
     put_two (some_of (map f c.supers)) (some_of (map f c.interfaces)) old mid new n m
     ∙ ap (λ (ys : List Class). ys ++ old) (sym (ap some_of (map-append f c.supers c.interfaces) ∙ flat_map-append option_to_list (map f c.supers) (map f c.interfaces)))
     ∙ ap (λ (ys : List Class). ys ++ old) (sym (append-nil (some_of (map f (c.supers ++ c.interfaces)))))
     ∙ ap (λ (o : Option ExportClass). flat_map (λ d. some_of (map f (d.supers ++ d.interfaces))) (option_to_list o) ++ old) is
 
-pub put_none : (l : Loaded) (tree token : ℕ) (old : List Class) → None ≡ foreign l tree token → old ≡ supers l (Foreign tree token) ++ old
-put_none l tree token old is = ap (λ (o : Option ExportClass). flat_map (λ d. some_of (map (foreign_named l) (d.supers ++ d.interfaces))) (option_to_list o) ++ old) is
+pub put_none : (l : Loaded) (tree token : ℕ) (old : List Class) → None ≡ external l tree token → old ≡ supers l (External tree token) ++ old
+put_none l tree token old is = ap (λ (o : Option ExportClass). flat_map (λ d. some_of (map (external_named l) (d.supers ++ d.interfaces))) (option_to_list o) ++ old) is
 
 -- ---- one more is met
 

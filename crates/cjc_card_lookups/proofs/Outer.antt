@@ -5,7 +5,7 @@ use Rattle.cjc_capread.specs.declared.tree.StaticRef.TheVariants as statics
 use Rattle.cjc_export.specs.declared.tree.ExportClass.{ExportClass}
 use Rattle.cjc_export.specs.declared.tree.ExportTree.{ExportTree}
 use Rattle.cjc_card.specs.Loaded.{OfFile}
-use Rattle.cjc_card.specs.Classes.{foreign, with_token}
+use Rattle.cjc_card.specs.Classes.{external, with_token}
 use Rattle.cjc_card.specs.Operations.{Callee, method_through, outer, static_method, unbound_of}
 use Rattle.cjc_card_lookups.specs.declared.part.Part.{Part}
 use Rattle.cjc_card_lookups.specs.Group.{alone}
@@ -15,9 +15,9 @@ abbrev pub outer_by : (on : Bool) (token : ℕ) → Option ExportClass → Optio
 outer_by on token class = option_and_then (λ c. option_map (outer on c.name) (unbound_of c.methods token)) class
 
 pub through_file : (p : Part) (trees : List ExportTree) (on : Bool) («package» class token : ℕ)
-    → outer_by on token (foreign (alone p trees) «package» class) ≡ static_method (alone p trees) 0 on (statics.Outside «package» class token)
+    → outer_by on token (external (alone p trees) «package» class) ≡ static_method (alone p trees) 0 on (statics.Outside «package» class token)
 through_file p trees on «package» class token = sym (ap (option_and_then (method_through (alone p trees) on class token)) (file_of 0 trees «package») ∙ by (slice_get trees «package») refl) where
   by : (t : Option ExportTree) → slice_get trees «package» ≡ t
-      → option_and_then (method_through (alone p trees) on class token) (option_map (λ u. OfFile (0 + «package»)) t) ≡ outer_by on token (foreign (alone p trees) «package» class)
+      → option_and_then (method_through (alone p trees) on class token) (option_map (λ u. OfFile (0 + «package»)) t) ≡ outer_by on token (external (alone p trees) «package» class)
   by None e = ap (λ o. outer_by on token (option_and_then (λ (t : ExportTree). with_token t.classes class) o)) (sym e)
-  by (Some t) e = ap (λ n. outer_by on token (foreign (alone p trees) n class)) (omega arith)
+  by (Some t) e = ap (λ n. outer_by on token (external (alone p trees) n class)) (omega arith)

@@ -3,7 +3,7 @@ use Rattle.std.specs.Prelude.{◌≡◌, ℕ, List, map, Option, option_and_then
 use Rattle.cjc_export.specs.declared.tree.ExportClass.{ExportClass}
 use Rattle.cjc_export.specs.declared.tree.ExportTree.{ExportTree}
 use Rattle.cjc_lookup.specs.Indexed.{places_of}
-use Rattle.cjc_card.specs.Classes.{with_token, foreign_from}
+use Rattle.cjc_card.specs.Classes.{with_token, external_from}
 use Rattle.cjc_card_lookups.specs.declared.indices.Classes.{Classes}
 use Rattle.cjc_card_lookups.specs.Indices.{class_under}
 
@@ -14,4 +14,4 @@ exported_class trees tree token = option_and_then (λ t. with_token t.classes to
 -- Places are by token, and classes by name.
 pub record AreExported (trees : List ExportTree) (tokens : List (List (Option ℕ))) (names : Classes) : Type 0 where
   pub by_token : tokens ≡ map (λ t. places_of t.classes) trees
-  pub by_name : (x : List ℕ) → class_under names x ≡ foreign_from 0 trees x
+  pub by_name : (x : List ℕ) → class_under names x ≡ external_from 0 trees x

@@ -6,7 +6,7 @@ use Rattle.std.specs.Hash as writes
 use Rattle.std.specs.HashMap.{get_by}
 use Rattle.std.proofs.Common.{◌≡◌, ℕ, Bool, true, false, refl, sym, ap, ◌∙◌, true≢false}
 use Rattle.std.proofs.lemmas.Bool.Decides.{Decides-eqb}
-use Rattle.cjc_card.specs.Classes.{Class, Own, Foreign, same_class}
+use Rattle.cjc_card.specs.Classes.{Class, Own, External, same_class}
 use Rattle.cjc_card_lookups.specs.declared.met.Met.{Met}
 
 -- ---- classes as keys
@@ -27,12 +27,12 @@ same_class-Decides (Own p x) (Own q y) = (
   λ e. ap (λ n. Own n x) ((Decides-eqb p q).0 (two (p == q) (x == y) e).0) ∙ ap (Own q) ((Decides-eqb x y).0 (two (p == q) (x == y) e).1),
   λ e. both (p == q) (x == y) ((Decides-eqb p q).1 cc) ((Decides-eqb x y).1 cc),
 )
-same_class-Decides (Foreign p x) (Foreign q y) = (
-  λ e. ap (λ n. Foreign n x) ((Decides-eqb p q).0 (two (p == q) (x == y) e).0) ∙ ap (Foreign q) ((Decides-eqb x y).0 (two (p == q) (x == y) e).1),
+same_class-Decides (External p x) (External q y) = (
+  λ e. ap (λ n. External n x) ((Decides-eqb p q).0 (two (p == q) (x == y) e).0) ∙ ap (External q) ((Decides-eqb x y).0 (two (p == q) (x == y) e).1),
   λ e. both (p == q) (x == y) ((Decides-eqb p q).1 cc) ((Decides-eqb x y).1 cc),
 )
-same_class-Decides (Own p x) (Foreign q y) = differ (Own p x) (Foreign q y) (λ e. cc)
-same_class-Decides (Foreign p x) (Own q y) = differ (Foreign p x) (Own q y) (λ e. cc)
+same_class-Decides (Own p x) (External q y) = differ (Own p x) (External q y) (λ e. cc)
+same_class-Decides (External p x) (Own q y) = differ (External p x) (Own q y) (λ e. cc)
 
 -- being the same class by offset or by token is an equivalence
 pub classes-equivalence : IsEquivalence same_class
@@ -41,7 +41,7 @@ classes-equivalence = decided same_class same_class-Decides
 -- the offset of a class, or its token
 abbrev pub number_in : Class → ℕ
 number_in (Own part offset) = offset
-number_in (Foreign tree token) = token
+number_in (External tree token) = token
 
 -- what is fed to a hasher
 abbrev pub fed : Class → writes.HashWrites

@@ -2,7 +2,7 @@
 use Rattle.std.specs.Prelude.{ℕ, Option, Some, None}
 use Rattle.cjc_capread.specs.declared.tree.ClassEntry.{ClassEntry}
 use Rattle.cjc_card.specs.Loaded.{Loaded}
-use Rattle.cjc_card.specs.Classes.{Info, IsClass, foreign}
+use Rattle.cjc_card.specs.Classes.{Info, IsClass, external}
 use Rattle.cjc_card.specs.Dispatch.{Selection, NotFound, At, exported_line, in_files}
 use Rattle.cjc_card_lookups.specs.declared.dispatch.TableEntry.{TableEntry}
 use Rattle.cjc_card_lookups.specs.declared.dispatch.TableEntry.TheVariants as entries
@@ -24,7 +24,7 @@ entry_gives part above (entries.At offset) = At part offset
 abbrev pub walk_gives : Loaded → (token : ℕ) → Walk → Selection
 walk_gives l token walks.Nothing = NotFound
 walk_gives l token (walks.At part offset) = At part offset
-walk_gives l token (walks.Abroad tree class) = in_files (exported_line l (foreign l tree class)) token
+walk_gives l token (walks.Abroad tree class) = in_files (exported_line l (external l tree class)) token
 
 -- a package-visible method, which no imported class has
 abbrev pub walk_hides : Walk → Selection

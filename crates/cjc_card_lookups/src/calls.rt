@@ -35,7 +35,7 @@ fn token_of(class: Class, token: u8) -> Option<Token>
                 Some(Token::Hidden(part, token - FIRST_HIDDEN))
             }
         }
-        Class::Foreign(_, _) => {
+        Class::External(_, _) => {
             if token < FIRST_HIDDEN {
                 Some(Token::Open(token))
             } else {
@@ -97,7 +97,7 @@ impl<'a> Tables<'a> {
     ) -> Option<Callee<'a>>
         ensures { option_map callee_of result ≡ static_method (loaded_of self.now) 0 on_object (OutsideRef import class token) }
     {
-        match self.foreign(u32::from(import), class) {
+        match self.external(u32::from(import), class) {
             Some(class) => outer_of(on_object, class, token),
             None => None,
         }

@@ -98,7 +98,7 @@ impl<'a> Tables<'a> {
         }
         match class {
             None => Walk::Nothing,
-            Some(Class::Foreign(tree, number)) => Walk::Abroad(tree, number),
+            Some(Class::External(tree, number)) => Walk::Abroad(tree, number),
             Some(Class::Own(part, offset)) => match self.class_info(part, offset) {
                 None => Walk::Nothing,
                 Some(entry) => {
@@ -125,7 +125,7 @@ impl<'a> Tables<'a> {
         }
         match class {
             None => Walk::Nothing,
-            Some(Class::Foreign(tree, number)) => Walk::Abroad(tree, number),
+            Some(Class::External(tree, number)) => Walk::Abroad(tree, number),
             Some(Class::Own(part, offset)) => match self.class_info(part, offset) {
                 None => Walk::Nothing,
                 Some(entry) => match hidden_entry(part == home, entry, token) {
@@ -168,7 +168,7 @@ impl<'a> Tables<'a> {
         }
         match class {
             None => None,
-            Some(Class::Foreign(_, _)) => None,
+            Some(Class::External(_, _)) => None,
             Some(Class::Own(part, offset)) => match self.class_info(part, offset) {
                 None => None,
                 Some(entry) => match self.map_in(part, entry.interfaces.items(), interface) {

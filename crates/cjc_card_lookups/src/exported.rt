@@ -4,7 +4,7 @@
 ghost use Rattle.std.specs.Prelude.{◌≡◌, ◌<◌, ◌^◌, ℕ, List, length, option_map, if◌then◌else◌, Some, None, IfOk, OnOk};
 ghost use Rattle.std.specs.Str.{bytes_eq};
 ghost use Rattle.std.specs.Option.{option_copied};
-ghost use Rattle.cjc_card.specs.Classes.{Foreign, foreign_from, or_else, token_named, with_token};
+ghost use Rattle.cjc_card.specs.Classes.{External, external_from, or_else, token_named, with_token};
 ghost use Rattle.cjc_lookup.specs.Indexed.{places_of};
 ghost use Rattle.cjc_card_heap.specs.Objects.{class_of};
 ghost use Rattle.cjc_card_lookups.specs.Exported.{exported_class};
@@ -45,9 +45,9 @@ fn note_class<'a>(
     tree: u32,
     class: &'a ExportClass,
 ) -> Result<(), NoMemory>
-    ensures { OnOk result ((x : List ℕ) → class_under names.new x ≡ or_else (class_under names.old x) (if bytes_eq class.now.name x then Some (Foreign tree class.now.token) else None)) }
+    ensures { OnOk result ((x : List ℕ) → class_under names.new x ≡ or_else (class_under names.old x) (if bytes_eq class.now.name x then Some (External tree class.now.token) else None)) }
 {
-    names.note(class.name.items(), Class::Foreign(tree, class.token))?;
+    names.note(class.name.items(), Class::External(tree, class.token))?;
     Ok(())
 }
 
@@ -57,7 +57,7 @@ fn note_classes<'a>(
     tree: u32,
     classes: &'a [ExportClass],
 ) -> Result<(), NoMemory>
-    ensures { OnOk result ((x : List ℕ) → class_under names.new x ≡ or_else (class_under names.old x) (option_map (Foreign tree) (token_named classes.now x))) }
+    ensures { OnOk result ((x : List ℕ) → class_under names.new x ≡ or_else (class_under names.old x) (option_map (External tree) (token_named classes.now x))) }
 {
     for class in classes {
         note_class(names, tree, class)?;
@@ -72,7 +72,7 @@ fn note_tree<'a>(
     tree: &'a ExportTree,
 ) -> Result<(), NoMemory>
     requires { number < 2 ^ 32 }
-    ensures { OnOk result ((x : List ℕ) → class_under names.new x ≡ or_else (class_under names.old x) (option_map (Foreign number) (token_named tree.now.classes x))) }
+    ensures { OnOk result ((x : List ℕ) → class_under names.new x ≡ or_else (class_under names.old x) (option_map (External number) (token_named tree.now.classes x))) }
 {
     note_classes(names, number as u32, tree.classes.items())?;
     Ok(())
@@ -81,7 +81,7 @@ fn note_tree<'a>(
 // The classes of all export files by their names.
 fn names_of<'a>(alloc: Global, trees: &'a [ExportTree]) -> Result<Classes<'a>, NoMemory>
     requires { length trees.now < 2 ^ 32 }
-    ensures { IfOk result (λ names. (x : List ℕ) → class_under names x ≡ foreign_from 0 trees.now x) }
+    ensures { IfOk result (λ names. (x : List ℕ) → class_under names x ≡ external_from 0 trees.now x) }
 {
     let mut names = Classes::new(alloc);
     let mut number = 0;
@@ -150,7 +150,7 @@ impl<'a> Exported<'a> {
 
     /// The first class of a name.
     pub(crate) fn named(&self, name: &[u8]) -> Option<Class>
-        ensures { option_map class_of result ≡ foreign_from 0 self.now name.now }
+        ensures { option_map class_of result ≡ external_from 0 self.now name.now }
     {
         self.names.get(name)
     }

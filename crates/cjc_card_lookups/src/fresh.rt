@@ -90,7 +90,7 @@ impl<'a> Tables<'a> {
         }
         match class {
             None => Ok(()),
-            Some(Class::Foreign(_, _)) => Ok(()),
+            Some(Class::External(_, _)) => Ok(()),
             Some(Class::Own(part, offset)) => {
                 self.put_upwards(slots, self.superclass(part, offset), depth - 1)?;
                 let info = self.info(part, u64::from(offset));

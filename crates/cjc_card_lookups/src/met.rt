@@ -48,7 +48,7 @@ fn number_in(class: Class) -> u32
 {
     match class {
         Class::Own(_, offset) => offset,
-        Class::Foreign(_, token) => u32::from(token),
+        Class::External(_, token) => u32::from(token),
     }
 }
 

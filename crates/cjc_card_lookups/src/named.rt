@@ -40,7 +40,7 @@ impl<'a> Tables<'a> {
                 Some(names) => names.name.items(),
                 None => &[],
             },
-            Class::Foreign(tree, token) => match self.foreign(tree, token) {
+            Class::External(tree, token) => match self.external(tree, token) {
                 Some(class) => class.name.items(),
                 None => &[],
             },
@@ -68,7 +68,7 @@ impl<'a> Tables<'a> {
     {
         match self.own_named(name) {
             Some(class) => Some(class),
-            None => self.foreign_named(name),
+            None => self.external_named(name),
         }
     }
 
@@ -83,7 +83,7 @@ impl<'a> Tables<'a> {
                 Some(Info::IsInterface(_)) => true,
                 None => true,
             },
-            Class::Foreign(tree, token) => match self.foreign(tree, token) {
+            Class::External(tree, token) => match self.external(tree, token) {
                 Some(class) => is_interface(class.flags),
                 None => true,
             },

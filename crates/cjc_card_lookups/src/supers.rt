@@ -2,7 +2,7 @@
 //! Machine Specification 2.2.2, sections 5.7, 6.8 and 7.5). Each class above is met once.
 
 ghost use Rattle.std.specs.Prelude.{◌≡◌, ◌++◌, ◌∷◌, [], ℕ, suc, Some, map, option_map, option_to_list, IfOk, OnOk};
-ghost use Rattle.cjc_card.specs.Classes.{IsClass, all_supers, class_of as class_by_ref, foreign_named, object_above, object_class, some_of, steps, supers, upwards};
+ghost use Rattle.cjc_card.specs.Classes.{IsClass, all_supers, class_of as class_by_ref, external_named, object_above, object_class, some_of, steps, supers, upwards};
 ghost use Rattle.cjc_card_heap.specs.Objects.{class_of};
 ghost use Rattle.cjc_card_lookups.specs.Infos.{info_by};
 ghost use Rattle.cjc_card_lookups.specs.Climbs.{AreMet, climbed};
@@ -117,11 +117,11 @@ impl<'a> Tables<'a> {
 
     // Puts imported classes on top, the first of them last.
     fn put_names(&self, left: &mut Pile<Class>, names: &[Bytes]) -> Result<(), NoMemory>
-        ensures { OnOk result (map class_of left.new ≡ some_of (map (foreign_named (loaded_of self.now)) names.now) ++ map class_of left.old) }
+        ensures { OnOk result (map class_of left.new ≡ some_of (map (external_named (loaded_of self.now)) names.now) ++ map class_of left.old) }
     {
         let count = names.len();
         for done in 0..count {
-            put_some(left, self.foreign_named(names[count - 1 - done].items()))?;
+            put_some(left, self.external_named(names[count - 1 - done].items()))?;
         }
         Ok(())
     }
@@ -169,7 +169,7 @@ impl<'a> Tables<'a> {
             Class::Own(part, offset) => {
                 self.put_info(left, part, self.info(part, u64::from(offset)))
             }
-            Class::Foreign(tree, token) => match self.foreign(tree, token) {
+            Class::External(tree, token) => match self.external(tree, token) {
                 None => Ok(()),
                 Some(class) => {
                     self.put_names(left, class.interfaces.items())?;

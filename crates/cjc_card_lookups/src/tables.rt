@@ -3,7 +3,7 @@
 ghost use Rattle.std.specs.Prelude.{◌≡◌, ◌<◌, ◌+◌, ◌*◌, ◌^◌, ℕ, List, length, option_map, IfOk};
 ghost use Rattle.std.specs.Option.{option_copied};
 ghost use Rattle.std.specs.Str.{bytes_eq};
-ghost use Rattle.cjc_card.specs.Classes.{class_of as class_by_ref, foreign, foreign_named, info_of, superclass};
+ghost use Rattle.cjc_card.specs.Classes.{class_of as class_by_ref, external, external_named, info_of, superclass};
 ghost use Rattle.cjc_sentences.specs.Complete.{class_info_size};
 ghost use Rattle.cjc_card_heap.specs.Objects.{class_of};
 ghost use Rattle.cjc_card_lookups.specs.Group.{alone};
@@ -127,15 +127,15 @@ impl<'a> Tables<'a> {
     }
 
     /// The class of an export file by its token.
-    pub fn foreign(&self, tree: u32, token: u8) -> Option<&'a ExportClass>
-        ensures { option_copied result ≡ foreign (loaded_of self.now) tree token }
+    pub fn external(&self, tree: u32, token: u8) -> Option<&'a ExportClass>
+        ensures { option_copied result ≡ external (loaded_of self.now) tree token }
     {
         self.exported.class(tree, token)
     }
 
     /// The first class of a name in the export files.
-    pub fn foreign_named(&self, name: &[u8]) -> Option<Class>
-        ensures { option_map class_of result ≡ foreign_named (loaded_of self.now) name.now }
+    pub fn external_named(&self, name: &[u8]) -> Option<Class>
+        ensures { option_map class_of result ≡ external_named (loaded_of self.now) name.now }
     {
         self.exported.named(name)
     }
@@ -157,7 +157,7 @@ impl<'a> Tables<'a> {
     {
         let tree = u32::from(import);
         match self.exported.class(tree, class) {
-            Some(_) => Some(Class::Foreign(tree, class)),
+            Some(_) => Some(Class::External(tree, class)),
             None => None,
         }
     }

@@ -3,7 +3,7 @@
 
 ghost use Rattle.std.specs.Prelude.{◌≡◌, codes, option_and_then, option_map};
 ghost use Rattle.cjc_card.specs.Calls.{if_below, imported, imported_class_of, throwable};
-ghost use Rattle.cjc_card.specs.Classes.{foreign_named};
+ghost use Rattle.cjc_card.specs.Classes.{external_named};
 ghost use Rattle.cjc_card_heap.specs.Objects.{class_of};
 ghost use Rattle.cjc_card_lines.specs.Lines.{AreLines};
 ghost use Rattle.cjc_card_lookups.specs.Tables.{AreKept, loaded_of};
@@ -29,7 +29,7 @@ pub fn imported(tables: &Tables<'_>, name: &[u8]) -> Option<Class>
     requires { AreKept tables.now }
     ensures { option_map class_of result ≡ imported (loaded_of tables.now) name.now }
 {
-    match tables.foreign_named(name) {
+    match tables.external_named(name) {
         Some(class) => imported_class_of(tables, class),
         None => None,
     }
@@ -50,9 +50,9 @@ fn if_below(tables: &Tables<'_>, lines: &Lines, class: Class, above: Class) -> O
 // A class that is java/lang/Throwable or a subclass of it.
 fn if_throwable(tables: &Tables<'_>, lines: &Lines, class: Class) -> Option<Class>
     requires { AreLines (loaded_of tables.now) lines.now }
-    ensures { option_map class_of result ≡ option_and_then (if_below (loaded_of tables.now) (class_of class)) (foreign_named (loaded_of tables.now) (codes "java/lang/Throwable")) }
+    ensures { option_map class_of result ≡ option_and_then (if_below (loaded_of tables.now) (class_of class)) (external_named (loaded_of tables.now) (codes "java/lang/Throwable")) }
 {
-    match tables.foreign_named(b"java/lang/Throwable") {
+    match tables.external_named(b"java/lang/Throwable") {
         Some(above) => if_below(tables, lines, class, above),
         None => None,
     }

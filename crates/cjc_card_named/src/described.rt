@@ -100,7 +100,7 @@ pub(crate) fn declared(tables: &Tables<'_>, class: Class, id: &MemberId) -> Opti
 {
     match class {
         Class::Own(part, offset) => declared_in(tables, part, offset, id),
-        Class::Foreign(_, _) => None,
+        Class::External(_, _) => None,
     }
 }
 

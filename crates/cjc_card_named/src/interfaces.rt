@@ -3,7 +3,7 @@
 
 ghost use Rattle.std.specs.Prelude.{◌≡◌, map, option_map};
 ghost use Rattle.cjc_card.specs.Calls.{interface_token, start_selected, through_first, token_if_interface};
-ghost use Rattle.cjc_card.specs.Classes.{Own, Foreign, upwards};
+ghost use Rattle.cjc_card.specs.Classes.{Own, External, upwards};
 ghost use Rattle.cjc_card.specs.Dispatch.{dispatched_interface};
 ghost use Rattle.cjc_card_heap.specs.Objects.{class_of};
 ghost use Rattle.cjc_card_parts.specs.Kinds.{start_of};
@@ -23,9 +23,9 @@ use cjc_card_parts::Start;
 
 // The token of the method of a name in an imported interface.
 fn token_abroad(tables: &Tables<'_>, tree: u32, number: u8, id: &MemberId) -> Option<u64>
-    ensures { result ≡ interface_token (loaded_of tables.now) (Foreign tree number) id.now }
+    ensures { result ≡ interface_token (loaded_of tables.now) (External tree number) id.now }
 {
-    match tables.foreign(tree, number) {
+    match tables.external(tree, number) {
         Some(class) => match listed_token(class.methods.items(), id) {
             Some(Some(token)) => Some(u64::from(token)),
             Some(None) => None,
@@ -56,7 +56,7 @@ pub(crate) fn interface_token(tables: &Tables<'_>, class: Class, id: &MemberId) 
 {
     match class {
         Class::Own(part, offset) => token_within(tables, part, offset, id),
-        Class::Foreign(tree, number) => token_abroad(tables, tree, number, id),
+        Class::External(tree, number) => token_abroad(tables, tree, number, id),
     }
 }
 

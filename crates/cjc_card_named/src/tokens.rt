@@ -2,7 +2,7 @@
 
 ghost use Rattle.std.specs.Prelude.{◌≡◌, option_map, suc};
 ghost use Rattle.cjc_card.specs.Calls.{found_token, token_in_files};
-ghost use Rattle.cjc_card.specs.Classes.{depth, foreign};
+ghost use Rattle.cjc_card.specs.Classes.{depth, external};
 ghost use Rattle.cjc_card.specs.Dispatch.{Open, exported_line};
 ghost use Rattle.cjc_card_heap.specs.Objects.{class_of};
 ghost use Rattle.cjc_card_parts.specs.Kinds.{token_of};
@@ -36,7 +36,7 @@ fn token_abroad(
     id: &MemberId,
 ) -> Option<Option<Token>>
     requires { AreFiles (loaded_of tables.now) files.now }
-    ensures { option_map (option_map token_of) result ≡ option_map (option_map Open) (token_in_files (exported_line (loaded_of tables.now) (foreign (loaded_of tables.now) tree number)) id.now) }
+    ensures { option_map (option_map token_of) result ≡ option_map (option_map Open) (token_in_files (exported_line (loaded_of tables.now) (external (loaded_of tables.now) tree number)) id.now) }
 {
     match token_in_files(files.line(tree, number), id) {
         Some(token) => Some(open_token(token)),
@@ -61,7 +61,7 @@ fn found_token(
     }
     match class {
         None => None,
-        Some(Class::Foreign(tree, number)) => token_abroad(tables, files, tree, number, id),
+        Some(Class::External(tree, number)) => token_abroad(tables, files, tree, number, id),
         Some(Class::Own(part, offset)) => match declared(tables, Class::Own(part, offset), id) {
             Some(described) => Some(described_token(described)),
             None => {

@@ -11,14 +11,14 @@ use Rattle.cjc_judge.specs.Rules.{OnLevels, files_spelt, on_first, on_second}
 use Rattle.cjc_judge.proofs.OneRefusal.{one_first_of, one_on_levels}
 use Rattle.cjc_paired.specs.Pairs.{head_of, pair_breaks}
 use Rattle.cjc_sentences.specs.Consistent.{break_at}
-use Rattle.cjc_sentences.specs.declared.spot.Spot.{Spot}
+use Rattle.cjc_sentences.specs.declared.spot.ComponentPlace.{ComponentPlace}
 use Rattle.cjc_card_report.specs.Runs.{AnyBreaks, BreaksPair, Runs}
 use Rattle.cjc_card_report.proofs.Free.{of_pair, one_pair}
 
 none : {P : Type 0} (b : Break) → Among b [] → P
 none b among = elim among [ ]
 
-one_head : (spots : List Spot) (a b : Break) → Among a (map (break_at 719) (head_of spots)) → Among b (map (break_at 719) (head_of spots)) → a ≡ b
+one_head : (spots : List ComponentPlace) (a b : Break) → Among a (map (break_at 719) (head_of spots)) → Among b (map (break_at 719) (head_of spots)) → a ≡ b
 one_head [] a b h g = none a h
 one_head (s ∷ spots) a b foremost foremost = refl
 one_head (s ∷ spots) a b foremost (after g) = none b g

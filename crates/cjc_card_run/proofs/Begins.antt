@@ -4,14 +4,14 @@ use Rattle.std.specs.Prelude.{Option, if◌then◌else◌}
 use Rattle.cjc_script.specs.declared.value.Value.{Value}
 use Rattle.cjc_script.specs.declared.script.Entry.{Entry}
 use Rattle.cjc_script.specs.declared.report.Outcome.TheVariants.{Unfit}
-use Rattle.cjc_bytecode.specs.Machine.{Ended, Start, begins, entered_by, entry_start, entry_words, prepared, with_heap}
+use Rattle.cjc_bytecode.specs.Machine.{Ended, Start, begins, entered_by, entry_start, entry_words, turn_after_acts, with_heap}
 use Rattle.cjc_card.specs.Loaded.{Loaded}
 use Rattle.cjc_card.specs.ByToken.{by_token}
 use Rattle.cjc_card.specs.Methods.{Code}
 use Rattle.cjc_card_acts.specs.States.{HeapByToken, StateByToken, TurnByToken}
 use Rattle.cjc_card_turns.specs.States.{heap_of}
 
-module _ (l : Loaded) (e : Entry) (rest : List Entry) (s : StateByToken) (heap : HeapByToken) (done : Bool) (acts : (number : ℕ) (t : StateByToken) (go : StateByToken → TurnByToken) → prepared (by_token l) e.acts number (with_heap (by_token l) (heap_of s) t) go ≡ (if done then go (with_heap (by_token l) heap t) else Ended (Unfit number) (with_heap (by_token l) heap t))) (next : s.entries ≡ e ∷ rest) where
+module _ (l : Loaded) (e : Entry) (rest : List Entry) (s : StateByToken) (heap : HeapByToken) (done : Bool) (acts : (number : ℕ) (t : StateByToken) (go : StateByToken → TurnByToken) → turn_after_acts (by_token l) e.acts number (with_heap (by_token l) (heap_of s) t) go ≡ (if done then go (with_heap (by_token l) heap t) else Ended (Unfit number) (with_heap (by_token l) heap t))) (next : s.entries ≡ e ∷ rest) where
   -- what follows the acts
   abbrev follows : StateByToken → TurnByToken
   follows t = entered_by (by_token l) (entry_start (by_token l) (heap_of t) e) (entry_words (by_token l) (heap_of t) e) e rest t

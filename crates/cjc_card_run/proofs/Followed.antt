@@ -2,7 +2,7 @@
 use Rattle.std.proofs.Common.{◌≡◌, ℕ, ◌+◌, ◌≤◌, List, length, refl, sym, ap, ◌∙◌, arith}
 use Rattle.std.specs.Prelude.{IfOk, OnOk, Some, None, Result, Ok, Err, option_map, slice_get}
 use Rattle.cjc_capread.specs.Decode.{Instruction, size}
-use Rattle.cjc_bytecode.specs.Machine.{StuckAt, counted, failed, fetched, left, made, tossed}
+use Rattle.cjc_bytecode.specs.Machine.{StuckAt, counted, turn_after_fault, turn_after_fetch, left, made, turn_after_toss}
 use Rattle.cjc_card.specs.Loaded.{Loaded}
 use Rattle.cjc_card.specs.ByToken.{by_token}
 use Rattle.cjc_card.specs.Methods.{fetch, fetched_as}
@@ -36,8 +36,8 @@ module _ (l : Loaded) (f : FrameByToken) (w : Words) (e : EffectByToken) (v : St
   -- by what it asks for
   pub goes_on : (deed : Deed) → Follows e deed to (record { stack = f.stack; locals = f.locals }) w v.memory m → made (by_token l) e next f outer (with_frames had v) ≡ after_deed l deed to next (with_words w f) outer (with_frames had (with_memory m v))
   goes_on Go row = ap (λ x. made (by_token l) x next f outer (with_frames had v)) row.same
-  goes_on (Raise x) row = still _ (λ g s. failed (by_token l) (fault_of x) g outer s) row.same refl row.keeps
-  goes_on (Toss k) row = still _ (λ g s. tossed (by_token l) (slice_get (heap_of s) k) g outer k s) row.same refl row.keeps
+  goes_on (Raise x) row = still _ (λ g s. turn_after_fault (by_token l) (fault_of x) g outer s) row.same refl row.keeps
+  goes_on (Toss k) row = still _ (λ g s. turn_after_toss (by_token l) (slice_get (heap_of s) k) g outer k s) row.same refl row.keeps
   goes_on (Invoke callee) row = still _ (λ g s. counted (by_token l) ((by_token l).words (callee_of callee)) (callee_of callee) (record g { next = next }) outer s) row.same refl row.keeps
   goes_on (Leave r) row = still _ (λ g s. left (by_token l) (words_in r) g outer s) row.same refl row.keeps
   goes_on Stick row = still _ (λ g s. StuckAt g.at s) row.same refl row.keeps
@@ -86,11 +86,11 @@ module _ (l : Loaded) (f : FrameByToken) where
       ∙ goes_on l f w (effect_at i next v.memory) v m to next v.frames had deed row
 
   -- the instruction that is found
-  pub fetched_by : (outer : List FrameByToken) (s : StateByToken) (i : Instruction) → (let code = f.code in option_map (fetched_as l code.part (pool_of l code.part) f.at) (Some i) ≡ fetch l f.code f.at) → fetched (by_token l) ((by_token l).fetch f.code f.at) f outer s ≡ made_by l i f outer s
+  pub fetched_by : (outer : List FrameByToken) (s : StateByToken) (i : Instruction) → (let code = f.code in option_map (fetched_as l code.part (pool_of l code.part) f.at) (Some i) ≡ fetch l f.code f.at) → turn_after_fetch (by_token l) ((by_token l).fetch f.code f.at) f outer s ≡ made_by l i f outer s
   unfolding by_token
-  fetched_by outer s i e = ap (λ o. fetched (by_token l) o f outer s) (sym e)
+  fetched_by outer s i e = ap (λ o. turn_after_fetch (by_token l) o f outer s) (sym e)
 
   -- none is found
-  pub fetched_none : (outer : List FrameByToken) (s : StateByToken) → (let code = f.code in option_map (fetched_as l code.part (pool_of l code.part) f.at) None ≡ fetch l f.code f.at) → fetched (by_token l) ((by_token l).fetch f.code f.at) f outer s ≡ StuckAt f.at s
+  pub fetched_none : (outer : List FrameByToken) (s : StateByToken) → (let code = f.code in option_map (fetched_as l code.part (pool_of l code.part) f.at) None ≡ fetch l f.code f.at) → turn_after_fetch (by_token l) ((by_token l).fetch f.code f.at) f outer s ≡ StuckAt f.at s
   unfolding by_token
-  fetched_none outer s e = ap (λ o. fetched (by_token l) o f outer s) (sym e)
+  fetched_none outer s e = ap (λ o. turn_after_fetch (by_token l) o f outer s) (sym e)

@@ -4,7 +4,7 @@ use Rattle.std.specs.Prelude.{Option}
 use Rattle.cjc_script.specs.declared.report.Outcome.{Outcome}
 use Rattle.cjc_script.specs.declared.report.Report.{Report}
 use Rattle.cjc_bytecode.specs.Machine
-use Rattle.cjc_bytecode.specs.Machine.{StuckAt, and_then, begins, report, settled, spent_by, step, turn}
+use Rattle.cjc_bytecode.specs.Machine.{StuckAt, and_then, begins, report, report_after_turn, spent_by, step, turn}
 use Rattle.cjc_card.specs.Loaded.{Loaded}
 use Rattle.cjc_card.specs.ByToken.{by_token}
 use Rattle.cjc_card_acts.specs.States.{FrameByToken, StateByToken, TurnByToken}
@@ -15,13 +15,13 @@ use Rattle.cjc_card_run.specs.Starts.{goes_on}
 
 module _ (l : Loaded) where
   -- what a step makes known, or what follows it
-  pub settled_as : (had : List FrameByToken) (t : TurnByToken) (after : After) (s : StateByToken) (go : StateByToken → Report) → Leads had t after s → settled (by_token l) t go ≡ goes_on l after s go
-  settled_as had t (afters.On top) s go h = ap (λ x. settled (by_token l) x go) h
-  settled_as had t (afters.Ended o) s go h = ap (λ x. settled (by_token l) x go) h
-  settled_as had t (afters.Stuck at) s go h = ap (λ x. settled (by_token l) x go) h
+  pub settled_as : (had : List FrameByToken) (t : TurnByToken) (after : After) (s : StateByToken) (go : StateByToken → Report) → Leads had t after s → report_after_turn (by_token l) t go ≡ goes_on l after s go
+  settled_as had t (afters.On top) s go h = ap (λ x. report_after_turn (by_token l) x go) h
+  settled_as had t (afters.Ended o) s go h = ap (λ x. report_after_turn (by_token l) x go) h
+  settled_as had t (afters.Stuck at) s go h = ap (λ x. report_after_turn (by_token l) x go) h
 
   -- a turn of those that are left
-  pub run_more : (n i : ℕ) (s : StateByToken) (after : After) (t : StateByToken) → i < n → ((go : StateByToken → Report) → settled (by_token l) (turn (by_token l) s) go ≡ goes_on l after t go) → Machine.run (by_token l) (n - i) s ≡ goes_on l after t (Machine.run (by_token l) (n - (i + 1)))
+  pub run_more : (n i : ℕ) (s : StateByToken) (after : After) (t : StateByToken) → i < n → ((go : StateByToken → Report) → report_after_turn (by_token l) (turn (by_token l) s) go ≡ goes_on l after t go) → Machine.run (by_token l) (n - i) s ≡ goes_on l after t (Machine.run (by_token l) (n - (i + 1)))
   run_more n i s after t h e =
       let left : n - i ≡ suc (n - (i + 1)) = omega arith in
       ap (λ k. Machine.run (by_token l) k s) left ∙ e (Machine.run (by_token l) (n - (i + 1)))

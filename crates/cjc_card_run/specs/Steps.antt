@@ -1,7 +1,7 @@
 -- What is left to do of an instruction that has changed its frame, the heap and the static cells.
 use Rattle.std.specs.Prelude.{ℕ, ◌+◌, List, ◌∷◌, Some, slice_get}
 use Rattle.cjc_capread.specs.Decode.{Instruction}
-use Rattle.cjc_bytecode.specs.Machine.{Next, StuckAt, counted, failed, fetched, left, tossed}
+use Rattle.cjc_bytecode.specs.Machine.{Next, StuckAt, counted, turn_after_fault, turn_after_fetch, left, turn_after_toss}
 use Rattle.cjc_card.specs.Loaded.{Loaded}
 use Rattle.cjc_card.specs.ByToken.{by_token}
 use Rattle.cjc_card.specs.Methods.{fetched_as}
@@ -15,13 +15,13 @@ use Rattle.cjc_card_turns.specs.States.{heap_of, with_frames}
 
 -- where an instruction leads that stands at a frame's place
 abbrev pub made_by : Loaded → Instruction → FrameByToken → List FrameByToken → StateByToken → TurnByToken
-made_by l i f outer s = let p = (let code = f.code in code.part) in fetched (by_token l) (Some (fetched_as l p (pool_of l p) f.at i)) f outer s
+made_by l i f outer s = let p = (let code = f.code in code.part) in turn_after_fetch (by_token l) (Some (fetched_as l p (pool_of l p) f.at i)) f outer s
 
 -- where what it asks for leads, with the places where going on leads and behind it
 abbrev pub after_deed : Loaded → Deed → (to next : ℕ) → FrameByToken → List FrameByToken → StateByToken → TurnByToken
 after_deed l Go to next f outer s = Next (with_frames (record f { at = to } ∷ outer) s)
-after_deed l (Raise e) to next f outer s = failed (by_token l) (fault_of e) f outer s
-after_deed l (Toss k) to next f outer s = tossed (by_token l) (slice_get (heap_of s) k) f outer k s
+after_deed l (Raise e) to next f outer s = turn_after_fault (by_token l) (fault_of e) f outer s
+after_deed l (Toss k) to next f outer s = turn_after_toss (by_token l) (slice_get (heap_of s) k) f outer k s
 after_deed l (Invoke callee) to next f outer s = counted (by_token l) ((by_token l).words (callee_of callee)) (callee_of callee) (record f { next = next }) outer s
 after_deed l (Leave r) to next f outer s = left (by_token l) (words_in r) f outer s
 after_deed l Stick to next f outer s = StuckAt f.at s

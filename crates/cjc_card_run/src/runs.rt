@@ -3,7 +3,7 @@
 
 ghost use Rattle.std.specs.Prelude.{◌≡◌, ◌<◌, ◌≤◌, ◌+◌, ◌^◌, IfOk, OnOk};
 ghost use Rattle.cjc_script.specs.declared.report.Report.{Report};
-ghost use Rattle.cjc_bytecode.specs.Machine.{idle, report, run as run_on, settled, turn};
+ghost use Rattle.cjc_bytecode.specs.Machine.{idle, report, run as run_on, report_after_turn, turn};
 ghost use Rattle.cjc_card.specs.Loaded.{Loaded};
 ghost use Rattle.cjc_card.specs.ByToken.{by_token, run, start};
 ghost use Rattle.cjc_card_acts.specs.States.{StateByToken};
@@ -31,7 +31,7 @@ fn turn<L: LookUps>(
 ) -> Result<After, NoMemory>
     requires few { objects_at_most machine.old < 2 ^ 32 }
     requires count { machine.old.spent + 1 < 2 ^ 32 }
-    ensures next { IfOk result (λ after. (go : StateByToken → Report) → settled (by_token (L.loaded links.now)) (turn (by_token (L.loaded links.now)) (with_frame top machine.old)) go ≡ goes_on (L.loaded links.now) after machine.new go) }
+    ensures next { IfOk result (λ after. (go : StateByToken → Report) → report_after_turn (by_token (L.loaded links.now)) (turn (by_token (L.loaded links.now)) (with_frame top machine.old)) go ≡ goes_on (L.loaded links.now) after machine.new go) }
     ensures most { OnOk result (objects_at_most machine.new ≤ objects_at_most machine.old + 1) }
     ensures spent { OnOk result (machine.new.spent ≤ machine.old.spent + 1) }
 {

@@ -3,7 +3,7 @@
 
 ghost use Rattle.std.specs.Prelude.{◌≡◌, ◌<◌, ◌≤◌, ◌+◌, ◌^◌, ◌∷◌, ℕ, List, IfOk, OnOk};
 ghost use Rattle.cjc_decode.specs.Decoded.{IsAtFront, instruction_of};
-ghost use Rattle.cjc_bytecode.specs.Machine.{fetched, step};
+ghost use Rattle.cjc_bytecode.specs.Machine.{turn_after_fetch, step};
 ghost use Rattle.cjc_card.specs.ByToken.{by_token};
 ghost use Rattle.cjc_card_parts.specs.Kinds.{IsDecoded};
 ghost use Rattle.cjc_card_acts.specs.States.{FrameByToken};
@@ -90,7 +90,7 @@ fn fetch<L: LookUps>(
 ) -> Result<After, NoMemory>
     requires { objects_at_most machine.old < 2 ^ 32 }
     ensures next { IfOk result (λ after. (had : List FrameByToken) →
-        Leads had (fetched (by_token (L.loaded links.now)) ((by_token (L.loaded links.now)).fetch first.code first.at) first machine.old.frames (with_frames had machine.old)) after machine.new) }
+        Leads had (turn_after_fetch (by_token (L.loaded links.now)) ((by_token (L.loaded links.now)).fetch first.code first.at) first machine.old.frames (with_frames had machine.old)) after machine.new) }
     ensures most { OnOk result (objects_at_most machine.new ≤ objects_at_most machine.old + 1) }
     ensures spent { OnOk result (machine.new.spent ≡ machine.old.spent) }
 {

@@ -9,20 +9,20 @@ use Rattle.cjc_clinit.specs.Rules.{of_class, of_code}
 use Rattle.cjc_code.specs.PackageCodes.{all_codes}
 use Rattle.cjc_export.specs.declared.tree.ExportTree.{ExportTree}
 use Rattle.cjc_folder.specs.declared.folder.Parts.{Parts}
-use Rattle.cjc_judge.specs.Codes.{all_foreigns}
+use Rattle.cjc_judge.specs.Codes.{all_unsupported_insns}
 use Rattle.cjc_judge.specs.Rules.{Breach, BreaksGroup, of_file, of_world, of_names, of_group, files_spelt, has_applets, settings_of}
 use Rattle.cjc_judge.specs.Spelt.{classes_of}
 use Rattle.cjc_judge.specs.Types.{asks_types}
 use Rattle.cjc_judge.specs.declared.groups.Group.{Group}
 use Rattle.cjc_judge.specs.declared.groups.Group.TheVariants as groups
 use Rattle.cjc_judge.proofs.Early.{asked}
-use Rattle.cjc_judge.proofs.Families.{foreigns_third, checks_language, tokens_fourth}
+use Rattle.cjc_judge.proofs.Families.{unsupported_insns_third, checks_language, tokens_fourth}
 use Rattle.cjc_judge.proofs.Firsts.{file_family, world_family, names_family}
 use Rattle.cjc_list.specs.Listed.{ListTree}
 use Rattle.cjc_running.specs.Ready.{BreaksScript}
 use Rattle.cjc_sentences.specs.Complete.{Complete, complete}
 use Rattle.cjc_sentences.specs.Consistent.{Sentence, break_at, breaks_of, sentences, where_complete}
-use Rattle.cjc_sentences.specs.declared.spot.Spot.{Spot}
+use Rattle.cjc_sentences.specs.declared.spot.ComponentPlace.{ComponentPlace}
 use Rattle.cjc_card_running.specs.Ready.{BreaksSentence, tested}
 
 -- ---- the package: one line a group
@@ -38,7 +38,7 @@ package_rank list files b (of_names h) = let two = names_family list files b h i
 package_rank list files b (of_group (i, g, at, h)) = by g at h
   where
     by : (g : Group) → slice_get tested i ≡ Some g → BreaksGroup list files g b → b.rank.family ≤ 4
-    by groups.Unsupported at (trees, spelt, among) = let three = (foreigns_third (files_spelt list trees) (all_foreigns (classes_of trees))).holds b among in omega (arith, three)
+    by groups.Unsupported at (trees, spelt, among) = let three = (unsupported_insns_third (files_spelt list trees) (all_unsupported_insns (classes_of trees))).holds b among in omega (arith, three)
     by groups.Language at ((trees, world, among), third) = ((checks_language list.name (files_spelt list trees) (all_codes (classes_of trees)) (settings_of list)).holds b among).1
     by groups.Initialisers at (trees, world, of_class n c is h) = let three = ap (λ (x : Break). x.rank.family) h.is in omega (arith, three)
     by groups.Initialisers at (trees, world, of_code n code is h) = let three = ap (λ (x : Break). x.rank.family) h.is in omega (arith, three)
@@ -68,12 +68,12 @@ all_seventh : (cap : CapTree) (exports : List ExportTree) → AreSeventh (senten
 unfolding AreSeventh
 all_seventh cap exports = (refl, (refl, complete_seventh (complete cap) exports))
 
-in_spots : (number : ℕ) (spots : List Spot) (b : Break) → number / 100 ≡ 7 → Among b (map (break_at number) spots) → b.rank.family ≡ 7
+in_spots : (number : ℕ) (spots : List ComponentPlace) (b : Break) → number / 100 ≡ 7 → Among b (map (break_at number) spots) → b.rank.family ≡ 7
 in_spots number [] b e among = absurd (elim among [ ])
 in_spots number (s ∷ spots) b e foremost = e
 in_spots number (s ∷ spots) b e (after more) = in_spots number spots b e more
 
-in_sentence : (needed : Bool) (number : ℕ) (spots : List Spot) (b : Break) → number / 100 ≡ 7 → Among b (if needed then map (break_at number) spots else []) → b.rank.family ≡ 7
+in_sentence : (needed : Bool) (number : ℕ) (spots : List ComponentPlace) (b : Break) → number / 100 ≡ 7 → Among b (if needed then map (break_at number) spots else []) → b.rank.family ≡ 7
 in_sentence true number spots b e among = in_spots number spots b e among
 in_sentence false number spots b e among = absurd (elim among [ ])
 

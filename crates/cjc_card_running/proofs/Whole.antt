@@ -24,7 +24,7 @@ use Rattle.cjc_sentences.specs.Complete.{AreSmall, Complete, IsSmall, class_info
 use Rattle.cjc_sentences.specs.Consistent.{Consistent, is_true}
 use Rattle.cjc_sentences.specs.Listed.{directory_spots, may_be_absent, size_agrees, size_spots}
 use Rattle.cjc_sentences.specs.Spots.{beside, unless}
-use Rattle.cjc_sentences.specs.declared.spot.Spot.{Spot}
+use Rattle.cjc_sentences.specs.declared.spot.ComponentPlace.{ComponentPlace}
 
 -- ---- Directory has twelve sizes
 
@@ -98,15 +98,15 @@ right_and : (a b : Bool) → (a && b) ≡ true → b ≡ true
 right_and true b e = e
 right_and false b e = absurd cc
 
-empty_where_true : (spots : List Spot) → is_true spots ≡ true → spots ≡ []
+empty_where_true : (spots : List ComponentPlace) → is_true spots ≡ true → spots ≡ []
 empty_where_true [] e = refl
 empty_where_true (s ∷ spots) e = absurd cc
 
-apart : (xs ys : List Spot) → xs ++ ys ≡ [] → (xs ≡ []) × (ys ≡ [])
+apart : (xs ys : List ComponentPlace) → xs ++ ys ≡ [] → (xs ≡ []) × (ys ≡ [])
 apart [] ys e = (refl, e)
 apart (x ∷ xs) ys e = absurd cc
 
-none_unless : (b : Bool) (s : Spot) → unless b s ≡ [] → b ≡ true
+none_unless : (b : Bool) (s : ComponentPlace) → unless b s ≡ [] → b ≡ true
 none_unless true s e = refl
 none_unless false s e = absurd cc
 

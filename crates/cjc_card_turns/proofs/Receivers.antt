@@ -7,7 +7,7 @@ use Rattle.cjc_script.specs.declared.value.Value.TheVariants.{Null, Obj}
 use Rattle.cjc_script.specs.Sorts.{Shape}
 use Rattle.cjc_bytecode.specs.Calculations.{NullPointer}
 use Rattle.cjc_bytecode.specs.Effects.{HeapObject, shape}
-use Rattle.cjc_bytecode.specs.Machine.{StuckAt, counted, failed, on_receiver, reaches, reaches_on, with_args}
+use Rattle.cjc_bytecode.specs.Machine.{StuckAt, counted, turn_after_fault, on_receiver, reaches, reaches_on, with_args}
 use Rattle.cjc_card.specs.Loaded.{Loaded}
 use Rattle.cjc_card.specs.Classes.{Class, Field}
 use Rattle.cjc_card.specs.Operations.{Callee}
@@ -25,7 +25,7 @@ module _ (l : Loaded) (m : Callee) (f : FrameByToken) (outer : List FrameByToken
       subst (λ (w : Value). on_receiver (by_token l) m (w ∷ args) f outer s ≡ reaches_on (by_token l) m (slice_get (heap_of s) k) (w ∷ args) f outer s) same refl
 
   -- it is null
-  pub on_null_first : (args : List Value) → Some Null ≡ slice_get args 0 → on_receiver (by_token l) m args f outer s ≡ failed (by_token l) NullPointer f outer s
+  pub on_null_first : (args : List Value) → Some Null ≡ slice_get args 0 → on_receiver (by_token l) m args f outer s ≡ turn_after_fault (by_token l) NullPointer f outer s
   on_null_first [] e = absurd (cc e)
   on_null_first (v ∷ args) e =
       let same : Null ≡ v = cc e in

@@ -6,7 +6,7 @@ ghost use Rattle.std.specs.List.{All};
 ghost use Rattle.cjc_script.specs.Sorts.{result_fits};
 ghost use Rattle.cjc_acts.specs.Meant.{sort_meant};
 ghost use Rattle.cjc_bytecode.specs.Arguments.{result_of, result_words};
-ghost use Rattle.cjc_bytecode.specs.Machine.{answered, is_at_once, left, noted, outside, replied, returned};
+ghost use Rattle.cjc_bytecode.specs.Machine.{turn_after_answer, is_at_once, left, turn_after_event, outside, turn_after_reply, returned};
 ghost use Rattle.cjc_card.specs.Loaded.{Loaded};
 ghost use Rattle.cjc_card.specs.ByToken.{by_token};
 ghost use Rattle.cjc_card_frame.specs.Frames.{IsWord};
@@ -121,7 +121,7 @@ impl<'a> Machine<'a> {
     ) -> Result<After, NoMemory>
         requires { objects_at_most self.old < 2 ^ 32 }
         ensures next { IfOk result (λ after. (had : List FrameByToken) →
-            Leads had (replied (by_token (L.loaded links.now)) answer.now.reply answer.now.number (option_map sort_meant sort.entry) frame self.old.frames (with_frames had self.old)) after self.new) }
+            Leads had (turn_after_reply (by_token (L.loaded links.now)) answer.now.reply answer.now.number (option_map sort_meant sort.entry) frame self.old.frames (with_frames had self.old)) after self.new) }
         ensures most { OnOk result (objects_at_most self.new ≤ objects_at_most self.old + 1) }
         ensures spent { OnOk result (self.new.spent ≡ self.old.spent) }
     {
@@ -150,7 +150,7 @@ impl<'a> Machine<'a> {
     ) -> Result<After, NoMemory>
         requires { objects_at_most self.old < 2 ^ 32 }
         ensures next { IfOk result (λ after. (had : List FrameByToken) →
-            Leads had (answered (by_token (L.loaded links.now)) self.old.answers (option_map sort_meant sort.entry) frame self.old.frames (with_frames had self.old)) after self.new) }
+            Leads had (turn_after_answer (by_token (L.loaded links.now)) self.old.answers (option_map sort_meant sort.entry) frame self.old.frames (with_frames had self.old)) after self.new) }
         ensures most { OnOk result (objects_at_most self.new ≤ objects_at_most self.old + 1) }
         ensures spent { OnOk result (self.new.spent ≡ self.old.spent) }
     {
@@ -177,7 +177,7 @@ impl<'a> Machine<'a> {
     ) -> Result<After, NoMemory>
         requires { objects_at_most self.old < 2 ^ 32 }
         ensures next { IfOk result (λ after. (had : List FrameByToken) →
-            Leads had (noted (by_token (L.loaded links.now)) (method_id method.entry) (option_map sort_meant sort.entry) values frame self.old.frames (with_frames had self.old)) after self.new) }
+            Leads had (turn_after_event (by_token (L.loaded links.now)) (method_id method.entry) (option_map sort_meant sort.entry) values frame self.old.frames (with_frames had self.old)) after self.new) }
         ensures most { OnOk result (objects_at_most self.new ≤ objects_at_most self.old + 1) }
         ensures spent { OnOk result (self.new.spent ≡ self.old.spent) }
     {

@@ -2,7 +2,7 @@
 
 ghost use Rattle.std.specs.Prelude.{◌≡◌, ◌<◌, ◌≤◌, ◌+◌, ◌^◌, ◌∷◌, ℕ, List, Some, slice_get, IfOk, OnOk};
 ghost use Rattle.cjc_script.specs.Sorts.{array_name};
-ghost use Rattle.cjc_bytecode.specs.Machine.{caught, caught_at, failed, raised, tossed, type_name};
+ghost use Rattle.cjc_bytecode.specs.Machine.{caught, caught_at, turn_after_fault, turn_after_raise, turn_after_toss, type_name};
 ghost use Rattle.cjc_card.specs.ByToken.{by_token};
 ghost use Rattle.cjc_card_frame.specs.Frames.{fault_of};
 ghost use Rattle.cjc_card_heap.specs.Objects.{class_of, element_of, shape_of};
@@ -119,7 +119,7 @@ impl<'a> Machine<'a> {
     ) -> Result<After, NoMemory>
         requires { objects_at_most self.old < 2 ^ 32 }
         ensures next { IfOk result (λ after. (had : List FrameByToken) (otherwise : TurnByToken) →
-            Leads had (raised (by_token (L.loaded links.now)) (Some (class_of class)) frame self.old.frames (with_frames had self.old) otherwise) after self.new) }
+            Leads had (turn_after_raise (by_token (L.loaded links.now)) (Some (class_of class)) frame self.old.frames (with_frames had self.old) otherwise) after self.new) }
         ensures most { OnOk result (objects_at_most self.new ≤ objects_at_most self.old + 1) }
         ensures spent { OnOk result (self.new.spent ≡ self.old.spent) }
     {
@@ -146,7 +146,7 @@ impl<'a> Machine<'a> {
     ) -> Result<After, NoMemory>
         requires { objects_at_most self.old < 2 ^ 32 }
         ensures next { IfOk result (λ after. (had : List FrameByToken) →
-            Leads had (failed (by_token (L.loaded links.now)) (fault_of exception) frame self.old.frames (with_frames had self.old)) after self.new) }
+            Leads had (turn_after_fault (by_token (L.loaded links.now)) (fault_of exception) frame self.old.frames (with_frames had self.old)) after self.new) }
         ensures most { OnOk result (objects_at_most self.new ≤ objects_at_most self.old + 1) }
         ensures spent { OnOk result (self.new.spent ≡ self.old.spent) }
     {
@@ -165,7 +165,7 @@ impl<'a> Machine<'a> {
         object: u32,
     ) -> Result<After, NoMemory>
         ensures next { IfOk result (λ after. (had : List FrameByToken) →
-            Leads had (tossed (by_token (L.loaded links.now)) (slice_get (heap_of self.old) object) frame self.old.frames object (with_frames had self.old)) after self.new) }
+            Leads had (turn_after_toss (by_token (L.loaded links.now)) (slice_get (heap_of self.old) object) frame self.old.frames object (with_frames had self.old)) after self.new) }
         ensures most { OnOk result (objects_at_most self.new ≤ objects_at_most self.old) }
         ensures spent { OnOk result (self.new.spent ≡ self.old.spent) }
     {

@@ -13,17 +13,17 @@ use cjc_bytes::NoMemory;
 use cjc_codes::{Body, Cutting, cut, whole_spot};
 use cjc_jumps::{all_indices, handler_spot, index_spot, jump_spot, location_spot};
 use cjc_lookup::Names;
-use cjc_sentences::Spot;
+use cjc_sentences::ComponentPlace;
 use std::alloc::Global;
 
 /// Where 709, 710, 711, 712 and 714 are broken first, each by itself.
 #[derive(Clone, Copy)]
 pub(crate) struct Coded {
-    pub(crate) whole: Option<Spot>,
-    pub(crate) jumps: Option<Spot>,
-    pub(crate) indices: Option<Spot>,
-    pub(crate) handlers: Option<Spot>,
-    pub(crate) locations: Option<Spot>,
+    pub(crate) whole: Option<ComponentPlace>,
+    pub(crate) jumps: Option<ComponentPlace>,
+    pub(crate) indices: Option<ComponentPlace>,
+    pub(crate) handlers: Option<ComponentPlace>,
+    pub(crate) locations: Option<ComponentPlace>,
 }
 
 /// The codes of methods that were cut, none where that ended.
@@ -43,7 +43,7 @@ fn in_bodies(
     alloc: Global,
     names: &Names<'_>,
     bodies: &[Body<'_>],
-    whole: Option<Spot>,
+    whole: Option<ComponentPlace>,
 ) -> Result<Coded, NoMemory>
     requires small { AreSmall (complete_of names.now.parts.now) }
     requires kept { AreBodies bodies.now }

@@ -21,15 +21,15 @@ use cjc_capread::ClassInfo;
 use cjc_counts::{image_spot, import_spot, stop_spot};
 use cjc_export::ExportTree;
 use cjc_lookup::{Names, Parts, first_class, starts, tokens_of};
-use cjc_sentences::Spot;
+use cjc_sentences::ComponentPlace;
 use std::alloc::Global;
 
 /// Where 703, 713 and 716 are broken first, each by itself.
 #[derive(Clone, Copy)]
 pub(crate) struct Counted {
-    pub(crate) imports: Option<Spot>,
-    pub(crate) stops: Option<Spot>,
-    pub(crate) image: Option<Spot>,
+    pub(crate) imports: Option<ComponentPlace>,
+    pub(crate) stops: Option<ComponentPlace>,
+    pub(crate) image: Option<ComponentPlace>,
 }
 
 /// Where each sentence from 703 on is broken first, each by itself.

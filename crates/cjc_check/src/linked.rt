@@ -22,20 +22,20 @@ use cjc_links::{
 };
 use cjc_lookup::{Methods, Names, method_starts, static_starts};
 use cjc_members::member_spots;
-use cjc_sentences::Spot;
+use cjc_sentences::ComponentPlace;
 use std::alloc::Global;
 
 /// Where 704 to 708, 715, 717 and 718 are broken first, each by itself.
 #[derive(Clone, Copy)]
 pub(crate) struct Linked {
-    pub(crate) class_refs: Option<Spot>,
-    pub(crate) supers: Option<Spot>,
-    pub(crate) tables: Option<Spot>,
-    pub(crate) maps: Option<Spot>,
-    pub(crate) entries: Option<Spot>,
-    pub(crate) installs: Option<Spot>,
-    pub(crate) exported: Option<Spot>,
-    pub(crate) descriptor: Option<Spot>,
+    pub(crate) class_refs: Option<ComponentPlace>,
+    pub(crate) supers: Option<ComponentPlace>,
+    pub(crate) tables: Option<ComponentPlace>,
+    pub(crate) maps: Option<ComponentPlace>,
+    pub(crate) entries: Option<ComponentPlace>,
+    pub(crate) installs: Option<ComponentPlace>,
+    pub(crate) exported: Option<ComponentPlace>,
+    pub(crate) descriptor: Option<ComponentPlace>,
 }
 
 /// The first places, where methods are kept, and of each class whether upwards some class is imported.
@@ -43,7 +43,7 @@ fn by_methods(
     alloc: Global,
     methods: &Methods<'_>,
     leaving: &[bool],
-    descriptor: Option<Spot>,
+    descriptor: Option<ComponentPlace>,
 ) -> Result<Linked, NoMemory>
     requires ready { HasMethods methods.now }
     requires small { AreSmall (complete_of methods.now.names.now.parts.now) }

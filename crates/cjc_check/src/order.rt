@@ -5,16 +5,16 @@ ghost use Rattle.std.specs.Prelude.{◌≡◌, ◌&&◌, ◌++◌, Bool, List, o
 ghost use Rattle.cjc_bytes.specs.Breaks.{Break as BreakOf, IsFirstOf};
 ghost use Rattle.cjc_bytes.specs.Told.{break_of, spot_of};
 ghost use Rattle.cjc_check.specs.Order.{as_break};
-ghost use Rattle.cjc_sentences.specs.Consistent.{breaks_of, is_true, place_of, sentence, file_name as file_name_lem};
+ghost use Rattle.cjc_sentences.specs.Consistent.{breaks_of, is_true, place_of, sentence, file_name};
 ghost use Rattle.cjc_sentences.specs.Spots.{first};
-ghost use Rattle.cjc_sentences.specs.declared.spot.Spot.{Spot as Place};
+ghost use Rattle.cjc_sentences.specs.declared.spot.ComponentPlace.{ComponentPlace as Place};
 
-use cjc_bytes::{Break, FileKey, Part, PlaceRef, Spot as SpotRef, first};
-use cjc_sentences::Spot;
+use cjc_bytes::{Break, FileKey, Part, PlaceRef, RulePlace, first};
+use cjc_sentences::ComponentPlace;
 
 /// The name of a component's file by its tag, the folder aside.
 fn file_name(tag: u8) -> &'static [u8]
-    ensures { result.now ≡ file_name_lem tag }
+    ensures { result.now ≡ file_name tag }
 {
     match tag {
         1 => b"Header.cap",
@@ -32,10 +32,10 @@ fn file_name(tag: u8) -> &'static [u8]
 }
 
 /// A place in a component as a refusal tells it.
-fn place_of(spot: Spot) -> SpotRef<'static>
+fn place_of(spot: ComponentPlace) -> RulePlace<'static>
     ensures { spot_of result ≡ place_of spot }
 {
-    SpotRef {
+    RulePlace {
         file: FileKey::Component(spot.component),
         class: 0,
         member: 0,
@@ -49,7 +49,7 @@ fn place_of(spot: Spot) -> SpotRef<'static>
 }
 
 /// The first place of a sentence as a break, where those that it needs are true.
-fn as_break(number: u16, needed: bool, spot: Option<Spot>) -> Option<Break<'static>>
+fn as_break(number: u16, needed: bool, spot: Option<ComponentPlace>) -> Option<Break<'static>>
     ensures { option_map break_of result ≡ as_break number needed spot }
 {
     match spot {
@@ -68,7 +68,7 @@ fn as_break(number: u16, needed: bool, spot: Option<Spot>) -> Option<Break<'stat
 }
 
 /// Whether a sentence is true, by its first place.
-pub(crate) fn is_true(spot: Option<Spot>) -> bool
+pub(crate) fn is_true(spot: Option<ComponentPlace>) -> bool
     ensures { (spots : List Place) → spot ≡ first spots → result ≡ is_true spots }
 {
     spot.is_none()
@@ -86,7 +86,7 @@ pub(crate) fn both(one: bool, other: bool) -> bool
 pub(crate) fn with_sentence(
     number: u16,
     needed: bool,
-    spot: Option<Spot>,
+    spot: Option<ComponentPlace>,
     behind: Option<Break<'static>>,
 ) -> Option<Break<'static>>
     ensures { (need : Bool) (spots : List Place) (rest : List BreakOf) → needed ≡ need → spot ≡ first spots → IsFirstOf rest (option_map break_of behind.entry) → IsFirstOf (breaks_of (sentence number need spots) ++ rest) (option_map break_of result) }

@@ -13,7 +13,7 @@ use Rattle.cjc_folder.specs.Reads.{export_places, read_component}
 use Rattle.cjc_folder.specs.declared.folder.Folder.{Folder}
 use Rattle.cjc_folder.proofs.Ordered.{AreOrdered, exports_ordered}
 use Rattle.cjc_sentences.specs.Consistent.{Sentence, break_at, breaks, breaks_of, sentences}
-use Rattle.cjc_sentences.specs.declared.spot.Spot.{Spot}
+use Rattle.cjc_sentences.specs.declared.spot.ComponentPlace.{ComponentPlace}
 use Rattle.cjc_checking.specs.Check.{Checks, check_breaks, sentence_breaks}
 
 -- ---- ranks
@@ -92,12 +92,12 @@ in_components (tag ∷ tags) (x ∷ files) b among = elim (among_either b (break
 
 -- ---- sentences
 
-in_spots : (number : ℕ) (spots : List Spot) (b : Break) → Among b (map (break_at number) spots) → OfComponent b
+in_spots : (number : ℕ) (spots : List ComponentPlace) (b : Break) → Among b (map (break_at number) spots) → OfComponent b
 in_spots number [] b among = none b among
 in_spots number (s ∷ spots) b foremost = record { tag = s.component; place = s.offset; rule = number; is = refl }
 in_spots number (s ∷ spots) b (after more) = in_spots number spots b more
 
-in_sentence : (needed : Bool) (number : ℕ) (spots : List Spot) (b : Break) → Among b (if needed then map (break_at number) spots else []) → OfComponent b
+in_sentence : (needed : Bool) (number : ℕ) (spots : List ComponentPlace) (b : Break) → Among b (if needed then map (break_at number) spots else []) → OfComponent b
 in_sentence true number spots b among = in_spots number spots b among
 in_sentence false number spots b among = none b among
 

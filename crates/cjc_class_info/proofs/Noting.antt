@@ -5,7 +5,7 @@ use Rattle.std.specs.Str.{bytes_eq}
 use Rattle.std.proofs.Math.Seq.{drop-cons}
 use Rattle.cjc_capread.specs.declared.tree.ClassRef.{ClassRef}
 use Rattle.cjc_capread.specs.declared.tree.ClassRef.TheVariants.{Inside, Outside}
-use Rattle.cjc_card.specs.Classes.{Class, Foreign, or_else}
+use Rattle.cjc_card.specs.Classes.{Class, External, or_else}
 use Rattle.cjc_components.specs.Names.{ref_to}
 use Rattle.cjc_world.proofs.Settled.{bytes-true}
 use Rattle.cjc_class_info.specs.Infos.{end_of, spot_in}
@@ -46,7 +46,7 @@ else_outside (Some r) b file token s = refl
 else_outside None true file token s = refl
 else_outside None false file token s = refl
 
-pub else_file : (a : Option ClassRef) (file : ℕ) (t : Option ℕ) (rest : Option Class) → or_else (or_else a (option_map (Outside file) t)) (option_map ref_to rest) ≡ or_else a (option_map ref_to (or_else (option_map (Foreign file) t) rest))
+pub else_file : (a : Option ClassRef) (file : ℕ) (t : Option ℕ) (rest : Option Class) → or_else (or_else a (option_map (Outside file) t)) (option_map ref_to rest) ≡ or_else a (option_map ref_to (or_else (option_map (External file) t) rest))
 else_file (Some r) file t rest = refl
 else_file None file None rest = refl
 else_file None file (Some token) rest = refl

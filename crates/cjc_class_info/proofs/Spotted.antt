@@ -10,7 +10,7 @@ use Rattle.cjc_capread.specs.declared.tree.InterfaceEntry.{InterfaceEntry}
 use Rattle.cjc_capread.specs.declared.tree.ClassEntry.{ClassEntry}
 use Rattle.cjc_sentences.specs.Spots.{placed, starts}
 use Rattle.cjc_sentences.specs.Complete.{class_size, interface_size, map_size}
-use Rattle.cjc_card.specs.Classes.{Class as CardClass, Own, Foreign, foreign_from, or_else}
+use Rattle.cjc_card.specs.Classes.{Class as CardClass, Own, External, external_from, or_else}
 use Rattle.cjc_classfile.specs.declared.tree.ClassTree.{ClassTree}
 use Rattle.cjc_world.specs.Files.{Files}
 use Rattle.cjc_world.specs.Classes.{Class, all_classes}
@@ -179,13 +179,13 @@ pub record AreNoted (files : Files) (ns : List ℕ) (ts : List ClassTable) (r0 r
   pub none : (x : List ℕ) → r0 x ≡ None
   pub first : (x : List ℕ) → r1 x ≡ or_else (r0 x) (option_map Inside (spot_in (number_named files.classes) (bytes_at (all_classes files) files.classes) 2 ns x))
   pub second : (x : List ℕ) → r2 x ≡ or_else (r1 x) (option_map Inside (spot_in (table_named files.classes) table_bytes (end_of (bytes_at (all_classes files) files.classes) 2 ns) ts x))
-  pub third : (x : List ℕ) → r3 x ≡ or_else (r2 x) (option_map ref_to (foreign_from 0 files.exports x))
+  pub third : (x : List ℕ) → r3 x ≡ or_else (r2 x) (option_map ref_to (external_from 0 files.exports x))
 
 joined : (a b : Option ℕ) (f : Option CardClass) → unwrap_or (or_else (or_else (or_else None (option_map Inside a)) (option_map Inside b)) (option_map ref_to f)) (Inside 0) ≡ ref_to (unwrap_or (or_else (option_map (Own 0) (or_else a b)) f) (Own 0 0))
 joined (Some a) b f = refl
 joined None (Some b) f = refl
 joined None None (Some (Own q at)) = refl
-joined None None (Some (Foreign file token)) = refl
+joined None None (Some (External file token)) = refl
 joined None None None = refl
 
 own-refs : (p : Package) (ns : List ℕ) (ts : List ClassTable) (r0 r1 r2 : List ℕ → Option ClassRef) (r : ClassRefs) → AreNoted p.files ns ts r0 r1 r2 (ref_in r) → AreRefs p r
@@ -193,7 +193,7 @@ unfolding ref_of
 own-refs p ns ts r0 r1 r2 r n x =
     let a = spot_in (number_named p.files.classes) (bytes_at (world p) p.files.classes) 2 ns x in
     let b = spot_in (table_named p.files.classes) table_bytes (end_of (bytes_at (world p) p.files.classes) 2 ns) ts x in
-    let f = foreign_from 0 p.files.exports x in
+    let f = external_from 0 p.files.exports x in
     ap (λ (o : Option ClassRef). unwrap_or o (Inside 0))
     (n.third x ∙ ap (λ (o : Option ClassRef). or_else o (option_map ref_to f)) (n.second x ∙ ap (λ (o : Option ClassRef). or_else o (option_map Inside b)) (n.first x ∙ ap (λ (o : Option ClassRef). or_else o (option_map Inside a)) (n.none x))))
     ∙ joined a b f

@@ -3,7 +3,7 @@
 
 ghost use Rattle.std.specs.Prelude.{◌≡◌, ℕ, List, option_map, IfOk, OnOk};
 ghost use Rattle.cjc_capread.specs.declared.tree.ClassRef.TheVariants.{Outside};
-ghost use Rattle.cjc_card.specs.Classes.{foreign_from, or_else, token_named};
+ghost use Rattle.cjc_card.specs.Classes.{external_from, or_else, token_named};
 ghost use Rattle.cjc_components.specs.Names.{ref_to};
 ghost use Rattle.cjc_class_info.specs.Refs.{ref_in};
 
@@ -50,7 +50,7 @@ pub(crate) fn note_files(
     refs: &mut ClassRefs,
     exports: &[ExportTree],
 ) -> Result<(), NoMemory>
-    ensures { OnOk result ((x : List ℕ) → ref_in refs.new x ≡ or_else (ref_in refs.old x) (option_map ref_to (foreign_from 0 exports.now x))) }
+    ensures { OnOk result ((x : List ℕ) → ref_in refs.new x ≡ or_else (ref_in refs.old x) (option_map ref_to (external_from 0 exports.now x))) }
 {
     for (file, tree) in exports.iter().enumerate() {
         note_file(alloc, refs, number_of(file)?, tree.classes.items())?;

@@ -4,7 +4,7 @@ use Rattle.std.specs.Prelude.{not, ◌&&◌, ◌||◌, ◌⊎◌, Option, Some, 
 use Rattle.std.specs.List.{list_any}
 use Rattle.std.proofs.lemmas.Bool.{eqb-true}
 use Rattle.cjc_world.specs.Classes.{Class, class_named}
-use Rattle.cjc_world.specs.Kin.{Lists, foremost, after}
+use Rattle.cjc_world.specs.Supertypes.{Lists, foremost, after}
 use Rattle.cjc_world.specs.Order.{is_in, is_of_kind, waits, names_waiting, may_stand, next, and_then, lined_up, in_order}
 
 -- ---- what stands next waits for none of its supers

@@ -16,7 +16,7 @@ use Rattle.cjc_capread.specs.ClassRefs.{is_inside}
 use Rattle.cjc_classfile.specs.declared.tree.ClassTree.{ClassTree}
 use Rattle.cjc_classfile.specs.declared.tree.FieldTree.{FieldTree}
 use Rattle.cjc_clinit.specs.Image.{field_id}
-use Rattle.cjc_sentences.specs.declared.spot.Spot.{Spot}
+use Rattle.cjc_sentences.specs.declared.spot.ComponentPlace.{ComponentPlace}
 use Rattle.cjc_sentences.specs.Spots.{in_info, numbered, begins, unless}
 use Rattle.cjc_sentences.specs.Classes.{classes_at, interfaces_at, is_start}
 use Rattle.cjc_sentences.specs.Complete.{exported_size}
@@ -75,7 +75,7 @@ found_only test f x (y ∷ xs) (behind h) e only = by (test (f y)) refl (found_o
     by true g rest = ap (λ z. Some (f z)) (only y at_front g)
     by false g rest = rest
 
-none_numbered : {X A : Type 0} (size : A → ℕ) (broken : ℕ → ℕ → A → List Spot) (f : X → A) (n at : ℕ) (xs : List X) → ((k at : ℕ) (x : X) → slice_get xs k ≡ Some x → broken (n + k) at (f x) ≡ []) → numbered size broken n at (map f xs) ≡ []
+none_numbered : {X A : Type 0} (size : A → ℕ) (broken : ℕ → ℕ → A → List ComponentPlace) (f : X → A) (n at : ℕ) (xs : List X) → ((k at : ℕ) (x : X) → slice_get xs k ≡ Some x → broken (n + k) at (f x) ≡ []) → numbered size broken n at (map f xs) ≡ []
 unfolding numbered
 none_numbered size broken f n at [] h = refl
 none_numbered size broken f n at (x ∷ xs) h =

@@ -12,7 +12,7 @@ use Rattle.cjc_sentences.specs.Complete.{class_size}
 use Rattle.cjc_sentences.specs.Classes.{classes_at, first_class}
 use Rattle.cjc_sentences.specs.Tables.{leaves}
 use Rattle.cjc_world.specs.Classes.{Class, class_named}
-use Rattle.cjc_world.specs.Kin.{Lists, foremost}
+use Rattle.cjc_world.specs.Supertypes.{Lists, foremost}
 use Rattle.cjc_world.specs.Order.{in_order}
 use Rattle.cjc_world.specs.Rules.{is_interface_of}
 use Rattle.cjc_world.proofs.Cycles.{class_named-name}

@@ -5,7 +5,7 @@ use Rattle.std.proofs.lemmas.Slice.Eq.{bytes_eq-Decides}
 use Rattle.std.specs.Prelude.{◌||◌, ◌⊎◌, Some, map, flat_map, slice_get, sum_by}
 use Rattle.std.proofs.lemmas.Bool.Decides.{nat_tests}
 use Rattle.std.proofs.lemmas.List.Sums.{sum_by-cons}
-use Rattle.cjc_sentences.specs.declared.spot.Spot.{Spot}
+use Rattle.cjc_sentences.specs.declared.spot.ComponentPlace.{ComponentPlace}
 use Rattle.cjc_sentences.specs.Spots.{along, beside, placed, starts, begins}
 use Rattle.cjc_vtable.proofs.Filed.{Has, at_front, behind}
 use Rattle.cjc_component_laws.proofs.Tests.{same_number, none_in_both}
@@ -86,12 +86,12 @@ get-within (x ∷ xs) (suc k) lt = get-within xs k (omega (arith, lt))
 
 -- ---- nothing is broken
 
-pub none_along : {X A : Type 0} (size : A → ℕ) (broken : ℕ → A → List Spot) (f : X → A) (at : ℕ) (xs : List X) → ((at : ℕ) (x : X) → Has x xs → broken at (f x) ≡ []) → along size broken at (map f xs) ≡ []
+pub none_along : {X A : Type 0} (size : A → ℕ) (broken : ℕ → A → List ComponentPlace) (f : X → A) (at : ℕ) (xs : List X) → ((at : ℕ) (x : X) → Has x xs → broken at (f x) ≡ []) → along size broken at (map f xs) ≡ []
 unfolding along
 none_along size broken f at [] h = refl
 none_along size broken f at (x ∷ xs) h = none_in_both (h at x at_front) (none_along size broken f (at + size (f x)) xs (λ k y g. h k y (behind g)))
 
-pub none_beside : {X A B : Type 0} (size : A → ℕ) (broken : ℕ → A → B → List Spot) (f : X → A) (g : X → B) (at : ℕ) (xs : List X) → ((at : ℕ) (x : X) → Has x xs → broken at (f x) (g x) ≡ [])
+pub none_beside : {X A B : Type 0} (size : A → ℕ) (broken : ℕ → A → B → List ComponentPlace) (f : X → A) (g : X → B) (at : ℕ) (xs : List X) → ((at : ℕ) (x : X) → Has x xs → broken at (f x) (g x) ≡ [])
     → beside size broken at (map f xs) (map g xs) ≡ []
 unfolding beside
 none_beside size broken f g at [] h = refl
@@ -159,7 +159,7 @@ begins_above size from (x ∷ xs) n lt =
     ap (λ b. b || begins (placed size (from + size x) xs) n) no ∙ begins_above size (from + size x) xs n (omega (arith, lt))
 
 -- with the start of each item
-pub none_placed : {X A : Type 0} (size : A → ℕ) (broken : ℕ → A → List Spot) (f : X → A) (from : ℕ) (xs : List X) → ((k s : ℕ) (x : X) → slice_get xs k ≡ Some x → slice_get (starts size from (map f xs)) k ≡ Some s → broken s (f x) ≡ [])
+pub none_placed : {X A : Type 0} (size : A → ℕ) (broken : ℕ → A → List ComponentPlace) (f : X → A) (from : ℕ) (xs : List X) → ((k s : ℕ) (x : X) → slice_get xs k ≡ Some x → slice_get (starts size from (map f xs)) k ≡ Some s → broken s (f x) ≡ [])
     → along size broken from (map f xs) ≡ []
 unfolding along placed
 none_placed size broken f from [] h = refl

@@ -9,10 +9,10 @@ use Rattle.cjc_card.specs.Classes.{with_token}
 use Rattle.cjc_sentences.specs.Classes.{class_with, imported, is_exported_interface, is_exported_class, names_interface, names_class}
 use Rattle.cjc_world.specs.Classes.{Class, class_named}
 use Rattle.cjc_world.specs.Interfaces.{Interface, each_once, gathered, is_among, known}
-use Rattle.cjc_world.specs.Kin.{kin, Lists}
+use Rattle.cjc_world.specs.Supertypes.{supertypes, Lists}
 use Rattle.cjc_world.specs.Order.{class_order, in_order}
 use Rattle.cjc_world.specs.Rules.{is_class_of}
-use Rattle.cjc_world.proofs.Settled.{kin-IsKin}
+use Rattle.cjc_world.proofs.Settled.{supertypes-AreSupertypes}
 use Rattle.cjc_world.proofs.Unbroken.{unbroken_is_acyclic}
 use Rattle.cjc_tokens.specs.Methods.{interfaces_at}
 use Rattle.cjc_vtable.proofs.Asked.{Among, at_head, further, among-split}
@@ -146,8 +146,8 @@ module _ (list : List ℕ) (p : Package) (sound : IsSound list p.files) where
   unfolding interfaces_at
   is_one x c d e h =
       let acyclic = unbroken_is_acyclic list p.files sound.unbroken in
-      let all = once_known d [] (gathered false (kin w c.supers) ++ gathered true (kin w c.interfaces)) (among_has d _ h) in
+      let all = once_known d [] (gathered false (supertypes w c.supers) ++ gathered true (supertypes w c.interfaces)) (among_has d _ h) in
       ⊎_elim
-      (λ j. gathered-interface w listed_is false c.supers (kin w c.supers) d (kin-IsKin w acyclic c.supers) (λ l y g v h. absurd (cc)) j)
-      (λ j. gathered-interface w listed_is true c.interfaces (kin w c.interfaces) d (kin-IsKin w acyclic c.interfaces) (λ l y g v f. listed_is x y c g e v f) j)
-      (known_both d (gathered false (kin w c.supers)) (gathered true (kin w c.interfaces)) all)
+      (λ j. gathered-interface w listed_is false c.supers (supertypes w c.supers) d (supertypes-AreSupertypes w acyclic c.supers) (λ l y g v h. absurd (cc)) j)
+      (λ j. gathered-interface w listed_is true c.interfaces (supertypes w c.interfaces) d (supertypes-AreSupertypes w acyclic c.interfaces) (λ l y g v f. listed_is x y c g e v f) j)
+      (known_both d (gathered false (supertypes w c.supers)) (gathered true (supertypes w c.interfaces)) all)

@@ -6,11 +6,11 @@ use Rattle.cjc_bytes.specs.AccessFlags.{is_interface}
 use Rattle.cjc_world.specs.declared.found.Found.{Found}
 use Rattle.cjc_world.specs.Classes.{Member, Class, class_named}
 use Rattle.cjc_world.specs.Added.{added}
-use Rattle.cjc_world.specs.Kin.{Kin, End, Known, kin, IsKin, ends, unknown_here, known_here, Lists, foremost, after, upwards}
+use Rattle.cjc_world.specs.Supertypes.{Supertypes, End, Known, supertypes, AreSupertypes, ends, unknown_here, known_here, Lists, foremost, after, upwards}
 use Rattle.cjc_world.specs.Lookup.{first, is_called, is_selectable, member_at, or_else}
 use Rattle.cjc_world.specs.Order.{in_order, methods_of_class, places, written}
 use Rattle.cjc_world.specs.Rules.{is_interface_of, is_of_class_file}
-use Rattle.cjc_world.proofs.Settled.{kin-IsKin, lists-front}
+use Rattle.cjc_world.proofs.Settled.{supertypes-AreSupertypes, lists-front}
 use Rattle.cjc_world.proofs.Unbroken.{unbroken_is_acyclic}
 use Rattle.cjc_tokens.specs.Lines.{Imported, Declared, line_at, line_in}
 use Rattle.cjc_tokens.specs.Members.{Signature, is_constructor, is_exposed, is_hidden, is_initialiser, is_shown, is_virtual}
@@ -123,7 +123,7 @@ module _ (list : List ℕ) (p : Package) (sound : IsSound list p.files) where
   w = world p
 
   -- above imported classes all are imported
-  far : (test : Member → Bool) (s : Signature) (g : Found) (xs : List (List ℕ)) (k : Kin) → IsKin w xs k → ((y : List ℕ) (d : Class) → Lists y xs → class_named w y ≡ Some d → d.is_imported ≡ true) → first (own test s) (upwards k) ≡ Some g → g.imported ≡ true
+  far : (test : Member → Bool) (s : Signature) (g : Found) (xs : List (List ℕ)) (k : Supertypes) → AreSupertypes w xs k → ((y : List ℕ) (d : Class) → Lists y xs → class_named w y ≡ Some d → d.is_imported ≡ true) → first (own test s) (upwards k) ≡ Some g → g.imported ≡ true
   unfolding first
   far test s g xs k ends all e = absurd (cc)
   far test s g (x ∷ xs) k (unknown_here {next = r} n b) all e = far test s g xs r b (λ y d l f. all y d (after l) f) e
@@ -149,7 +149,7 @@ module _ (list : List ℕ) (p : Package) (sound : IsSound list p.files) where
   no_interface x c n y d l f = let rule = right_supers w c (let u = kept list p.files sound c (has_named w x c n) in u.supers) in sym (ap is_interface_of f) ∙ rule.supers y l
 
   -- what a line means by a signature
-  meant : (s : Signature) (g : Found) → g.imported ≡ false → (xs : List (List ℕ)) (k : Kin) → IsKin w xs k → ((y : List ℕ) (d : Class) → Lists y xs → class_named w y ≡ Some d → is_interface d.flags ≡ false) → implementing (line_in w k) s ≡ Some g → IsOwn w g
+  meant : (s : Signature) (g : Found) → g.imported ≡ false → (xs : List (List ℕ)) (k : Supertypes) → AreSupertypes w xs k → ((y : List ℕ) (d : Class) → Lists y xs → class_named w y ≡ Some d → is_interface d.flags ≡ false) → implementing (line_in w k) s ≡ Some g → IsOwn w g
   unfolding first
   meant s g im xs k ends all e = absurd (cc)
   meant s g im (x ∷ xs) k (unknown_here {next = r} n b) all e = absurd (cc)
@@ -178,7 +178,7 @@ module _ (list : List ℕ) (p : Package) (sound : IsSound list p.files) where
           (λ i. ⊎_elim (λ j. record { class = c; there = there; one = got_has w c s g j }) (λ j. rest j) (or_parts (got (added w c) s c) (implementing (line_in w a) s) g i))
           (or_parts (own is_shown s c) (or_else (got (added w c) s c) (implementing (line_in w a) s)) g h)
 
-  meant_hidden : (s : Signature) (g : Found) → (xs : List (List ℕ)) (k : Kin) → IsKin w xs k → ((y : List ℕ) (d : Class) → Lists y xs → class_named w y ≡ Some d → is_interface d.flags ≡ false) → implementing_hidden (line_in w k) s ≡ Some g → IsOwn w g
+  meant_hidden : (s : Signature) (g : Found) → (xs : List (List ℕ)) (k : Supertypes) → AreSupertypes w xs k → ((y : List ℕ) (d : Class) → Lists y xs → class_named w y ≡ Some d → is_interface d.flags ≡ false) → implementing_hidden (line_in w k) s ≡ Some g → IsOwn w g
   meant_hidden s g xs k ends all e = absurd (cc)
   meant_hidden s g (x ∷ xs) k (unknown_here {next = r} n b) all e = absurd (cc)
   meant_hidden s g (x ∷ xs) k (known_here {c = c} {supers = a} {interfaces = q} {next = r} n sp ip b) all e = by c.is_imported refl e (meant_hidden s g c.supers a sp (no_interface x c n))
@@ -210,8 +210,8 @@ module _ (list : List ℕ) (p : Package) (sound : IsSound list p.files) where
           by false i j = let is : g ≡ f = cc in let q = rest (ap (λ (v : Found). Some v) is) in (q.0, q.1, ap (λ (v : Found). v.imported) (sym is) ∙ i)
 
   module _ (c : Class) (h : Has c w) (kind : is_interface c.flags ≡ false) where
-    line_kin : IsKin w (c.name ∷ []) (Known c (kin w c.supers) (kin w c.interfaces) End)
-    line_kin = let acyclic = unbroken_is_acyclic list p.files sound.unbroken in known_here (own_name list p.files sound c h) (kin-IsKin w acyclic c.supers) (kin-IsKin w acyclic c.interfaces) ends
+    line_supertypes : AreSupertypes w (c.name ∷ []) (Known c (supertypes w c.supers) (supertypes w c.interfaces) End)
+    line_supertypes = let acyclic = unbroken_is_acyclic list p.files sound.unbroken in known_here (own_name list p.files sound c h) (supertypes-AreSupertypes w acyclic c.supers) (supertypes-AreSupertypes w acyclic c.interfaces) ends
 
     itself : (y : List ℕ) (d : Class) → Lists y (c.name ∷ []) → class_named w y ≡ Some d → is_interface d.flags ≡ false
     itself y d l e = let is : y ≡ c.name = alone y l in let same : Some c ≡ Some d = sym (own_name list p.files sound c h) ∙ ap (class_named w) (sym is) ∙ e in let one : c ≡ d = cc in ap (λ (v : Class). is_interface v.flags) (sym one) ∙ kind
@@ -223,9 +223,9 @@ module _ (list : List ℕ) (p : Package) (sound : IsSound list p.files) where
     pub public_own : (f : Found) → Has (Some f) (let t = table_of w c in t.public) → IsOwn w f
     public_own f g =
         let r = in_row (implementing (line_at w c)) (slots (line_at w c)) (base c.number (row (line_at w c))) f g in
-        meant r.0 f r.2 (c.name ∷ []) (Known c (kin w c.supers) (kin w c.interfaces) End) line_kin itself r.1
+        meant r.0 f r.2 (c.name ∷ []) (Known c (supertypes w c.supers) (supertypes w c.interfaces) End) line_supertypes itself r.1
 
     pub package_own : (f : Found) → Has f (let t = table_of w c in t.«package») → IsOwn w f
     package_own f g =
         let r = in_row (implementing_hidden (line_at w c)) (hidden_slots (line_at w c)) (base c.number (hidden_row (line_at w c))) f (methods_has f (entries c.number (hidden_row (line_at w c))) g) in
-        meant_hidden r.0 f (c.name ∷ []) (Known c (kin w c.supers) (kin w c.interfaces) End) line_kin itself r.1
+        meant_hidden r.0 f (c.name ∷ []) (Known c (supertypes w c.supers) (supertypes w c.interfaces) End) line_supertypes itself r.1

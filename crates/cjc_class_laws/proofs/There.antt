@@ -2,7 +2,7 @@
 use Rattle.std.proofs.Common.{◌≡◌, ℕ, ◌<◌, ◌==◌, ◌++◌, arith, refl, sym, ap, subst, ◌∙◌, Bool, true, false, List, [], ◌∷◌}
 use Rattle.std.specs.Prelude.{◌||◌, if◌then◌else◌, Option, Some, None, is_some, slice_get, option_map, option_and_then}
 use Rattle.std.specs.List.{list_any}
-use Rattle.cjc_card.specs.Classes.{Own, Foreign, foreign_from, or_else, with_token}
+use Rattle.cjc_card.specs.Classes.{Own, External, external_from, or_else, with_token}
 use Rattle.cjc_export.specs.declared.tree.ExportClass.{ExportClass}
 use Rattle.cjc_export.specs.declared.tree.ExportTree.{ExportTree}
 use Rattle.cjc_export.specs.Writable.{ClassFits, EachAfter}
@@ -47,10 +47,10 @@ module _ (list : List ℕ) (p : Package) (sound : IsSound list p.files) where
       let names = own_names list p.files sound in
       let s = ref_is_start p names r.number c r.ordered in
       let offset : class_offset p c.name ≡ Some s.0 = ap (option_and_then (slice_get (info_starts p))) (names r.number c r.ordered) ∙ s.1 in
-      ap (λ o. is_some (or_else (option_map (Own 0) o) (let files = p.files in foreign_from 0 files.exports c.name))) offset
+      ap (λ o. is_some (or_else (option_map (Own 0) o) (let files = p.files in external_from 0 files.exports c.name))) offset
 
   found_there : (c : Class) → HasEntry p c → IsFound p c.name
-  found_there c r = some_either (option_map (Own 0) (class_offset p c.name)) _ (Foreign r.file (let e = r.entry in e.token)) r.found
+  found_there c r = some_either (option_map (Own 0) (class_offset p c.name)) _ (External r.file (let e = r.entry in e.token)) r.found
 
   pub found : (x : List ℕ) (c : Class) → class_named (world p) x ≡ Some c → IsFound p x
   found x c e = subst (IsFound p) (class_named-name (world p) x c e) (by c.is_imported refl)

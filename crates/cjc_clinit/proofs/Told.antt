@@ -1,7 +1,7 @@
 -- The list of what is broken is of what the rule speaks of.
 use Rattle.std.proofs.Common.{◌≡◌, ◌∙◌, refl, sym, ap, subst, ℕ, zero, suc, ◌+◌, List, [], ◌∷◌, ◌++◌, ⊎_elim, arith, Bool, true, false}
 use Rattle.std.specs.Prelude.{Option, Some, None, Result, Ok, Err, slice_get, if◌then◌else◌}
-use Rattle.cjc_bytes.specs.Breaks.{Break, Spot, Among, foremost, IsFirstOf, broken_at, at, each_from, each}
+use Rattle.cjc_bytes.specs.Breaks.{Break, RulePlace, Among, foremost, IsFirstOf, broken_at, at, each_from, each}
 use Rattle.cjc_bytes.specs.Order.{FilePlace, file_of}
 use Rattle.cjc_bytes.proofs.Firsts.{among_one, among_left, among_right, among_either}
 use Rattle.cjc_classfile.specs.declared.tree.ClassTree.{ClassTree}
@@ -151,7 +151,7 @@ module _ (files : Files) (code : MethodCode) where
 
 -- ---- a class itself
 
-at-of : (b : Break) (t : Bool) (s : Spot) (rule : ℕ) → Among b (at t s rule) → (t ≡ true) × (b ≡ broken_at s rule)
+at-of : (b : Break) (t : Bool) (s : RulePlace) (rule : ℕ) → Among b (at t s rule) → (t ≡ true) × (b ≡ broken_at s rule)
 at-of b true s rule i = (refl, among_one b (broken_at s rule) i)
 at-of b false s rule i = absurd (none-among b i)
 

@@ -1,7 +1,7 @@
 -- A class, its initialisers, and what they put.
 use Rattle.std.specs.Prelude.{ℕ, ◌+◌, List, [], ◌∷◌, ◌++◌, Option, Some, None, true, ℤ, pos, codes}
 use Rattle.cjc_bytes.specs.declared.fault.MemberId.{MemberId}
-use Rattle.cjc_bytes.specs.declared.names.Kind.TheVariants as kinds
+use Rattle.cjc_bytes.specs.declared.descriptor.Kind.TheVariants as kinds
 use Rattle.cjc_classfile.specs.declared.tree.ClassTree.{ClassTree}
 use Rattle.cjc_classfile.specs.declared.tree.FieldTree.{FieldTree}
 use Rattle.cjc_code.specs.declared.insn.JInsn.{JInsn}

@@ -15,7 +15,7 @@ ghost use Rattle.cjc_clinit.specs.Working.Reading.{after_code, after_codes, clas
 use crate::fields::has_unfit_value;
 use crate::puts::{after_code, is_initialiser};
 use crate::stage::Held;
-use cjc_bytes::{Break, NoMemory, Row, Spot, broken, file_of, first, is_interface};
+use cjc_bytes::{Break, NoMemory, Row, RulePlace, broken, file_of, first, is_interface};
 use cjc_classfile::{ClassTree, FieldTree, MethodTree};
 use cjc_code::MethodCode;
 use cjc_subset::{class_spot, method_spot};
@@ -44,7 +44,7 @@ fn is_wrong_class(class: &ClassTree<'_>) -> bool
 
 /// Rule 308 at a class itself.
 #[tactic(auto, unfolding(crate::specs::Working::Reading::class_breaks))]
-fn class_break<'w>(class: &ClassTree<'_>, spot: Spot<'w>) -> Option<Break<'w>>
+fn class_break<'w>(class: &ClassTree<'_>, spot: RulePlace<'w>) -> Option<Break<'w>>
     ensures { (f : FilePlace) → spot_of spot.entry ≡ at_class f class.now → IsFirstOf (class_breaks f class.now) (option_map break_of result) }
 {
     broken(is_wrong_class(class), spot, 308)

@@ -3,8 +3,8 @@ use Rattle.std.proofs.Common.{◌≡◌, ◌∙◌, refl, sym, ap, subst, ℕ, L
 use Rattle.std.specs.Prelude.{◌==◌, ◌&&◌, if◌then◌else◌, Option, Some, None, slice_get, slice_set, ℤ, codes}
 use Rattle.std.specs.Str.{bytes_eq}
 use Rattle.cjc_bytes.specs.declared.fault.MemberId.{MemberId}
-use Rattle.cjc_bytes.specs.declared.names.Kind.{Kind}
-use Rattle.cjc_bytes.specs.declared.names.Kind.TheVariants as kinds
+use Rattle.cjc_bytes.specs.declared.descriptor.Kind.{Kind}
+use Rattle.cjc_bytes.specs.declared.descriptor.Kind.TheVariants as kinds
 use Rattle.cjc_classfile.specs.declared.tree.ClassTree.{ClassTree}
 use Rattle.cjc_classfile.specs.declared.tree.FieldTree.{FieldTree}
 use Rattle.cjc_code.specs.declared.insn.JOp.{JOp}

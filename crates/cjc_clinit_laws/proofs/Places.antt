@@ -15,13 +15,13 @@ use Rattle.cjc_world.specs.declared.found.Found.{Found}
 use Rattle.cjc_world.specs.declared.image.StaticImage.{StaticImage}
 use Rattle.cjc_world.specs.Files.{Files}
 use Rattle.cjc_world.specs.Classes.{Class, Member, all_classes, class_at, class_named, declared, field_of_class}
-use Rattle.cjc_world.specs.Kin.{Kin, grown, in_a_row, kin, known_as}
+use Rattle.cjc_world.specs.Supertypes.{Supertypes, supertypes_within, in_a_row, supertypes, known_as}
 use Rattle.cjc_world.specs.Lookup.{field_in, find_field, is_called, member_at, or_else, own_field}
 use Rattle.cjc_world.proofs.Settled.{bytes-true}
 use Rattle.cjc_tokens.proofs.Supers.{class_at-number}
 use Rattle.cjc_vtable.proofs.Numbers.{named-number}
 use Rattle.cjc_by_name.specs.Linked.{Static, Instance}
-use Rattle.cjc_by_name.specs.OnePackage.{Hit, constant_at, constant_in, field_by, field_hit}
+use Rattle.cjc_by_name.specs.OnePackage.{ResolvedMember, constant_at, constant_in, field_by, field_hit}
 use Rattle.cjc_by_name.specs.ByName.{linked}
 use Rattle.cjc_clinit.specs.declared.stage.Held.{Held}
 use Rattle.cjc_clinit.specs.declared.stage.Held.TheVariants as held
@@ -40,7 +40,7 @@ module _ (w : List Class) (own : Class → Option Found) where
   abbrev Named : Found → Type 0
   Named f = (x : List ℕ) × (d : Class) × (class_named w x ≡ Some d) × (own d ≡ Some f)
 
-  in-row : (above : List (List ℕ) → Kin) → ((names : List (List ℕ)) (f : Found) → field_in own (above names) ≡ Some f → Named f) → (names : List (List ℕ)) (f : Found) → field_in own (in_a_row w above names) ≡ Some f → Named f
+  in-row : (above : List (List ℕ) → Supertypes) → ((names : List (List ℕ)) (f : Found) → field_in own (above names) ≡ Some f → Named f) → (names : List (List ℕ)) (f : Found) → field_in own (in_a_row w above names) ≡ Some f → Named f
   in-row above rec [] f e = absurd (cc)
   in-row above rec (x ∷ xs) f e = by (class_named w x) refl e (in-row above rec xs f)
     where
@@ -51,14 +51,14 @@ module _ (w : List Class) (own : Class → Option Found) where
           (λ p. next p)
           (either (or_else (own c) (or_else (field_in own (above c.interfaces)) (field_in own (above c.supers)))) (field_in own (in_a_row w above xs)) f h)
 
-  in-grown : (n : ℕ) (names : List (List ℕ)) (f : Found) → field_in own (grown w n names) ≡ Some f → Named f
-  unfolding grown
-  in-grown zero names f e = absurd (cc)
-  in-grown (suc n) names f e = in-row (grown w n) (in-grown n) names f e
+  in-supertypes_within : (n : ℕ) (names : List (List ℕ)) (f : Found) → field_in own (supertypes_within w n names) ≡ Some f → Named f
+  unfolding supertypes_within
+  in-supertypes_within zero names f e = absurd (cc)
+  in-supertypes_within (suc n) names f e = in-row (supertypes_within w n) (in-supertypes_within n) names f e
 
 found-named : (w : List Class) (class name desc : List ℕ) (f : Found) → find_field w class name desc ≡ Some f → Named w (own_field name desc) f
-unfolding find_field kin
-found-named w class name desc f e = in-grown w (own_field name desc) (suc (length w)) (class ∷ []) f e
+unfolding find_field supertypes
+found-named w class name desc f e = in-supertypes_within w (own_field name desc) (suc (length w)) (class ∷ []) f e
 
 -- ---- the member at a place
 
@@ -133,7 +133,7 @@ pub record IsField (files : Files) (image : StaticImage) (number : ℕ) (c : Cla
 abbrev id_of : (class name desc : List ℕ) → MemberId
 id_of class name desc = record { class = class; name = name; desc = desc }
 
-abbrev hit_of : Class → Member → Hit
+abbrev hit_of : Class → Member → ResolvedMember
 hit_of c f = record { owner = c; flags = f.flags }
 
 static-by : (b : Bool) (id : MemberId) → b ≡ true → (if b then Static id else Instance id) ≡ Static id

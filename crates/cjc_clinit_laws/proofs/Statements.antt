@@ -6,8 +6,8 @@ use Rattle.std.specs.Int.{w8}
 use Rattle.std.specs.Prelude.{◌≤ℤ◌, FitsSigned, ◌==◌, ◌&&◌, if◌then◌else◌, Option, Some, None, nat_lt, nat_le, slice_get, slice_set, ℤ, pos, negsuc}
 use Rattle.std.specs.Int.RustNames.{int_le}
 use Rattle.cjc_bytes.specs.declared.fault.MemberId.{MemberId}
-use Rattle.cjc_bytes.specs.declared.names.Kind.{Kind}
-use Rattle.cjc_bytes.specs.declared.names.Kind.TheVariants as kinds
+use Rattle.cjc_bytes.specs.declared.descriptor.Kind.{Kind}
+use Rattle.cjc_bytes.specs.declared.descriptor.Kind.TheVariants as kinds
 use Rattle.cjc_bytes.specs.Spots.{after, bad_at, types_from, parts_of, desc_of}
 use Rattle.cjc_words.specs.Words.{low_word, low_byte}
 use Rattle.cjc_words.proofs.Words.{fits16, low_byte_fixed, low_word_fixed}

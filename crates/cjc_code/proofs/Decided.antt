@@ -13,9 +13,9 @@ use Rattle.cjc_code.specs.declared.insn.JInsn.{JInsn}
 use Rattle.cjc_code.specs.declared.raw.Raw.{Raw}
 use Rattle.cjc_code.specs.Cut.{cut}
 use Rattle.cjc_code.specs.Unfit.{unfit_code}
-use Rattle.cjc_code.specs.Named.{is_foreign, named, all_named}
-use Rattle.cjc_code.specs.Decoded.{least_of, least, unless_foreign, unless_unfit, decoding}
-use Rattle.cjc_code.specs.Rules.{IsUnfit, IsFirstUnfit, IsFirstForeign, IsFirstForeignCode, IsDecoded, with_names}
+use Rattle.cjc_code.specs.Named.{is_unsupported, named, all_named}
+use Rattle.cjc_code.specs.Decoded.{least_of, least, unless_unsupported, unless_unfit, decoding}
+use Rattle.cjc_code.specs.Rules.{IsUnfit, IsFirstUnfit, IsFirstUnsupported, IsFirstUnsupportedCode, IsDecoded, with_names}
 use Rattle.cjc_code.proofs.RuleLaws.{contains_first, is_not, unfit_is, is_unfit_there}
 
 -- ---- the least
@@ -90,17 +90,17 @@ rule_is r s j k e =
     let same : ◌≡◌ {A = BrokenAt} (record { rule = r; offset = j }) (record { rule = s; offset = k }) = cc in
     ap (λ (b : BrokenAt). b.rule) same
 
-answer_103 : (o : Option ℕ) (found : Result (List JInsn) ℕ) (k : ℕ) → unless_unfit o (unless_foreign found) ≡ broken 103 k → o ≡ Some k
+answer_103 : (o : Option ℕ) (found : Result (List JInsn) ℕ) (k : ℕ) → unless_unfit o (unless_unsupported found) ≡ broken 103 k → o ≡ Some k
 answer_103 (Some j) found k e = ap Some (offset_is 103 103 j k e)
 answer_103 None (Ok insns) k e = absurd cc
 answer_103 None (Err j) k e = absurd (omega (arith, rule_is 303 103 j k e))
 
-answer_303 : (o : Option ℕ) (found : Result (List JInsn) ℕ) (k : ℕ) → unless_unfit o (unless_foreign found) ≡ broken 303 k → (o ≡ None) × (found ≡ Err k)
+answer_303 : (o : Option ℕ) (found : Result (List JInsn) ℕ) (k : ℕ) → unless_unfit o (unless_unsupported found) ≡ broken 303 k → (o ≡ None) × (found ≡ Err k)
 answer_303 (Some j) found k e = absurd (omega (arith, rule_is 103 303 j k e))
 answer_303 None (Ok insns) k e = absurd cc
 answer_303 None (Err j) k e = (refl, ap Err (offset_is 303 303 j k e))
 
-answer_ok : (o : Option ℕ) (found : Result (List JInsn) ℕ) (insns : List JInsn) → unless_unfit o (unless_foreign found) ≡ Ok insns → (o ≡ None) × (found ≡ Ok insns)
+answer_ok : (o : Option ℕ) (found : Result (List JInsn) ℕ) (insns : List JInsn) → unless_unfit o (unless_unsupported found) ≡ Ok insns → (o ≡ None) × (found ≡ Ok insns)
 answer_ok (Some j) found insns e = absurd cc
 answer_ok None (Ok others) insns e = (refl, cc)
 answer_ok None (Err j) insns e = absurd cc
@@ -131,17 +131,17 @@ unfit_no class method code none = none_least (unfit_code class method code) (λ 
 abbrev with_first : JInsn → Result (List JInsn) ℕ → Result (List JInsn) ℕ
 with_first i found = found >>= λ insns. Ok (i ∷ insns)
 
-abbrev foreign : List PoolItem → Raw → Bool
-foreign pool i = is_foreign pool i.family i.numbers
+abbrev unsupported : List PoolItem → Raw → Bool
+unsupported pool i = is_unsupported pool i.family i.numbers
 
 abbrev is_fine : List PoolItem → Raw → Bool
-is_fine pool i = not (foreign pool i)
+is_fine pool i = not (unsupported pool i)
 
-all_foreign : (pool : List PoolItem) (i : Raw) (insns : List Raw) → foreign pool i ≡ true → all_named pool (i ∷ insns) ≡ Err i.at
+all_unsupported : (pool : List PoolItem) (i : Raw) (insns : List Raw) → unsupported pool i ≡ true → all_named pool (i ∷ insns) ≡ Err i.at
 unfolding all_named each named
-all_foreign pool i insns e = rw e refl
+all_unsupported pool i insns e = rw e refl
 
-all_fine : (pool : List PoolItem) (i : Raw) (insns : List Raw) → foreign pool i ≡ false → all_named pool (i ∷ insns) ≡ with_first (with_names pool i) (all_named pool insns)
+all_fine : (pool : List PoolItem) (i : Raw) (insns : List Raw) → unsupported pool i ≡ false → all_named pool (i ∷ insns) ≡ with_first (with_names pool i) (all_named pool insns)
 unfolding all_named each named
 all_fine pool i insns e = rw e refl
 
@@ -149,10 +149,10 @@ all_none : (pool : List PoolItem) → all_named pool [] ≡ Ok []
 unfolding all_named each
 all_none pool = refl
 
-fine_is : (pool : List PoolItem) (i : Raw) → is_fine pool i ≡ true → foreign pool i ≡ false
-fine_is pool i e = is_not (foreign pool i) e
+fine_is : (pool : List PoolItem) (i : Raw) → is_fine pool i ≡ true → unsupported pool i ≡ false
+fine_is pool i e = is_not (unsupported pool i) e
 
-is_fine_of : (pool : List PoolItem) (i : Raw) → foreign pool i ≡ false → is_fine pool i ≡ true
+is_fine_of : (pool : List PoolItem) (i : Raw) → unsupported pool i ≡ false → is_fine pool i ≡ true
 is_fine_of pool i e = rw e refl
 
 with_err : (i : JInsn) (found : Result (List JInsn) ℕ) (k : ℕ) → with_first i found ≡ Err k → found ≡ Err k
@@ -163,8 +163,8 @@ with_ok : (i : JInsn) (found : Result (List JInsn) ℕ) (insns : List JInsn) →
 with_ok i (Ok others) insns e = (others, refl, cc)
 with_ok i (Err j) insns e = absurd cc
 
-more_foreign : (pool : List PoolItem) (i : Raw) (insns : List Raw) (k : ℕ) → foreign pool i ≡ false → IsFirstForeign pool insns k → IsFirstForeign pool (i ∷ insns) k
-more_foreign pool i insns k e h = record {
+more_unsupported : (pool : List PoolItem) (i : Raw) (insns : List Raw) (k : ℕ) → unsupported pool i ≡ false → IsFirstUnsupported pool insns k → IsFirstUnsupported pool (i ∷ insns) k
+more_unsupported pool i insns k e h = record {
   before = i ∷ h.before;
   first = h.first;
   behind = h.behind;
@@ -174,35 +174,35 @@ more_foreign pool i insns k e h = record {
   place = h.place;
 }
 
-foreign_by : (b : Bool) (pool : List PoolItem) (i : Raw) (insns : List Raw) (k : ℕ) → (all_named pool insns ≡ Err k → IsFirstForeign pool insns k) → foreign pool i ≡ b → all_named pool (i ∷ insns) ≡ Err k → IsFirstForeign pool (i ∷ insns) k
-foreign_by true pool i insns k from e h =
-    let is : i.at ≡ k = let f = all_foreign pool i insns e in cc in
+unsupported_by : (b : Bool) (pool : List PoolItem) (i : Raw) (insns : List Raw) (k : ℕ) → (all_named pool insns ≡ Err k → IsFirstUnsupported pool insns k) → unsupported pool i ≡ b → all_named pool (i ∷ insns) ≡ Err k → IsFirstUnsupported pool (i ∷ insns) k
+unsupported_by true pool i insns k from e h =
+    let is : i.at ≡ k = let f = all_unsupported pool i insns e in cc in
     record { before = []; first = i; behind = insns; parts = refl; fine = All-nil (λ r. is_fine pool r ≡ true); broken = e; place = sym is }
-foreign_by false pool i insns k from e h =
-    more_foreign pool i insns k e (from (with_err (with_names pool i) (all_named pool insns) k (sym (all_fine pool i insns e) ∙ h)))
+unsupported_by false pool i insns k from e h =
+    more_unsupported pool i insns k e (from (with_err (with_names pool i) (all_named pool insns) k (sym (all_fine pool i insns e) ∙ h)))
 
-first_foreign : (pool : List PoolItem) (insns : List Raw) (k : ℕ) → all_named pool insns ≡ Err k → IsFirstForeign pool insns k
-first_foreign pool [] k h = absurd (let f = all_none pool in cc)
-first_foreign pool (i ∷ insns) k h = foreign_by (foreign pool i) pool i insns k (first_foreign pool insns k) refl h
+first_unsupported : (pool : List PoolItem) (insns : List Raw) (k : ℕ) → all_named pool insns ≡ Err k → IsFirstUnsupported pool insns k
+first_unsupported pool [] k h = absurd (let f = all_none pool in cc)
+first_unsupported pool (i ∷ insns) k h = unsupported_by (unsupported pool i) pool i insns k (first_unsupported pool insns k) refl h
 
-foreign_first : (pool : List PoolItem) (before : List Raw) (first : Raw) (behind : List Raw) → AllPass (is_fine pool) before → foreign pool first ≡ true → all_named pool (before ++ first ∷ behind) ≡ Err first.at
-foreign_first pool [] first behind fine broken = all_foreign pool first behind broken
-foreign_first pool (i ∷ before) first behind fine broken =
+unsupported_first : (pool : List PoolItem) (before : List Raw) (first : Raw) (behind : List Raw) → AllPass (is_fine pool) before → unsupported pool first ≡ true → all_named pool (before ++ first ∷ behind) ≡ Err first.at
+unsupported_first pool [] first behind fine broken = all_unsupported pool first behind broken
+unsupported_first pool (i ∷ before) first behind fine broken =
     let e = fine_is pool i (All-head (λ r. is_fine pool r ≡ true) i before fine) in
-    let rest = foreign_first pool before first behind (All-tail (λ r. is_fine pool r ≡ true) i before fine) broken in
+    let rest = unsupported_first pool before first behind (All-tail (λ r. is_fine pool r ≡ true) i before fine) broken in
     all_fine pool i (before ++ first ∷ behind) e ∙ ap (with_first (with_names pool i)) rest
 
-foreign_found : (pool : List PoolItem) (insns : List Raw) (k : ℕ) → IsFirstForeign pool insns k → all_named pool insns ≡ Err k
-foreign_found pool insns k h = ap (all_named pool) h.parts ∙ (foreign_first pool h.before h.first h.behind h.fine h.broken ∙ ap Err (sym h.place))
+unsupported_found : (pool : List PoolItem) (insns : List Raw) (k : ℕ) → IsFirstUnsupported pool insns k → all_named pool insns ≡ Err k
+unsupported_found pool insns k h = ap (all_named pool) h.parts ∙ (unsupported_first pool h.before h.first h.behind h.fine h.broken ∙ ap Err (sym h.place))
 
 -- all are fine, and these are they with their names
 record AreNamed (pool : List PoolItem) (insns : List Raw) (named : List JInsn) : Type 0 where
   fine : AllPass (is_fine pool) insns
   are : named ≡ map (with_names pool) insns
 
-named_by : (b : Bool) (pool : List PoolItem) (i : Raw) (insns : List Raw) (named : List JInsn) → ((others : List JInsn) → all_named pool insns ≡ Ok others → AreNamed pool insns others) → foreign pool i ≡ b
+named_by : (b : Bool) (pool : List PoolItem) (i : Raw) (insns : List Raw) (named : List JInsn) → ((others : List JInsn) → all_named pool insns ≡ Ok others → AreNamed pool insns others) → unsupported pool i ≡ b
     → all_named pool (i ∷ insns) ≡ Ok named → AreNamed pool (i ∷ insns) named
-named_by true pool i insns named from e h = absurd (let f = all_foreign pool i insns e in cc)
+named_by true pool i insns named from e h = absurd (let f = all_unsupported pool i insns e in cc)
 named_by false pool i insns named from e h =
     let o = with_ok (with_names pool i) (all_named pool insns) named (sym (all_fine pool i insns e) ∙ h) in
     let r = from o.0 o.1 in
@@ -213,7 +213,7 @@ named_by false pool i insns named from e h =
 
 are_named : (pool : List PoolItem) (insns : List Raw) (named : List JInsn) → all_named pool insns ≡ Ok named → AreNamed pool insns named
 are_named pool [] named h = record { fine = All-nil (λ r. is_fine pool r ≡ true); are = (let f = all_none pool in cc) }
-are_named pool (i ∷ insns) named h = named_by (foreign pool i) pool i insns named (are_named pool insns) refl h
+are_named pool (i ∷ insns) named h = named_by (unsupported pool i) pool i insns named (are_named pool insns) refl h
 
 named_are : (pool : List PoolItem) (insns : List Raw) → AllPass (is_fine pool) insns → all_named pool insns ≡ Ok (map (with_names pool) insns)
 named_are pool [] fine = all_none pool
@@ -227,17 +227,17 @@ named_are pool (i ∷ insns) fine =
 abbrev insns_in : CodeTree → List Raw
 insns_in code = (cut code.bytes).insns
 
-pub foreign_is : (class : ClassTree) (method : MethodTree) (code : CodeTree) (k : ℕ) → decoding class method code ≡ broken 303 k → IsFirstForeignCode class method code k
+pub unsupported_is : (class : ClassTree) (method : MethodTree) (code : CodeTree) (k : ℕ) → decoding class method code ≡ broken 303 k → IsFirstUnsupportedCode class method code k
 unfolding decoding
-foreign_is class method code k e =
+unsupported_is class method code k e =
     let a = answer_303 (least (unfit_code class method code)) (all_named class.pool (insns_in code)) k e in
-    record { fit = no_unfit class method code a.0; first = first_foreign class.pool (insns_in code) k a.1 }
+    record { fit = no_unfit class method code a.0; first = first_unsupported class.pool (insns_in code) k a.1 }
 
-pub is_foreign_there : (class : ClassTree) (method : MethodTree) (code : CodeTree) (k : ℕ) → IsFirstForeignCode class method code k → decoding class method code ≡ broken 303 k
+pub is_unsupported_there : (class : ClassTree) (method : MethodTree) (code : CodeTree) (k : ℕ) → IsFirstUnsupportedCode class method code k → decoding class method code ≡ broken 303 k
 unfolding decoding
-is_foreign_there class method code k h =
+is_unsupported_there class method code k h =
     let none : least (unfit_code class method code) ≡ None = unfit_no class method code h.fit in
-    let found : all_named class.pool (insns_in code) ≡ Err k = foreign_found class.pool (insns_in code) k h.first in
+    let found : all_named class.pool (insns_in code) ≡ Err k = unsupported_found class.pool (insns_in code) k h.first in
     rw (none, found) refl
 
 pub decoded_is : (class : ClassTree) (method : MethodTree) (code : CodeTree) (insns : List JInsn) → decoding class method code ≡ Ok insns → IsDecoded class method code insns

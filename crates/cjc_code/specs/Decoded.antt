@@ -32,9 +32,9 @@ pub record IsLeast (numbers : List ℕ) (k : ℕ) : Type 0 where
   pub least : All (λ j. k ≤ j) numbers
 
 -- the instructions, or rule 303 at the place of the first that breaks it
-abbrev pub unless_foreign : Result (List JInsn) ℕ → Result (List JInsn) BrokenAt
-unless_foreign (Ok insns) = Ok insns
-unless_foreign (Err k) = Err (record { rule = 303; offset = k })
+abbrev pub unless_unsupported : Result (List JInsn) ℕ → Result (List JInsn) BrokenAt
+unless_unsupported (Ok insns) = Ok insns
+unless_unsupported (Err k) = Err (record { rule = 303; offset = k })
 
 -- what is found, or rule 103 at its place where it is broken
 abbrev pub unless_unfit : Option ℕ → Result (List JInsn) BrokenAt → Result (List JInsn) BrokenAt
@@ -45,7 +45,7 @@ unless_unfit None found = found
 -- of its places; else, where rule 303 is, the first.
 unfoldable pub decoding : ClassTree → MethodTree → CodeTree → Result (List JInsn) BrokenAt
 decoding class method code =
-    unless_unfit (least (unfit_code class method code)) (unless_foreign (all_named class.pool (cut code.bytes).insns))
+    unless_unfit (least (unfit_code class method code)) (unless_unsupported (all_named class.pool (cut code.bytes).insns))
 
 -- the instructions, and none where a rule is broken
 abbrev pub insns_of : Result (List JInsn) BrokenAt → List JInsn

@@ -10,7 +10,7 @@ use Rattle.cjc_code.specs.declared.items.Need.TheVariants as needs
 -- what the index of an instruction has to name, in a class file of this major version
 abbrev pub needed : (major : ℕ) → Family → Need
 needed major family.Constant = needs.Any
-needed major family.ForeignConstant = needs.Any
+needed major family.UnsupportedConstant = needs.Any
 needed major (family.Static put) = needs.Field
 needed major (family.Field put) = needs.Field
 needed major family.CallVirtual = needs.Method
@@ -20,7 +20,7 @@ needed major family.New = needs.Class
 needed major family.ANewArray = needs.Class
 needed major family.CheckCast = needs.Class
 needed major family.InstanceOf = needs.Class
-needed major family.ForeignClass = needs.Class
+needed major family.UnsupportedClass = needs.Class
 needed major _ = needs.Nothing
 
 -- whether it is a CONSTANT_Class

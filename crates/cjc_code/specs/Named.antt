@@ -54,17 +54,17 @@ is_no_integer (Some z) = false
 is_no_integer None = true
 
 -- the instruction is none that is converted, or an ldc or ldc_w of something other than an Integer
-abbrev pub is_foreign : List PoolItem → Family → List ℤ → Bool
-is_foreign pool family.Constant zs = is_no_integer (int_of (item pool zs))
-is_foreign pool family.Foreign zs = true
-is_foreign pool family.ForeignConstant zs = true
-is_foreign pool family.ForeignLocal zs = true
-is_foreign pool (family.ForeignLocalAt n) zs = true
-is_foreign pool family.ForeignJump zs = true
-is_foreign pool family.ForeignReturn zs = true
-is_foreign pool family.ForeignClass zs = true
-is_foreign pool family.Ret zs = true
-is_foreign pool _ zs = false
+abbrev pub is_unsupported : List PoolItem → Family → List ℤ → Bool
+is_unsupported pool family.Constant zs = is_no_integer (int_of (item pool zs))
+is_unsupported pool family.Unsupported zs = true
+is_unsupported pool family.UnsupportedConstant zs = true
+is_unsupported pool family.UnsupportedLocal zs = true
+is_unsupported pool (family.UnsupportedLocalAt n) zs = true
+is_unsupported pool family.UnsupportedJump zs = true
+is_unsupported pool family.UnsupportedReturn zs = true
+is_unsupported pool family.UnsupportedClass zs = true
+is_unsupported pool family.Ret zs = true
+is_unsupported pool _ zs = false
 
 -- ---- what an instruction does
 
@@ -134,7 +134,7 @@ op_of pool at opcode _ zs = jop.Nop
 -- an instruction with its names, or its place where it breaks rule 303
 unfoldable pub named : List PoolItem → Raw → Result JInsn ℕ
 named pool i =
-    if is_foreign pool i.family i.numbers then Err i.at
+    if is_unsupported pool i.family i.numbers then Err i.at
     else Ok (record { at = i.at; op = op_of pool i.at i.opcode i.family i.numbers })
 
 -- all instructions, or the place of the first that breaks rule 303

@@ -10,7 +10,7 @@ use Rattle.cjc_code.specs.declared.insn.JInsn.{JInsn}
 use Rattle.cjc_code.specs.declared.raw.Raw.{Raw}
 use Rattle.cjc_code.specs.Cut.{cut}
 use Rattle.cjc_code.specs.Unfit.{starts, is_start, has_wrong_item, has_wrong_jump, has_wrong_local, has_wrong_values, has_wrong_type, may_go_on, arguments}
-use Rattle.cjc_code.specs.Named.{is_foreign, op_of}
+use Rattle.cjc_code.specs.Named.{is_unsupported, op_of}
 
 -- whether an instruction of a code starts at a place; the place where the cut stops inside the code counts as one
 abbrev pub starts_at : CodeTree → ℕ → Bool
@@ -50,13 +50,13 @@ pub record IsFirstUnfit (class : ClassTree) (method : MethodTree) (code : CodeTr
   pub least : (j : ℕ) → IsUnfit class method code j → k ≤ j
 
 -- Rule 303 is broken there and at no instruction before.
-pub record IsFirstForeign (pool : List PoolItem) (insns : List Raw) (k : ℕ) : Type 0 where
+pub record IsFirstUnsupported (pool : List PoolItem) (insns : List Raw) (k : ℕ) : Type 0 where
   pub before : List Raw
   pub first : Raw
   pub behind : List Raw
   pub parts : insns ≡ before ++ first ∷ behind
-  pub fine : AllPass (λ i. not (is_foreign pool i.family i.numbers)) before
-  pub broken : is_foreign pool first.family first.numbers ≡ true
+  pub fine : AllPass (λ i. not (is_unsupported pool i.family i.numbers)) before
+  pub broken : is_unsupported pool first.family first.numbers ≡ true
   pub place : k ≡ first.at
 
 -- an instruction with its names
@@ -64,12 +64,12 @@ abbrev pub with_names : List PoolItem → Raw → JInsn
 with_names pool i = record { at = i.at; op = op_of pool i.at i.opcode i.family i.numbers }
 
 -- Rule 103 is broken nowhere, and rule 303 there first.
-pub record IsFirstForeignCode (class : ClassTree) (method : MethodTree) (code : CodeTree) (k : ℕ) : Type 0 where
+pub record IsFirstUnsupportedCode (class : ClassTree) (method : MethodTree) (code : CodeTree) (k : ℕ) : Type 0 where
   pub fit : (j : ℕ) → IsUnfit class method code j → ⊥
-  pub first : IsFirstForeign class.pool (cut code.bytes).insns k
+  pub first : IsFirstUnsupported class.pool (cut code.bytes).insns k
 
 -- Neither rule is broken, and these are the instructions of the cut with their names.
 pub record IsDecoded (class : ClassTree) (method : MethodTree) (code : CodeTree) (insns : List JInsn) : Type 0 where
   pub fit : (j : ℕ) → IsUnfit class method code j → ⊥
-  pub fine : AllPass (λ i. not (is_foreign class.pool i.family i.numbers)) (cut code.bytes).insns
+  pub fine : AllPass (λ i. not (is_unsupported class.pool i.family i.numbers)) (cut code.bytes).insns
   pub insns_are : insns ≡ map (with_names class.pool) (cut code.bytes).insns

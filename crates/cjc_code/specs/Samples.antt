@@ -84,8 +84,8 @@ unfit =
     ∷ []
 
 -- codes that break rule 303, and where
-abbrev pub foreign : List (List ℕ × ℕ)
-foreign =
+abbrev pub unsupported : List (List ℕ × ℕ)
+unsupported =
     (0x1A ∷ 0x14 ∷ 0x00 ∷ 0x06 ∷ 0x58 ∷ 0xAC ∷ [], 1)  -- ldc2_w of a Long
     ∷ (0x12 ∷ 0x02 ∷ 0x57 ∷ 0xB1 ∷ [], 0)  -- ldc of a Class
     ∷ (0x09 ∷ 0x58 ∷ 0xB1 ∷ [], 0)  -- lconst_0

@@ -38,51 +38,51 @@ ranges =
     single 0x00 behind.Nothing family.Nop  -- nop
     ∷ single 0x01 behind.Nothing family.Null  -- aconst_null
     ∷ range 0x02 0x08 (λ k. bare (family.Small (pos k -ℤ pos 1)))  -- iconst_m1, iconst_0 to iconst_5
-    ∷ alike 0x09 0x0F behind.Nothing family.Foreign  -- lconst_0, lconst_1, fconst_0 to fconst_2, dconst_0, dconst_1
+    ∷ alike 0x09 0x0F behind.Nothing family.Unsupported  -- lconst_0, lconst_1, fconst_0 to fconst_2, dconst_0, dconst_1
     ∷ single 0x10 behind.S1 family.Push  -- bipush
     ∷ single 0x11 behind.S2 family.Push  -- sipush
     ∷ single 0x12 behind.U1 family.Constant  -- ldc
     ∷ single 0x13 behind.U2 family.Constant  -- ldc_w
-    ∷ single 0x14 behind.U2 family.ForeignConstant  -- ldc2_w
+    ∷ single 0x14 behind.U2 family.UnsupportedConstant  -- ldc2_w
     ∷ single 0x15 behind.U1 (family.Load false)  -- iload
-    ∷ alike 0x16 0x18 behind.U1 family.ForeignLocal  -- lload, fload, dload
+    ∷ alike 0x16 0x18 behind.U1 family.UnsupportedLocal  -- lload, fload, dload
     ∷ single 0x19 behind.U1 (family.Load true)  -- aload
     ∷ range 0x1A 0x1D (λ k. bare (family.LoadAt false k))  -- iload_0 to iload_3
-    ∷ range 0x1E 0x29 (λ k. bare (family.ForeignLocalAt (k % 4)))  -- lload_0 to lload_3, fload_0 to fload_3, dload_0 to dload_3
+    ∷ range 0x1E 0x29 (λ k. bare (family.UnsupportedLocalAt (k % 4)))  -- lload_0 to lload_3, fload_0 to fload_3, dload_0 to dload_3
     ∷ range 0x2A 0x2D (λ k. bare (family.LoadAt true k))  -- aload_0 to aload_3
     ∷ single 0x2E behind.Nothing family.ArrayLoad  -- iaload
-    ∷ alike 0x2F 0x31 behind.Nothing family.Foreign  -- laload, faload, daload
+    ∷ alike 0x2F 0x31 behind.Nothing family.Unsupported  -- laload, faload, daload
     ∷ alike 0x32 0x33 behind.Nothing family.ArrayLoad  -- aaload, baload
-    ∷ single 0x34 behind.Nothing family.Foreign  -- caload
+    ∷ single 0x34 behind.Nothing family.Unsupported  -- caload
     ∷ single 0x35 behind.Nothing family.ArrayLoad  -- saload
     ∷ single 0x36 behind.U1 (family.Store false)  -- istore
-    ∷ alike 0x37 0x39 behind.U1 family.ForeignLocal  -- lstore, fstore, dstore
+    ∷ alike 0x37 0x39 behind.U1 family.UnsupportedLocal  -- lstore, fstore, dstore
     ∷ single 0x3A behind.U1 (family.Store true)  -- astore
     ∷ range 0x3B 0x3E (λ k. bare (family.StoreAt false k))  -- istore_0 to istore_3
-    ∷ range 0x3F 0x4A (λ k. bare (family.ForeignLocalAt (k % 4)))  -- lstore_0 to lstore_3, fstore_0 to fstore_3, dstore_0 to dstore_3
+    ∷ range 0x3F 0x4A (λ k. bare (family.UnsupportedLocalAt (k % 4)))  -- lstore_0 to lstore_3, fstore_0 to fstore_3, dstore_0 to dstore_3
     ∷ range 0x4B 0x4E (λ k. bare (family.StoreAt true k))  -- astore_0 to astore_3
     ∷ single 0x4F behind.Nothing family.ArrayStore  -- iastore
-    ∷ alike 0x50 0x52 behind.Nothing family.Foreign  -- lastore, fastore, dastore
+    ∷ alike 0x50 0x52 behind.Nothing family.Unsupported  -- lastore, fastore, dastore
     ∷ alike 0x53 0x54 behind.Nothing family.ArrayStore  -- aastore, bastore
-    ∷ single 0x55 behind.Nothing family.Foreign  -- castore
+    ∷ single 0x55 behind.Nothing family.Unsupported  -- castore
     ∷ single 0x56 behind.Nothing family.ArrayStore  -- sastore
     ∷ alike 0x57 0x5F behind.Nothing family.Stack  -- pop, pop2, dup, dup_x1, dup_x2, dup2, dup2_x1, dup2_x2, swap
-    ∷ range 0x60 0x77 (λ k. bare (if k % 4 == 0 then family.Arith else family.Foreign))  -- of int, long, float and double: add, sub, mul, div, rem, neg
-    ∷ range 0x78 0x83 (λ k. bare (if k % 2 == 0 then family.Arith else family.Foreign))  -- of int and long: shl, shr, ushr, and, or, xor
+    ∷ range 0x60 0x77 (λ k. bare (if k % 4 == 0 then family.Arith else family.Unsupported))  -- of int, long, float and double: add, sub, mul, div, rem, neg
+    ∷ range 0x78 0x83 (λ k. bare (if k % 2 == 0 then family.Arith else family.Unsupported))  -- of int and long: shl, shr, ushr, and, or, xor
     ∷ single 0x84 behind.U1S1 family.Inc  -- iinc
-    ∷ alike 0x85 0x90 behind.Nothing family.Foreign  -- i2l, i2f, i2d, l2i, l2f, l2d, f2i, f2l, f2d, d2i, d2l, d2f
+    ∷ alike 0x85 0x90 behind.Nothing family.Unsupported  -- i2l, i2f, i2d, l2i, l2f, l2d, f2i, f2l, f2d, d2i, d2l, d2f
     ∷ single 0x91 behind.Nothing family.Narrow  -- i2b
-    ∷ single 0x92 behind.Nothing family.Foreign  -- i2c
+    ∷ single 0x92 behind.Nothing family.Unsupported  -- i2c
     ∷ single 0x93 behind.Nothing family.Narrow  -- i2s
-    ∷ alike 0x94 0x98 behind.Nothing family.Foreign  -- lcmp, fcmpl, fcmpg, dcmpl, dcmpg
+    ∷ alike 0x94 0x98 behind.Nothing family.Unsupported  -- lcmp, fcmpl, fcmpg, dcmpl, dcmpg
     ∷ alike 0x99 0xA6 behind.S2 family.If  -- ifeq, ifne, iflt, ifge, ifgt, ifle, if_icmpeq to if_icmple, if_acmpeq, if_acmpne
     ∷ single 0xA7 behind.S2 family.Goto  -- goto
-    ∷ single 0xA8 behind.S2 family.ForeignJump  -- jsr
+    ∷ single 0xA8 behind.S2 family.UnsupportedJump  -- jsr
     ∷ single 0xA9 behind.U1 family.Ret  -- ret
     ∷ single 0xAA behind.Table family.TableSwitch  -- tableswitch
     ∷ single 0xAB behind.Lookup family.LookupSwitch  -- lookupswitch
     ∷ single 0xAC behind.Nothing family.Return  -- ireturn
-    ∷ alike 0xAD 0xAF behind.Nothing family.ForeignReturn  -- lreturn, freturn, dreturn
+    ∷ alike 0xAD 0xAF behind.Nothing family.UnsupportedReturn  -- lreturn, freturn, dreturn
     ∷ alike 0xB0 0xB1 behind.Nothing family.Return  -- areturn, return
     ∷ single 0xB2 behind.U2 (family.Static false)  -- getstatic
     ∷ single 0xB3 behind.U2 (family.Static true)  -- putstatic
@@ -91,7 +91,7 @@ ranges =
     ∷ single 0xB6 behind.U2 family.CallVirtual  -- invokevirtual
     ∷ alike 0xB7 0xB8 behind.U2 family.CallDirect  -- invokespecial, invokestatic
     ∷ single 0xB9 behind.U2U1U1 family.CallInterface  -- invokeinterface
-    ∷ single 0xBA behind.U2U1U1 family.ForeignConstant  -- invokedynamic
+    ∷ single 0xBA behind.U2U1U1 family.UnsupportedConstant  -- invokedynamic
     ∷ single 0xBB behind.U2 family.New  -- new
     ∷ single 0xBC behind.U1 family.NewArray  -- newarray
     ∷ single 0xBD behind.U2 family.ANewArray  -- anewarray
@@ -99,12 +99,12 @@ ranges =
     ∷ single 0xBF behind.Nothing family.Throw  -- athrow
     ∷ single 0xC0 behind.U2 family.CheckCast  -- checkcast
     ∷ single 0xC1 behind.U2 family.InstanceOf  -- instanceof
-    ∷ alike 0xC2 0xC3 behind.Nothing family.Foreign  -- monitorenter, monitorexit
+    ∷ alike 0xC2 0xC3 behind.Nothing family.Unsupported  -- monitorenter, monitorexit
     ∷ single 0xC4 behind.Nothing family.Wide  -- wide
-    ∷ single 0xC5 behind.U2U1 family.ForeignClass  -- multianewarray
+    ∷ single 0xC5 behind.U2U1 family.UnsupportedClass  -- multianewarray
     ∷ alike 0xC6 0xC7 behind.S2 family.If  -- ifnull, ifnonnull
     ∷ single 0xC8 behind.S4 family.Goto  -- goto_w
-    ∷ single 0xC9 behind.S4 family.ForeignJump  -- jsr_w
+    ∷ single 0xC9 behind.S4 family.UnsupportedJump  -- jsr_w
     ∷ []
 
 -- the row of an opcode in the range that has it; what is in none is no opcode
@@ -155,7 +155,7 @@ tails _ zs = 0
 abbrev pub wide : Operands × Family → Option Operands
 wide (behind.U1, family.Load refs) = Some behind.U2
 wide (behind.U1, family.Store refs) = Some behind.U2
-wide (behind.U1, family.ForeignLocal) = Some behind.U2
+wide (behind.U1, family.UnsupportedLocal) = Some behind.U2
 wide (behind.U1, family.Ret) = Some behind.U2
 wide (behind.U1S1, family.Inc) = Some behind.U2S2
 wide _ = None

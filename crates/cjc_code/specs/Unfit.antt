@@ -97,8 +97,8 @@ may_go_on family.TableSwitch = false
 may_go_on family.LookupSwitch = false
 may_go_on family.Return = false
 may_go_on family.Throw = false
-may_go_on family.ForeignJump = false
-may_go_on family.ForeignReturn = false
+may_go_on family.UnsupportedJump = false
+may_go_on family.UnsupportedReturn = false
 may_go_on family.Ret = false
 may_go_on _ = true
 

@@ -8,9 +8,9 @@ ghost use Rattle.cjc_bytes.specs.Found.{Finds};
 ghost use Rattle.cjc_bytes.specs.Reading.{Reads, read};
 ghost use Rattle.cjc_bytes.proofs.Loops.{with_front};
 ghost use Rattle.cjc_code.specs.declared.table.Operand.TheVariants as kinds;
-ghost use Rattle.cjc_code.specs.Table.{padding as padding_lem, count as count_lem, tails as tails_lem};
-ghost use Rattle.cjc_code.specs.Instruction.{operand, operands, behind_opcode, is_prefix as is_prefix_lem, behind_first, instruction};
-ghost use Rattle.cjc_code.specs.Cut.{cut as cut_lem};
+ghost use Rattle.cjc_code.specs.Table.{padding, count as count_of, tails};
+ghost use Rattle.cjc_code.specs.Instruction.{operand, operands, behind_opcode, is_prefix, behind_first, instruction};
+ghost use Rattle.cjc_code.specs.Cut.{cut};
 
 use crate::raw::{Cut, Raw};
 use crate::table::{Family, Opcode, Operand, Operands, heads, opcode_at, wide_opcode_at};
@@ -57,7 +57,7 @@ fn read_tail(mut numbers: Row<i32>, count: u64, cursor: &mut Cursor<'_>) -> Resu
 }
 
 fn padding(operands: Operands, place: u32) -> u32
-    ensures { result ≡ padding_lem operands place }
+    ensures { result ≡ padding operands place }
 {
     match operands {
         Operands::Table | Operands::Lookup => (4 - place % 4) % 4,
@@ -66,21 +66,21 @@ fn padding(operands: Operands, place: u32) -> u32
 }
 
 fn count(z: i64) -> u64
-    ensures { result ≡ count_lem z }
+    ensures { result ≡ count_of z }
 {
     if z < 0 { 0 } else { z as u64 }
 }
 
 /// How many values there are from low to high.
 fn values(low: i32, high: i32) -> u64
-    ensures { result ≡ count_lem ((high -ℤ low) +ℤ pos 1) }
+    ensures { result ≡ count_of ((high -ℤ low) +ℤ pos 1) }
 {
     count(i64::from(high) - i64::from(low) + 1)
 }
 
 /// How many numbers of four bytes follow those of a switch.
 fn tails(operands: Operands, numbers: &[i32]) -> u64
-    ensures { result ≡ tails_lem operands numbers.now }
+    ensures { result ≡ tails operands numbers.now }
 {
     match (operands, numbers) {
         (Operands::Table, [_, low, high, ..]) => values(*low, *high),
@@ -112,7 +112,7 @@ fn read_behind_opcode(
 }
 
 fn is_prefix(family: Family) -> bool
-    ensures { result ≡ is_prefix_lem family }
+    ensures { result ≡ is_prefix family }
 {
     matches!(family, Family::Wide)
 }
@@ -136,7 +136,7 @@ fn read_instruction(alloc: Global, cursor: &mut Cursor<'_>) -> Result<Raw, Stop>
 #[tactic(auto, using(crate::proofs::Loops::cut_more, crate::proofs::Loops::cut_ends, crate::proofs::Loops::cut_all, crate::proofs::Loops::read_keeps), unfolding(crate::specs::Cut::cut))]
 pub(crate) fn cut(alloc: Global, code: &[u8]) -> Result<Cut, NoMemory>
     requires { length code.now ≤ 65535 }
-    ensures { IfOk result (λ c. c ≡ cut_lem code.now) }
+    ensures { IfOk result (λ c. c ≡ cut code.now) }
 {
     let mut cursor = Cursor::new(code);
     let mut insns = Row::new(alloc);

@@ -1,7 +1,7 @@
 //! What instructions need of the constant pool (Java Virtual Machine Specification, 4.9.1 and 6.5).
 
 ghost use Rattle.std.specs.Prelude.{◌≡◌, slice_get};
-ghost use Rattle.cjc_code.specs.Items.{needed as needed_lem, is_class as is_class_lem, is_field as is_field_lem, is_method as is_method_lem, is_interface_method as is_interface_method_lem, meets as meets_lem};
+ghost use Rattle.cjc_code.specs.Items.{needed, is_class, is_field, is_method, is_interface_method, meets};
 
 use crate::table::Family;
 use cjc_classfile::{ItemKind, PoolItem};
@@ -23,10 +23,10 @@ pub(crate) enum Need {
 
 /// What the index of an instruction has to name, in a class file of this major version.
 pub(crate) fn needed(major: u16, family: Family) -> Need
-    ensures { result ≡ needed_lem major family }
+    ensures { result ≡ needed major family }
 {
     match family {
-        Family::Constant | Family::ForeignConstant => Need::Any,
+        Family::Constant | Family::UnsupportedConstant => Need::Any,
         Family::Static(_) | Family::Field(_) => Need::Field,
         Family::CallVirtual => Need::Method,
         Family::CallDirect if major >= 52 => Need::AnyMethod,
@@ -36,14 +36,14 @@ pub(crate) fn needed(major: u16, family: Family) -> Need
         | Family::ANewArray
         | Family::CheckCast
         | Family::InstanceOf
-        | Family::ForeignClass => Need::Class,
+        | Family::UnsupportedClass => Need::Class,
         _ => Need::Nothing,
     }
 }
 
 /// Whether a class is at an index.
 fn is_class(pool: &[PoolItem<'_>], index: u16) -> bool
-    ensures { result ≡ is_class_lem (slice_get pool.now index) }
+    ensures { result ≡ is_class (slice_get pool.now index) }
 {
     match pool.get(usize::from(index)) {
         Some(item) => matches!(item.kind, ItemKind::Class(_)),
@@ -53,7 +53,7 @@ fn is_class(pool: &[PoolItem<'_>], index: u16) -> bool
 
 /// Whether a field is at an index.
 fn is_field(pool: &[PoolItem<'_>], index: u16) -> bool
-    ensures { result ≡ is_field_lem (slice_get pool.now index) }
+    ensures { result ≡ is_field (slice_get pool.now index) }
 {
     match pool.get(usize::from(index)) {
         Some(item) => matches!(item.kind, ItemKind::Field(_)),
@@ -63,7 +63,7 @@ fn is_field(pool: &[PoolItem<'_>], index: u16) -> bool
 
 /// Whether a method of a class is at an index.
 fn is_method(pool: &[PoolItem<'_>], index: u16) -> bool
-    ensures { result ≡ is_method_lem (slice_get pool.now index) }
+    ensures { result ≡ is_method (slice_get pool.now index) }
 {
     match pool.get(usize::from(index)) {
         Some(item) => matches!(item.kind, ItemKind::Method(_)),
@@ -73,7 +73,7 @@ fn is_method(pool: &[PoolItem<'_>], index: u16) -> bool
 
 /// Whether a method of an interface is at an index.
 fn is_interface_method(pool: &[PoolItem<'_>], index: u16) -> bool
-    ensures { result ≡ is_interface_method_lem (slice_get pool.now index) }
+    ensures { result ≡ is_interface_method (slice_get pool.now index) }
 {
     match pool.get(usize::from(index)) {
         Some(item) => matches!(item.kind, ItemKind::InterfaceMethod(_)),
@@ -83,7 +83,7 @@ fn is_interface_method(pool: &[PoolItem<'_>], index: u16) -> bool
 
 /// Whether the index names what is needed.
 pub(crate) fn meets(pool: &[PoolItem<'_>], index: u16, need: Need) -> bool
-    ensures { result ≡ meets_lem pool.now index need }
+    ensures { result ≡ meets pool.now index need }
 {
     match need {
         Need::Nothing => true,

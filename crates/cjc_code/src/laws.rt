@@ -11,8 +11,8 @@ ghost use Rattle.cjc_classfile.specs.declared.tree.MethodTree.{MethodTree};
 ghost use Rattle.cjc_classfile.specs.Code.{CodeTree};
 ghost use Rattle.cjc_code.specs.declared.insn.JInsn.{JInsn};
 ghost use Rattle.cjc_code.specs.Decoded.{decoding};
-ghost use Rattle.cjc_code.specs.Rules.{IsStart, starts_at, IsFirstUnfit, IsFirstForeignCode, IsDecoded};
-ghost use Rattle.cjc_code.specs.Samples.{sample, broken, unfit, foreign, good, others};
+ghost use Rattle.cjc_code.specs.Rules.{IsStart, starts_at, IsFirstUnfit, IsFirstUnsupportedCode, IsDecoded};
+ghost use Rattle.cjc_code.specs.Samples.{sample, broken, unfit, unsupported, good, others};
 
 /// The table by which code is cut has for each opcode what the ranges of the standard say.
 pub fn opcodes()
@@ -31,14 +31,14 @@ pub fn cuts()
 pub fn rules()
     ensures starts { (code : CodeTree) (place : ℕ) → (starts_at code place ≡ true) ↔ IsStart code place }
     ensures unfit { (class : ClassTree) (method : MethodTree) (code : CodeTree) (k : ℕ) → (decoding class method code ≡ broken 103 k) ↔ IsFirstUnfit class method code k }
-    ensures foreign { (class : ClassTree) (method : MethodTree) (code : CodeTree) (k : ℕ) → (decoding class method code ≡ broken 303 k) ↔ IsFirstForeignCode class method code k }
+    ensures unsupported { (class : ClassTree) (method : MethodTree) (code : CodeTree) (k : ℕ) → (decoding class method code ≡ broken 303 k) ↔ IsFirstUnsupportedCode class method code k }
     ensures decoded { (class : ClassTree) (method : MethodTree) (code : CodeTree) (insns : List JInsn) → (decoding class method code ≡ Ok insns) ↔ IsDecoded class method code insns }
 {}
 
 /// Some codes are decoded as they should be.
 pub fn samples()
     ensures unfit { map (λ x. sample x.0) unfit ≡ map (λ x. broken 103 x.1) unfit }
-    ensures foreign { map (λ x. sample x.0) foreign ≡ map (λ x. broken 303 x.1) foreign }
+    ensures unsupported { map (λ x. sample x.0) unsupported ≡ map (λ x. broken 303 x.1) unsupported }
     ensures good { map (λ x. sample x.0) good ≡ map (λ x. Ok x.1) good }
     ensures others { map (λ x. x.0) others ≡ map (λ x. x.1) others }
 {}

@@ -4,8 +4,8 @@
 ghost use Rattle.std.specs.Prelude.{◌≡◌, ◌<◌, ◌∷◌, [], length, IfOk, MatchOption, slice_get};
 ghost use Rattle.cjc_bytes.specs.Found.{Finds};
 ghost use Rattle.cjc_classfile.specs.KeptItem.{id_of};
-ghost use Rattle.cjc_code.specs.Numbers.{first as first_lem, u16_of as u16_of_lem};
-ghost use Rattle.cjc_code.specs.Named.{int_of as int_of_lem, class_of as class_of_lem, field_of as field_of_lem, method_of as method_of_lem, no_member as no_member_lem, is_foreign as is_foreign_lem, place as place_lem, places as places_lem, cases as cases_lem, table as table_lem, lookup as lookup_lem, op_of as op_of_lem, named as named_lem, all_named as all_named_lem};
+ghost use Rattle.cjc_code.specs.Numbers.{first, u16_of};
+ghost use Rattle.cjc_code.specs.Named.{int_of, class_of, field_of, method_of, no_member, is_unsupported, place, places, cases, table, lookup, op_of, named, all_named};
 
 use crate::insn::{JCase, JInsn, JOp};
 use crate::numbers::{first, i16_of, second, u8_of, u16_of};
@@ -17,7 +17,7 @@ use std::alloc::Global;
 
 /// The Integer at an index, where one is there.
 fn int_at(pool: &[PoolItem<'_>], index: u16) -> Option<i32>
-    ensures { result ≡ int_of_lem (slice_get pool.now index) }
+    ensures { result ≡ int_of (slice_get pool.now index) }
 {
     let item = pool.get(usize::from(index))?;
     match item.kind {
@@ -28,14 +28,14 @@ fn int_at(pool: &[PoolItem<'_>], index: u16) -> Option<i32>
 
 /// The index of an instruction.
 fn index(numbers: &[i32]) -> u16
-    ensures { result ≡ u16_of_lem (first_lem numbers.now) }
+    ensures { result ≡ u16_of (first numbers.now) }
 {
     u16_of(first(numbers))
 }
 
 /// The name of the class at an index.
 fn class_at(alloc: Global, pool: &[PoolItem<'_>], index: u16) -> Result<Bytes, NoMemory>
-    ensures { IfOk result (λ name. name ≡ class_of_lem (slice_get pool.now index)) }
+    ensures { IfOk result (λ name. name ≡ class_of (slice_get pool.now index)) }
 {
     match pool.get(usize::from(index)) {
         Some(item) => match item.kind {
@@ -57,7 +57,7 @@ fn copy_of(alloc: Global, text: MemberText<'_>) -> Result<MemberId, NoMemory>
 }
 
 fn no_member(alloc: Global) -> MemberId
-    ensures { result ≡ no_member_lem }
+    ensures { result ≡ no_member }
 {
     MemberId {
         class: Row::new(alloc),
@@ -68,7 +68,7 @@ fn no_member(alloc: Global) -> MemberId
 
 /// The field at an index.
 fn field_at(alloc: Global, pool: &[PoolItem<'_>], index: u16) -> Result<MemberId, NoMemory>
-    ensures { IfOk result (λ id. id ≡ field_of_lem (slice_get pool.now index)) }
+    ensures { IfOk result (λ id. id ≡ field_of (slice_get pool.now index)) }
 {
     match pool.get(usize::from(index)) {
         Some(item) => match item.kind {
@@ -81,7 +81,7 @@ fn field_at(alloc: Global, pool: &[PoolItem<'_>], index: u16) -> Result<MemberId
 
 /// The method at an index, of a class or of an interface.
 fn method_at(alloc: Global, pool: &[PoolItem<'_>], index: u16) -> Result<MemberId, NoMemory>
-    ensures { IfOk result (λ id. id ≡ method_of_lem (slice_get pool.now index)) }
+    ensures { IfOk result (λ id. id ≡ method_of (slice_get pool.now index)) }
 {
     match pool.get(usize::from(index)) {
         Some(item) => match item.kind {
@@ -92,18 +92,18 @@ fn method_at(alloc: Global, pool: &[PoolItem<'_>], index: u16) -> Result<MemberI
     }
 }
 
-fn is_foreign(pool: &[PoolItem<'_>], family: Family, numbers: &[i32]) -> bool
-    ensures { result ≡ is_foreign_lem pool.now family numbers.now }
+fn is_unsupported(pool: &[PoolItem<'_>], family: Family, numbers: &[i32]) -> bool
+    ensures { result ≡ is_unsupported pool.now family numbers.now }
 {
     match family {
         Family::Constant => int_at(pool, index(numbers)).is_none(),
-        Family::Foreign
-        | Family::ForeignConstant
-        | Family::ForeignLocal
-        | Family::ForeignLocalAt(_)
-        | Family::ForeignJump
-        | Family::ForeignReturn
-        | Family::ForeignClass
+        Family::Unsupported
+        | Family::UnsupportedConstant
+        | Family::UnsupportedLocal
+        | Family::UnsupportedLocalAt(_)
+        | Family::UnsupportedJump
+        | Family::UnsupportedReturn
+        | Family::UnsupportedClass
         | Family::Ret => true,
         _ => false,
     }
@@ -111,14 +111,14 @@ fn is_foreign(pool: &[PoolItem<'_>], family: Family, numbers: &[i32]) -> bool
 
 /// The place to which an instruction jumps.
 fn place(at: u16, offset: i32) -> u32
-    ensures { result ≡ place_lem at offset }
+    ensures { result ≡ place at offset }
 {
     let target = i64::from(at) + i64::from(offset);
     if target < 0 { 0 } else { target as u32 }
 }
 
 fn places(alloc: Global, at: u16, offsets: &[i32]) -> Result<Row<u32>, NoMemory>
-    ensures { IfOk result (λ ps. ps ≡ places_lem at offsets.now) }
+    ensures { IfOk result (λ ps. ps ≡ places at offsets.now) }
 {
     let mut places = Row::new(alloc);
     for offset in offsets {
@@ -129,7 +129,7 @@ fn places(alloc: Global, at: u16, offsets: &[i32]) -> Result<Row<u32>, NoMemory>
 
 /// The case at the front of pairs, and the pairs behind it.
 fn first_case(at: u16, pairs: &[i32]) -> Option<(JCase, &[i32])>
-    ensures { MatchOption result (cases_lem at pairs.now ≡ []) (λ x. (cases_lem at pairs.now ≡ x.0 ∷ cases_lem at x.1.now) × (length x.1.now < length pairs.now)) }
+    ensures { MatchOption result (cases at pairs.now ≡ []) (λ x. (cases at pairs.now ≡ x.0 ∷ cases at x.1.now) × (length x.1.now < length pairs.now)) }
 {
     match pairs {
         [value, offset, behind @ ..] => {
@@ -144,7 +144,7 @@ fn first_case(at: u16, pairs: &[i32]) -> Option<(JCase, &[i32])>
 }
 
 fn cases(alloc: Global, at: u16, pairs: &[i32]) -> Result<Row<JCase>, NoMemory>
-    ensures { IfOk result (λ cs. cs ≡ cases_lem at pairs.now) }
+    ensures { IfOk result (λ cs. cs ≡ cases at pairs.now) }
 {
     let mut cases = Row::new(alloc);
     let mut left = pairs;
@@ -156,7 +156,7 @@ fn cases(alloc: Global, at: u16, pairs: &[i32]) -> Result<Row<JCase>, NoMemory>
 }
 
 fn table(alloc: Global, at: u16, numbers: &[i32]) -> Result<JOp, NoMemory>
-    ensures { IfOk result (λ op. op ≡ table_lem at numbers.now) }
+    ensures { IfOk result (λ op. op ≡ table at numbers.now) }
 {
     match numbers {
         [other, low, _, offsets @ ..] => Ok(JOp::TableSwitch {
@@ -169,7 +169,7 @@ fn table(alloc: Global, at: u16, numbers: &[i32]) -> Result<JOp, NoMemory>
 }
 
 fn lookup(alloc: Global, at: u16, numbers: &[i32]) -> Result<JOp, NoMemory>
-    ensures { IfOk result (λ op. op ≡ lookup_lem at numbers.now) }
+    ensures { IfOk result (λ op. op ≡ lookup at numbers.now) }
 {
     match numbers {
         [other, _, pairs @ ..] => Ok(JOp::LookupSwitch {
@@ -189,7 +189,7 @@ fn op_of(
     family: Family,
     numbers: &[i32],
 ) -> Result<JOp, NoMemory>
-    ensures { IfOk result (λ op. op ≡ op_of_lem pool.now at opcode family numbers.now) }
+    ensures { IfOk result (λ op. op ≡ op_of pool.now at opcode family numbers.now) }
 {
     let z = first(numbers);
     match family {
@@ -256,10 +256,10 @@ fn op_of(
 /// An instruction with its names, or its place where it breaks rule 303.
 #[tactic(auto, unfolding(crate::specs::Named::named))]
 fn named(alloc: Global, pool: &[PoolItem<'_>], insn: &Raw) -> Result<JInsn, Stop>
-    ensures { Finds (λ i. i) (named_lem pool.now insn.now) result }
+    ensures { Finds (λ i. i) (named pool.now insn.now) result }
 {
     let numbers = insn.numbers.items();
-    if is_foreign(pool, insn.family, numbers) {
+    if is_unsupported(pool, insn.family, numbers) {
         return Err(Stop::Broken(u32::from(insn.at)));
     }
     let op = op_of(alloc, pool, insn.at, insn.opcode, insn.family, numbers)?;
@@ -276,7 +276,7 @@ pub(crate) fn all_named(
     pool: &[PoolItem<'_>],
     insns: &[Raw],
 ) -> Result<Row<JInsn>, Stop>
-    ensures { Finds (λ is. is) (all_named_lem pool.now insns.now) result }
+    ensures { Finds (λ is. is) (all_named pool.now insns.now) result }
 {
     let mut all = Row::new(alloc);
     for insn in insns {

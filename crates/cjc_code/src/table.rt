@@ -35,7 +35,7 @@ pub(crate) enum Operands {
     Lookup,
 }
 
-/// What an instruction is. Those that begin with `Foreign` are of the Java Virtual Machine and are not
+/// What an instruction is. Those that begin with `Unsupported` are of the Java Virtual Machine and are not
 /// converted. A `bool` is whether a reference is loaded or stored, or whether a field is put; a number is a
 /// constant or the number of a local.
 #[derive(Clone, Copy)]
@@ -78,13 +78,13 @@ pub(crate) enum Family {
     CheckCast,
     InstanceOf,
     /// With no operand, or none that is tested.
-    Foreign,
-    ForeignConstant,
-    ForeignLocal,
-    ForeignLocalAt(u8),
-    ForeignJump,
-    ForeignReturn,
-    ForeignClass,
+    Unsupported,
+    UnsupportedConstant,
+    UnsupportedLocal,
+    UnsupportedLocalAt(u8),
+    UnsupportedJump,
+    UnsupportedReturn,
+    UnsupportedClass,
     Ret,
 }
 
@@ -98,10 +98,10 @@ pub(crate) struct Opcode {
 
 use Family::{
     ANewArray, Arith, ArrayLength, ArrayLoad, ArrayStore, CallDirect, CallInterface, CallVirtual,
-    CheckCast, Constant, Field, Foreign, ForeignClass, ForeignConstant, ForeignJump, ForeignLocal,
-    ForeignLocalAt, ForeignReturn, Goto, If, Inc, InstanceOf, Load, LoadAt, LookupSwitch, Narrow,
-    New, NewArray, Nop, Null, Push, Ret, Return, Small, Stack, Static, Store, StoreAt, TableSwitch,
-    Throw, Unknown, Wide,
+    CheckCast, Constant, Field, Goto, If, Inc, InstanceOf, Load, LoadAt, LookupSwitch, Narrow, New,
+    NewArray, Nop, Null, Push, Ret, Return, Small, Stack, Static, Store, StoreAt, TableSwitch,
+    Throw, Unknown, Unsupported, UnsupportedClass, UnsupportedConstant, UnsupportedJump,
+    UnsupportedLocal, UnsupportedLocalAt, UnsupportedReturn, Wide,
 };
 use Operands::{Lookup, Nothing, S1, S2, S4, Table, U1, U1S1, U2, U2S2, U2U1, U2U1U1};
 
@@ -116,83 +116,83 @@ pub(crate) static TABLE: [(Operands, Family); 256] = [
     (Nothing, Small(3)), // 06 iconst_3
     (Nothing, Small(4)), // 07 iconst_4
     (Nothing, Small(5)), // 08 iconst_5
-    (Nothing, Foreign), // 09 lconst_0
-    (Nothing, Foreign), // 0A lconst_1
-    (Nothing, Foreign), // 0B fconst_0
-    (Nothing, Foreign), // 0C fconst_1
-    (Nothing, Foreign), // 0D fconst_2
-    (Nothing, Foreign), // 0E dconst_0
-    (Nothing, Foreign), // 0F dconst_1
+    (Nothing, Unsupported), // 09 lconst_0
+    (Nothing, Unsupported), // 0A lconst_1
+    (Nothing, Unsupported), // 0B fconst_0
+    (Nothing, Unsupported), // 0C fconst_1
+    (Nothing, Unsupported), // 0D fconst_2
+    (Nothing, Unsupported), // 0E dconst_0
+    (Nothing, Unsupported), // 0F dconst_1
     (S1, Push), // 10 bipush
     (S2, Push), // 11 sipush
     (U1, Constant), // 12 ldc
     (U2, Constant), // 13 ldc_w
-    (U2, ForeignConstant), // 14 ldc2_w
+    (U2, UnsupportedConstant), // 14 ldc2_w
     (U1, Load(false)), // 15 iload
-    (U1, ForeignLocal), // 16 lload
-    (U1, ForeignLocal), // 17 fload
-    (U1, ForeignLocal), // 18 dload
+    (U1, UnsupportedLocal), // 16 lload
+    (U1, UnsupportedLocal), // 17 fload
+    (U1, UnsupportedLocal), // 18 dload
     (U1, Load(true)), // 19 aload
     (Nothing, LoadAt(false, 0)), // 1A iload_0
     (Nothing, LoadAt(false, 1)), // 1B iload_1
     (Nothing, LoadAt(false, 2)), // 1C iload_2
     (Nothing, LoadAt(false, 3)), // 1D iload_3
-    (Nothing, ForeignLocalAt(0)), // 1E lload_0
-    (Nothing, ForeignLocalAt(1)), // 1F lload_1
-    (Nothing, ForeignLocalAt(2)), // 20 lload_2
-    (Nothing, ForeignLocalAt(3)), // 21 lload_3
-    (Nothing, ForeignLocalAt(0)), // 22 fload_0
-    (Nothing, ForeignLocalAt(1)), // 23 fload_1
-    (Nothing, ForeignLocalAt(2)), // 24 fload_2
-    (Nothing, ForeignLocalAt(3)), // 25 fload_3
-    (Nothing, ForeignLocalAt(0)), // 26 dload_0
-    (Nothing, ForeignLocalAt(1)), // 27 dload_1
-    (Nothing, ForeignLocalAt(2)), // 28 dload_2
-    (Nothing, ForeignLocalAt(3)), // 29 dload_3
+    (Nothing, UnsupportedLocalAt(0)), // 1E lload_0
+    (Nothing, UnsupportedLocalAt(1)), // 1F lload_1
+    (Nothing, UnsupportedLocalAt(2)), // 20 lload_2
+    (Nothing, UnsupportedLocalAt(3)), // 21 lload_3
+    (Nothing, UnsupportedLocalAt(0)), // 22 fload_0
+    (Nothing, UnsupportedLocalAt(1)), // 23 fload_1
+    (Nothing, UnsupportedLocalAt(2)), // 24 fload_2
+    (Nothing, UnsupportedLocalAt(3)), // 25 fload_3
+    (Nothing, UnsupportedLocalAt(0)), // 26 dload_0
+    (Nothing, UnsupportedLocalAt(1)), // 27 dload_1
+    (Nothing, UnsupportedLocalAt(2)), // 28 dload_2
+    (Nothing, UnsupportedLocalAt(3)), // 29 dload_3
     (Nothing, LoadAt(true, 0)), // 2A aload_0
     (Nothing, LoadAt(true, 1)), // 2B aload_1
     (Nothing, LoadAt(true, 2)), // 2C aload_2
     (Nothing, LoadAt(true, 3)), // 2D aload_3
     (Nothing, ArrayLoad), // 2E iaload
-    (Nothing, Foreign), // 2F laload
-    (Nothing, Foreign), // 30 faload
-    (Nothing, Foreign), // 31 daload
+    (Nothing, Unsupported), // 2F laload
+    (Nothing, Unsupported), // 30 faload
+    (Nothing, Unsupported), // 31 daload
     (Nothing, ArrayLoad), // 32 aaload
     (Nothing, ArrayLoad), // 33 baload
-    (Nothing, Foreign), // 34 caload
+    (Nothing, Unsupported), // 34 caload
     (Nothing, ArrayLoad), // 35 saload
     (U1, Store(false)), // 36 istore
-    (U1, ForeignLocal), // 37 lstore
-    (U1, ForeignLocal), // 38 fstore
-    (U1, ForeignLocal), // 39 dstore
+    (U1, UnsupportedLocal), // 37 lstore
+    (U1, UnsupportedLocal), // 38 fstore
+    (U1, UnsupportedLocal), // 39 dstore
     (U1, Store(true)), // 3A astore
     (Nothing, StoreAt(false, 0)), // 3B istore_0
     (Nothing, StoreAt(false, 1)), // 3C istore_1
     (Nothing, StoreAt(false, 2)), // 3D istore_2
     (Nothing, StoreAt(false, 3)), // 3E istore_3
-    (Nothing, ForeignLocalAt(0)), // 3F lstore_0
-    (Nothing, ForeignLocalAt(1)), // 40 lstore_1
-    (Nothing, ForeignLocalAt(2)), // 41 lstore_2
-    (Nothing, ForeignLocalAt(3)), // 42 lstore_3
-    (Nothing, ForeignLocalAt(0)), // 43 fstore_0
-    (Nothing, ForeignLocalAt(1)), // 44 fstore_1
-    (Nothing, ForeignLocalAt(2)), // 45 fstore_2
-    (Nothing, ForeignLocalAt(3)), // 46 fstore_3
-    (Nothing, ForeignLocalAt(0)), // 47 dstore_0
-    (Nothing, ForeignLocalAt(1)), // 48 dstore_1
-    (Nothing, ForeignLocalAt(2)), // 49 dstore_2
-    (Nothing, ForeignLocalAt(3)), // 4A dstore_3
+    (Nothing, UnsupportedLocalAt(0)), // 3F lstore_0
+    (Nothing, UnsupportedLocalAt(1)), // 40 lstore_1
+    (Nothing, UnsupportedLocalAt(2)), // 41 lstore_2
+    (Nothing, UnsupportedLocalAt(3)), // 42 lstore_3
+    (Nothing, UnsupportedLocalAt(0)), // 43 fstore_0
+    (Nothing, UnsupportedLocalAt(1)), // 44 fstore_1
+    (Nothing, UnsupportedLocalAt(2)), // 45 fstore_2
+    (Nothing, UnsupportedLocalAt(3)), // 46 fstore_3
+    (Nothing, UnsupportedLocalAt(0)), // 47 dstore_0
+    (Nothing, UnsupportedLocalAt(1)), // 48 dstore_1
+    (Nothing, UnsupportedLocalAt(2)), // 49 dstore_2
+    (Nothing, UnsupportedLocalAt(3)), // 4A dstore_3
     (Nothing, StoreAt(true, 0)), // 4B astore_0
     (Nothing, StoreAt(true, 1)), // 4C astore_1
     (Nothing, StoreAt(true, 2)), // 4D astore_2
     (Nothing, StoreAt(true, 3)), // 4E astore_3
     (Nothing, ArrayStore), // 4F iastore
-    (Nothing, Foreign), // 50 lastore
-    (Nothing, Foreign), // 51 fastore
-    (Nothing, Foreign), // 52 dastore
+    (Nothing, Unsupported), // 50 lastore
+    (Nothing, Unsupported), // 51 fastore
+    (Nothing, Unsupported), // 52 dastore
     (Nothing, ArrayStore), // 53 aastore
     (Nothing, ArrayStore), // 54 bastore
-    (Nothing, Foreign), // 55 castore
+    (Nothing, Unsupported), // 55 castore
     (Nothing, ArrayStore), // 56 sastore
     (Nothing, Stack), // 57 pop
     (Nothing, Stack), // 58 pop2
@@ -204,62 +204,62 @@ pub(crate) static TABLE: [(Operands, Family); 256] = [
     (Nothing, Stack), // 5E dup2_x2
     (Nothing, Stack), // 5F swap
     (Nothing, Arith), // 60 iadd
-    (Nothing, Foreign), // 61 ladd
-    (Nothing, Foreign), // 62 fadd
-    (Nothing, Foreign), // 63 dadd
+    (Nothing, Unsupported), // 61 ladd
+    (Nothing, Unsupported), // 62 fadd
+    (Nothing, Unsupported), // 63 dadd
     (Nothing, Arith), // 64 isub
-    (Nothing, Foreign), // 65 lsub
-    (Nothing, Foreign), // 66 fsub
-    (Nothing, Foreign), // 67 dsub
+    (Nothing, Unsupported), // 65 lsub
+    (Nothing, Unsupported), // 66 fsub
+    (Nothing, Unsupported), // 67 dsub
     (Nothing, Arith), // 68 imul
-    (Nothing, Foreign), // 69 lmul
-    (Nothing, Foreign), // 6A fmul
-    (Nothing, Foreign), // 6B dmul
+    (Nothing, Unsupported), // 69 lmul
+    (Nothing, Unsupported), // 6A fmul
+    (Nothing, Unsupported), // 6B dmul
     (Nothing, Arith), // 6C idiv
-    (Nothing, Foreign), // 6D ldiv
-    (Nothing, Foreign), // 6E fdiv
-    (Nothing, Foreign), // 6F ddiv
+    (Nothing, Unsupported), // 6D ldiv
+    (Nothing, Unsupported), // 6E fdiv
+    (Nothing, Unsupported), // 6F ddiv
     (Nothing, Arith), // 70 irem
-    (Nothing, Foreign), // 71 lrem
-    (Nothing, Foreign), // 72 frem
-    (Nothing, Foreign), // 73 drem
+    (Nothing, Unsupported), // 71 lrem
+    (Nothing, Unsupported), // 72 frem
+    (Nothing, Unsupported), // 73 drem
     (Nothing, Arith), // 74 ineg
-    (Nothing, Foreign), // 75 lneg
-    (Nothing, Foreign), // 76 fneg
-    (Nothing, Foreign), // 77 dneg
+    (Nothing, Unsupported), // 75 lneg
+    (Nothing, Unsupported), // 76 fneg
+    (Nothing, Unsupported), // 77 dneg
     (Nothing, Arith), // 78 ishl
-    (Nothing, Foreign), // 79 lshl
+    (Nothing, Unsupported), // 79 lshl
     (Nothing, Arith), // 7A ishr
-    (Nothing, Foreign), // 7B lshr
+    (Nothing, Unsupported), // 7B lshr
     (Nothing, Arith), // 7C iushr
-    (Nothing, Foreign), // 7D lushr
+    (Nothing, Unsupported), // 7D lushr
     (Nothing, Arith), // 7E iand
-    (Nothing, Foreign), // 7F land
+    (Nothing, Unsupported), // 7F land
     (Nothing, Arith), // 80 ior
-    (Nothing, Foreign), // 81 lor
+    (Nothing, Unsupported), // 81 lor
     (Nothing, Arith), // 82 ixor
-    (Nothing, Foreign), // 83 lxor
+    (Nothing, Unsupported), // 83 lxor
     (U1S1, Inc), // 84 iinc
-    (Nothing, Foreign), // 85 i2l
-    (Nothing, Foreign), // 86 i2f
-    (Nothing, Foreign), // 87 i2d
-    (Nothing, Foreign), // 88 l2i
-    (Nothing, Foreign), // 89 l2f
-    (Nothing, Foreign), // 8A l2d
-    (Nothing, Foreign), // 8B f2i
-    (Nothing, Foreign), // 8C f2l
-    (Nothing, Foreign), // 8D f2d
-    (Nothing, Foreign), // 8E d2i
-    (Nothing, Foreign), // 8F d2l
-    (Nothing, Foreign), // 90 d2f
+    (Nothing, Unsupported), // 85 i2l
+    (Nothing, Unsupported), // 86 i2f
+    (Nothing, Unsupported), // 87 i2d
+    (Nothing, Unsupported), // 88 l2i
+    (Nothing, Unsupported), // 89 l2f
+    (Nothing, Unsupported), // 8A l2d
+    (Nothing, Unsupported), // 8B f2i
+    (Nothing, Unsupported), // 8C f2l
+    (Nothing, Unsupported), // 8D f2d
+    (Nothing, Unsupported), // 8E d2i
+    (Nothing, Unsupported), // 8F d2l
+    (Nothing, Unsupported), // 90 d2f
     (Nothing, Narrow), // 91 i2b
-    (Nothing, Foreign), // 92 i2c
+    (Nothing, Unsupported), // 92 i2c
     (Nothing, Narrow), // 93 i2s
-    (Nothing, Foreign), // 94 lcmp
-    (Nothing, Foreign), // 95 fcmpl
-    (Nothing, Foreign), // 96 fcmpg
-    (Nothing, Foreign), // 97 dcmpl
-    (Nothing, Foreign), // 98 dcmpg
+    (Nothing, Unsupported), // 94 lcmp
+    (Nothing, Unsupported), // 95 fcmpl
+    (Nothing, Unsupported), // 96 fcmpg
+    (Nothing, Unsupported), // 97 dcmpl
+    (Nothing, Unsupported), // 98 dcmpg
     (S2, If), // 99 ifeq
     (S2, If), // 9A ifne
     (S2, If), // 9B iflt
@@ -275,14 +275,14 @@ pub(crate) static TABLE: [(Operands, Family); 256] = [
     (S2, If), // A5 if_acmpeq
     (S2, If), // A6 if_acmpne
     (S2, Goto), // A7 goto
-    (S2, ForeignJump), // A8 jsr
+    (S2, UnsupportedJump), // A8 jsr
     (U1, Ret), // A9 ret
     (Table, TableSwitch), // AA tableswitch
     (Lookup, LookupSwitch), // AB lookupswitch
     (Nothing, Return), // AC ireturn
-    (Nothing, ForeignReturn), // AD lreturn
-    (Nothing, ForeignReturn), // AE freturn
-    (Nothing, ForeignReturn), // AF dreturn
+    (Nothing, UnsupportedReturn), // AD lreturn
+    (Nothing, UnsupportedReturn), // AE freturn
+    (Nothing, UnsupportedReturn), // AF dreturn
     (Nothing, Return), // B0 areturn
     (Nothing, Return), // B1 return
     (U2, Static(false)), // B2 getstatic
@@ -293,7 +293,7 @@ pub(crate) static TABLE: [(Operands, Family); 256] = [
     (U2, CallDirect), // B7 invokespecial
     (U2, CallDirect), // B8 invokestatic
     (U2U1U1, CallInterface), // B9 invokeinterface
-    (U2U1U1, ForeignConstant), // BA invokedynamic
+    (U2U1U1, UnsupportedConstant), // BA invokedynamic
     (U2, New), // BB new
     (U1, NewArray), // BC newarray
     (U2, ANewArray), // BD anewarray
@@ -301,14 +301,14 @@ pub(crate) static TABLE: [(Operands, Family); 256] = [
     (Nothing, Throw), // BF athrow
     (U2, CheckCast), // C0 checkcast
     (U2, InstanceOf), // C1 instanceof
-    (Nothing, Foreign), // C2 monitorenter
-    (Nothing, Foreign), // C3 monitorexit
+    (Nothing, Unsupported), // C2 monitorenter
+    (Nothing, Unsupported), // C3 monitorexit
     (Nothing, Wide), // C4 wide
-    (U2U1, ForeignClass), // C5 multianewarray
+    (U2U1, UnsupportedClass), // C5 multianewarray
     (S2, If), // C6 ifnull
     (S2, If), // C7 ifnonnull
     (S4, Goto), // C8 goto_w
-    (S4, ForeignJump), // C9 jsr_w
+    (S4, UnsupportedJump), // C9 jsr_w
     (Nothing, Unknown), // CA
     (Nothing, Unknown), // CB
     (Nothing, Unknown), // CC
@@ -397,7 +397,7 @@ fn wide(operands: Operands, family: Family) -> Option<Operands>
     ensures { result ≡ wide (operands, family) }
 {
     match (operands, family) {
-        (U1, Load(_) | Store(_) | ForeignLocal | Ret) => Some(U2),
+        (U1, Load(_) | Store(_) | UnsupportedLocal | Ret) => Some(U2),
         (U1S1, Inc) => Some(U2S2),
         _ => None,
     }

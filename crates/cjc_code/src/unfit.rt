@@ -3,7 +3,7 @@
 ghost use Rattle.std.specs.Prelude.{◌≡◌, ◌++◌, ◌≤◌, ◌^◌, ◌<◌, length, OnOk, IfOk, map, pos};
 ghost use Rattle.std.specs.List.{flat_map};
 ghost use Rattle.cjc_bytes.specs.Spots.{desc_of};
-ghost use Rattle.cjc_code.specs.Unfit.{rise as rise_lem, has_wrong_item as has_wrong_item_lem, has_wrong_jump as has_wrong_jump_lem, has_wrong_local as has_wrong_local_lem, has_wrong_values as has_wrong_values_lem, has_wrong_type as has_wrong_type_lem, is_unfit as is_unfit_lem, where_true, unfit_places, may_go_on as may_go_on_lem, last_places, arguments as arguments_lem, catch_places, cut_places};
+ghost use Rattle.cjc_code.specs.Unfit.{rise, has_wrong_item, has_wrong_jump, has_wrong_local, has_wrong_values, has_wrong_type, is_unfit, where_true, unfit_places, may_go_on, last_places, arguments, catch_places, cut_places};
 
 use crate::items::{meets, needed};
 use crate::numbers::{first, local, u8_of, u16_of};
@@ -16,7 +16,7 @@ use std::alloc::Global;
 
 /// Whether the values of pairs rise strictly.
 fn rise(pairs: &[i32]) -> bool
-    ensures { result ≡ rise_lem pairs.now }
+    ensures { result ≡ rise pairs.now }
 {
     let mut left = pairs;
     while let [value, _, next, ..] = left {
@@ -29,20 +29,20 @@ fn rise(pairs: &[i32]) -> bool
 }
 
 fn has_wrong_item(major: u16, pool: &[PoolItem<'_>], insn: &Raw) -> bool
-    ensures { result ≡ has_wrong_item_lem major pool.now insn.now }
+    ensures { result ≡ has_wrong_item major pool.now insn.now }
 {
     let index = u16_of(first(insn.numbers.items()));
     !meets(pool, index, needed(major, insn.family))
 }
 
 fn has_wrong_jump(starts: &[bool], insn: &Raw) -> bool
-    ensures { result ≡ has_wrong_jump_lem starts.now insn.now }
+    ensures { result ≡ has_wrong_jump starts.now insn.now }
 {
     !jumps_land(starts, insn.at, insn.family, insn.numbers.items())
 }
 
 fn has_wrong_local(max_locals: u16, insn: &Raw) -> bool
-    ensures { result ≡ has_wrong_local_lem max_locals insn.now }
+    ensures { result ≡ has_wrong_local max_locals insn.now }
 {
     match local(insn.family, insn.numbers.items()) {
         Some(n) => n >= max_locals,
@@ -51,7 +51,7 @@ fn has_wrong_local(max_locals: u16, insn: &Raw) -> bool
 }
 
 fn has_wrong_values(family: Family, numbers: &[i32]) -> bool
-    ensures { result ≡ has_wrong_values_lem family numbers.now }
+    ensures { result ≡ has_wrong_values family numbers.now }
 {
     match (family, numbers) {
         (Family::TableSwitch, [_, low, high, ..]) => high < low,
@@ -61,7 +61,7 @@ fn has_wrong_values(family: Family, numbers: &[i32]) -> bool
 }
 
 fn has_wrong_type(family: Family, numbers: &[i32]) -> bool
-    ensures { result ≡ has_wrong_type_lem family numbers.now }
+    ensures { result ≡ has_wrong_type family numbers.now }
 {
     match family {
         Family::NewArray => {
@@ -74,7 +74,7 @@ fn has_wrong_type(family: Family, numbers: &[i32]) -> bool
 
 /// Whether an instruction breaks the rule at its own place.
 fn is_unfit(major: u16, pool: &[PoolItem<'_>], max_locals: u16, starts: &[bool], insn: &Raw) -> bool
-    ensures { result ≡ is_unfit_lem major pool.now max_locals starts.now insn.now }
+    ensures { result ≡ is_unfit major pool.now max_locals starts.now insn.now }
 {
     has_wrong_item(major, pool, insn)
         || has_wrong_jump(starts, insn)
@@ -113,7 +113,7 @@ fn put_unfit(
 
 /// Whether the next instruction may follow.
 fn may_go_on(family: Family) -> bool
-    ensures { result ≡ may_go_on_lem family }
+    ensures { result ≡ may_go_on family }
 {
     !matches!(
         family,
@@ -122,8 +122,8 @@ fn may_go_on(family: Family) -> bool
             | Family::LookupSwitch
             | Family::Return
             | Family::Throw
-            | Family::ForeignJump
-            | Family::ForeignReturn
+            | Family::UnsupportedJump
+            | Family::UnsupportedReturn
             | Family::Ret
     )
 }
@@ -140,7 +140,7 @@ fn put_last(insns: &[Raw], places: &mut Row<u32>) -> Result<(), NoMemory>
 /// How many locals the arguments take, one for each parameter and one for `this`.
 fn arguments(method: &MethodTree<'_>) -> u64
     requires { length method.now.desc < 2 ^ 32 }
-    ensures { result ≡ arguments_lem method.now }
+    ensures { result ≡ arguments method.now }
 {
     let params = match Desc::parse(method.desc.items()) {
         Ok(desc) => desc.params(),

@@ -15,7 +15,7 @@ use Rattle.cjc_capread.specs.declared.tree.FieldPlace.TheVariants as places
 use Rattle.cjc_capread.specs.declared.tree.MethodDescriptor.{MethodDescriptor}
 use Rattle.cjc_capread.specs.declared.tree.StaticRef.TheVariants as refs
 use Rattle.cjc_capread.specs.ClassRefs.{same_class}
-use Rattle.cjc_card.specs.Classes.{Class as CardClass, Foreign, Own}
+use Rattle.cjc_card.specs.Classes.{Class as CardClass, External, Own}
 use Rattle.cjc_classfile.specs.declared.tree.FieldTree.{FieldTree}
 use Rattle.cjc_sentences.specs.Spots.{along, in_info, unless}
 use Rattle.cjc_sentences.specs.Members.{all_fields, class_methods, has_field, is_cell_at, is_instance, is_method_start}
@@ -169,7 +169,7 @@ module _ (p : Package) where
 
     own_ref : (x : CardClass) (s offset token : ℕ) → ref_to x ≡ Inside s → member_ref x offset token ≡ refs.Inside offset
     own_ref (Own part at) s offset token e = refl
-    own_ref (Foreign file class) s offset token e = absurd cc
+    own_ref (External file class) s offset token e = absurd cc
 
     pub method_named : (m : MemberId) → IsOwnMethod p m → names_member (whole p) (exports_of p) (entry_of (names p) (keys.StaticMethod m)) ≡ true
     method_named m is =

@@ -4,7 +4,7 @@ use Rattle.std.specs.List.{AllByRecursion, find, list_any}
 use Rattle.cjc_bytes.specs.declared.fault.MemberId.{MemberId}
 use Rattle.cjc_bytes.specs.AccessFlags.{is_interface, is_static}
 use Rattle.cjc_classfile.specs.declared.tree.FieldTree.{FieldTree}
-use Rattle.cjc_card.specs.Classes.{Foreign}
+use Rattle.cjc_card.specs.Classes.{External}
 use Rattle.cjc_export.specs.declared.tree.ExportClass.{ExportClass}
 use Rattle.cjc_export.specs.declared.tree.ExportField.{ExportField}
 use Rattle.cjc_export.specs.declared.tree.ExportMethod.{ExportMethod}
@@ -92,7 +92,7 @@ pub record IsImportedClass (p : Package) (name : List ℕ) (c : ExportClass) : T
   pub place : ℕ
   pub is_tree : slice_get (exports_of p) file ≡ Some tree
   pub is_class : slice_get tree.classes place ≡ Some c
-  pub named : class_at p name ≡ Foreign file c.token
+  pub named : class_at p name ≡ External file c.token
   pub first : find (λ (d : ExportClass). d.token == c.token) tree.classes ≡ Some c
 
 -- a member of an imported class, by the number of the class among those of all export files

@@ -10,7 +10,7 @@ use Rattle.cjc_code.specs.declared.insn.JInsn.{JInsn}
 use Rattle.cjc_code.specs.declared.insn.JOp.{JOp}
 use Rattle.cjc_code.specs.declared.insn.JOp.TheVariants as jop
 use Rattle.cjc_world.specs.Files.{Files}
-use Rattle.cjc_by_name.specs.OnePackage.{Hit, is_constructor, of_class}
+use Rattle.cjc_by_name.specs.OnePackage.{ResolvedMember, is_constructor, of_class}
 use Rattle.cjc_ncode.specs.declared.narrow.NCase.{NCase}
 use Rattle.cjc_ncode.specs.declared.narrow.NInsn.{NInsn}
 use Rattle.cjc_ncode.specs.declared.narrow.NInsn.TheVariants.{Op, Push, Local, Words, Named, Interface}
@@ -134,7 +134,7 @@ module _ (files : Files) (near : List MemberId) (holder : List ℕ) where
   abbrev r : Resolution
   r = resolution files near holder
 
-  special_kind : (id : MemberId) (o : Option Hit) → suits (meaning 0x8C) (special_by holder id o) ≡ true
+  special_kind : (id : MemberId) (o : Option ResolvedMember) → suits (meaning 0x8C) (special_by holder id o) ≡ true
   special_kind id None = special_suits id
   special_kind id (Some hit) = by (is_constructor id.name || is_private hit.flags)
     where

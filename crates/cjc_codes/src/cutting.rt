@@ -19,7 +19,7 @@ use cjc_bytes::{NoMemory, Row};
 use cjc_capread::MethodDescriptor;
 use cjc_decode::{Header, method_header};
 use cjc_lookup::{Names, unless};
-use cjc_sentences::Spot;
+use cjc_sentences::ComponentPlace;
 use std::alloc::Global;
 
 /// The tag of Method.
@@ -138,7 +138,7 @@ pub fn cut<'a>(alloc: Global, names: &Names<'a>) -> Result<Cutting<'a>, NoMemory
 
 /// Where 709 is broken: where methods are cut no further.
 #[tactic(auto, unfolding(cjc_sentences::specs::Spots::first))]
-pub fn whole_spot(cut: &Cutting<'_>) -> Option<Spot>
+pub fn whole_spot(cut: &Cutting<'_>) -> Option<ComponentPlace>
     requires { IsCut cut.now }
     ensures { result ≡ first (where_cut_ends (cut_of cut.now)) }
 {

@@ -6,7 +6,7 @@ use Rattle.std.proofs.lemmas.List.{length-map}
 use Rattle.std.proofs.lemmas.List.Sums.{sum_by-cons}
 use Rattle.cjc_capread.specs.declared.tree.ClassRef.{ClassRef}
 use Rattle.cjc_capread.specs.declared.tree.ClassRef.TheVariants.{Inside}
-use Rattle.cjc_card.specs.Classes.{Own, foreign_from, or_else}
+use Rattle.cjc_card.specs.Classes.{Own, external_from, or_else}
 use Rattle.cjc_sentences.specs.Spots.{placed, starts}
 use Rattle.cjc_sentences.specs.Complete.{interface_size, class_size, map_size}
 use Rattle.cjc_sentences.specs.Classes.{first_interface, first_class}
@@ -89,4 +89,4 @@ ref_is_start p apart k c e =
     let exports = (let files = p.files in files.exports) in
     let offset : option_and_then (slice_get (info_starts p)) (position (λ d. bytes_eq d.name c.name) (class_order (world p))) ≡ Some found.0 =
     ap (option_and_then (slice_get (info_starts p))) (apart k c e) ∙ found.1 in
-    (found.0, found.1, ap (λ o. ref_to (unwrap_or (or_else (option_map (Own 0) o) (foreign_from 0 exports c.name)) (Own 0 0))) offset)
+    (found.0, found.1, ap (λ o. ref_to (unwrap_or (or_else (option_map (Own 0) o) (external_from 0 exports c.name)) (Own 0 0))) offset)

@@ -3,7 +3,7 @@ use Rattle.std.proofs.Common.{◌≡◌, ℕ, ◌==◌, Bool, true, List, [], �
 use Rattle.std.specs.Prelude.{◌&&◌}
 use Rattle.std.specs.Str.{bytes_eq}
 use Rattle.std.proofs.lemmas.Bool.Decides.{nat_tests}
-use Rattle.cjc_sentences.specs.declared.spot.Spot.{Spot}
+use Rattle.cjc_sentences.specs.declared.spot.ComponentPlace.{ComponentPlace}
 use Rattle.cjc_sentences.specs.Spots.{unless}
 
 pub same_number : (n : ℕ) → (n == n) ≡ true
@@ -14,7 +14,7 @@ same_bytes [] = refl
 same_bytes (b ∷ bytes) = ap (λ t. t && bytes_eq bytes bytes) (same_number b) ∙ same_bytes bytes
 
 -- nothing is broken where the test passes
-pub passes : (test : Bool) (spot : Spot) → test ≡ true → unless test spot ≡ []
+pub passes : (test : Bool) (spot : ComponentPlace) → test ≡ true → unless test spot ≡ []
 passes test spot e = ap (λ t. unless t spot) e
 
 pub none_in_both : {A : Type 0} {xs ys : List A} → xs ≡ [] → ys ≡ [] → xs ++ ys ≡ []

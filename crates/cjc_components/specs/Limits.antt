@@ -1,6 +1,6 @@
 -- The limits of what is written for a package, and where each is broken.
 use Rattle.std.specs.Prelude.{ℕ, ◌+◌, ◌*◌, List, [], ◌∷◌, ◌++◌, flat_map, length, sum_by, nat_lt, Bool, ◌||◌, if◌then◌else◌, Option, Some, None}
-use Rattle.cjc_bytes.specs.Breaks.{Break, Spot, at, broken_at, list_spot, class_spot, member_spot}
+use Rattle.cjc_bytes.specs.Breaks.{Break, RulePlace, at, broken_at, list_spot, class_spot, member_spot}
 use Rattle.cjc_bytes.specs.Order.{file_of}
 use Rattle.cjc_bytes.specs.Refused.{method_text}
 use Rattle.cjc_capwrite.specs.Files.{ends_too_far, is_too_large, infos_of}
@@ -18,14 +18,14 @@ use Rattle.cjc_components.specs.ExportFile.{export_of}
 -- ---- places
 
 -- a method at an offset of its code in the class file; one that is added to a class has no place of its own, and stands at the class
-abbrev pub method_spot : Package → Class → Found → Member → (offset : ℕ) → Spot
+abbrev pub method_spot : Package → Class → Found → Member → (offset : ℕ) → RulePlace
 method_spot p c f m offset = let files = p.files in
     if nat_lt f.member (length c.fields + length c.methods)
     then member_spot (file_of files.lines c.number) 1 c.name (f.member + 1) (method_text m.name m.desc) offset
     else class_spot (file_of files.lines c.number) 1 c.name
 
 -- the list
-abbrev pub spot_of_list : Package → Spot
+abbrev pub spot_of_list : Package → RulePlace
 spot_of_list p = let list = p.list in list_spot list.name
 
 -- ---- each method
@@ -39,7 +39,7 @@ abbrev pub is_too_long : LaidMethod → Bool
 is_too_long m = let code = m.code in nat_lt 32767 code.widest
 
 -- 311: two handlers that cover a common instruction stand in the class file in another order than their offsets; the place is the first of the later ones.
-abbrev pub order_breaks : (place : ℕ → Spot) → Option ℕ → List Break
+abbrev pub order_breaks : (place : ℕ → RulePlace) → Option ℕ → List Break
 order_breaks place None = []
 order_breaks place (Some offset) = broken_at (place offset) 311 ∷ []
 

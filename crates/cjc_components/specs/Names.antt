@@ -9,7 +9,7 @@ use Rattle.cjc_capread.specs.declared.tree.StaticRef.TheVariants as refs
 use Rattle.cjc_capread.specs.declared.tree.PoolEntry.{PoolEntry}
 use Rattle.cjc_sentences.specs.Described.{all_starts}
 use Rattle.cjc_card.specs.Loaded.{Loaded}
-use Rattle.cjc_card.specs.Classes.{Class as CardClass, Own, Foreign, foreign_from, or_else}
+use Rattle.cjc_card.specs.Classes.{Class as CardClass, Own, External, external_from, or_else}
 use Rattle.cjc_card.specs.Dispatch.{Open}
 use Rattle.cjc_card.specs.Operations.{Fixed, Outer, Callee, token_of}
 use Rattle.cjc_world.specs.declared.found.Found.{Found}
@@ -42,12 +42,12 @@ class_offset p name = option_and_then (slice_get (info_starts p)) (position (λ 
 
 -- The class of a name: one of the package by its offset, else that of the first export file that has it, by the number of the file and its token there.
 abbrev pub class_at : Package → (name : List ℕ) → CardClass
-class_at p name = unwrap_or (or_else (option_map (Own 0) (class_offset p name)) (let files = p.files in foreign_from 0 files.exports name)) (Own 0 0)
+class_at p name = unwrap_or (or_else (option_map (Own 0) (class_offset p name)) (let files = p.files in external_from 0 files.exports name)) (Own 0 0)
 
 -- a class_ref: the token of an imported package is the number of its export file
 abbrev pub ref_to : CardClass → ClassRef
 ref_to (Own part offset) = Inside offset
-ref_to (Foreign file token) = Outside file token
+ref_to (External file token) = Outside file token
 
 -- the class_ref of a class by its name
 abbrev pub class_ref : Package → (name : List ℕ) → ClassRef
@@ -89,7 +89,7 @@ interface_token p m = token_in_interface (world p) (signature_of m) (class_named
 -- by the class that has the member: of the package by an offset, else by a token
 abbrev pub member_ref : CardClass → (offset token : ℕ) → StaticRef
 member_ref (Own part at) offset token = refs.Inside offset
-member_ref (Foreign file class) offset token = refs.Outside file class token
+member_ref (External file class) offset token = refs.Outside file class token
 
 -- a static field, by the class in which it is found
 abbrev pub field_ref : Package → MemberId → StaticRef

@@ -1,8 +1,8 @@
 -- StaticField: the static fields of a package and what they hold at first (Java Card Virtual Machine Specification 2.2.2, section 6.10).
 use Rattle.std.specs.Prelude.{ℕ, ◌+◌, ◌*◌, List, [], ◌∷◌, ◌++◌, map, length, flat_map, sum_by, if◌then◌else◌, ℤ}
 use Rattle.cjc_bytes.specs.declared.fault.MemberId.{MemberId}
-use Rattle.cjc_bytes.specs.declared.names.Kind.{Kind}
-use Rattle.cjc_bytes.specs.declared.names.Kind.TheVariants as kinds
+use Rattle.cjc_bytes.specs.declared.descriptor.Kind.{Kind}
+use Rattle.cjc_bytes.specs.declared.descriptor.Kind.TheVariants as kinds
 use Rattle.cjc_capread.specs.declared.tree.ArrayInit.{ArrayInit}
 use Rattle.cjc_capread.specs.declared.tree.StaticField.{StaticField}
 use Rattle.cjc_script.specs.declared.value.Value.TheVariants.{Num}

@@ -4,7 +4,7 @@ use Rattle.std.specs.Prelude.{not}
 use Rattle.std.specs.List.{list_any}
 use Rattle.cjc_export.specs.Members.{same_bool}
 use Rattle.cjc_capread.specs.declared.tree.Handler.{Handler}
-use Rattle.cjc_sentences.specs.declared.spot.Spot.{Spot}
+use Rattle.cjc_sentences.specs.declared.spot.ComponentPlace.{ComponentPlace}
 use Rattle.cjc_sentences.specs.Spots.{earlier, first, in_info, unless}
 use Rattle.cjc_sentences.specs.Handlers.{meet, stops_from}
 use Rattle.cjc_sentences.proofs.Firsts.{joined}
@@ -14,7 +14,7 @@ unfolding stops_from first
 no_stops at [] lt = refl
 no_stops at (h ∷ hs) lt = absurd (omega (arith, lt))
 
-first_with : (at : ℕ) (d : Handler) (hs : List Handler) (a b : Option Spot) → 1 ≤ length hs
+first_with : (at : ℕ) (d : Handler) (hs : List Handler) (a b : Option ComponentPlace) → 1 ≤ length hs
     → a ≡ first (unless (same_bool (get_or hs 0 d).stop (not (list_any (meet (get_or hs 0 d)) (drop 1 hs)))) (in_info 7 (at + 2)))
     → b ≡ first (stops_from (at + 8) (drop 1 hs))
     → earlier a b ≡ first (stops_from at hs)
@@ -22,7 +22,7 @@ unfolding stops_from
 first_with at d [] a b le e f = absurd (omega (arith, le))
 first_with at d (h ∷ hs) a b le e f = joined a b (unless (same_bool h.stop (not (list_any (meet h) hs))) (in_info 7 (at + 2))) (stops_from (at + 8) hs) e f
 
-pub stops_first : (at : ℕ) (d : Handler) (hs later : List Handler) (a b : Option Spot) → 1 ≤ length hs → later ≡ drop 1 hs
+pub stops_first : (at : ℕ) (d : Handler) (hs later : List Handler) (a b : Option ComponentPlace) → 1 ≤ length hs → later ≡ drop 1 hs
     → a ≡ first (unless (same_bool (get_or hs 0 d).stop (not (list_any (meet (get_or hs 0 d)) later))) (in_info 7 (at + 2)))
     → b ≡ first (stops_from (at + 8) later)
     → earlier a b ≡ first (stops_from at hs)

@@ -8,7 +8,7 @@ ghost use Rattle.cjc_sentences.specs.Spots.{first};
 
 use cjc_capread::{Applet, ArrayInit, CapTree, Directory, Import, StaticField};
 use cjc_lookup::{Comparison, Item, earlier, first_beside, size_items, unless};
-use cjc_sentences::Spot;
+use cjc_sentences::ComponentPlace;
 
 /// The tag of Directory.
 const DIRECTORY: u8 = 2;
@@ -28,7 +28,7 @@ impl Comparison<u64, u32> for SizesAgree {
 
     ghost fits = { λ s. Unit {0} };
 
-    fn first_between(&self, at: u32, item: &u64, other: &u32) -> Option<Spot> {
+    fn first_between(&self, at: u32, item: &u64, other: &u32) -> Option<ComponentPlace> {
         let is_there = may_be_absent(1 + at / 2) || *other != 0;
         unless(*item == u64::from(*other) && is_there, DIRECTORY, at)
     }
@@ -48,7 +48,7 @@ fn array_bytes(arrays: &[ArrayInit]) -> u32
 
 /// The first number of Directory that is another than StaticField's.
 #[tactic(auto, using(cjc_sentences::proofs::Arrays::bytes_fit, cjc_sentences::proofs::Firsts::first_append))]
-fn statics_agree(directory: &Directory, statics: &StaticField) -> Option<Spot>
+fn statics_agree(directory: &Directory, statics: &StaticField) -> Option<ComponentPlace>
     requires { statics_size statics.now < 2 ^ 32 }
     ensures { result ≡ first (statics_agree directory.now (Some statics.now)) }
 {
@@ -66,7 +66,7 @@ fn statics_agree(directory: &Directory, statics: &StaticField) -> Option<Spot>
 
 /// The same where StaticField may be absent.
 #[tactic(auto, unfolding(cjc_sentences::specs::Spots::first))]
-fn statics_spot(directory: &Directory, statics: &Option<StaticField>) -> Option<Spot>
+fn statics_spot(directory: &Directory, statics: &Option<StaticField>) -> Option<ComponentPlace>
     requires { size_of statics_size statics.now < 2 ^ 32 }
     ensures { result ≡ first (statics_agree directory.now statics.now) }
 {
@@ -78,7 +78,7 @@ fn statics_spot(directory: &Directory, statics: &Option<StaticField>) -> Option<
 
 /// Whether Directory has the number of imported packages.
 #[tactic(auto, unfolding(cjc_sentences::specs::Spots::first))]
-fn imports_spot(directory: &Directory, import: &Option<Import>) -> Option<Spot>
+fn imports_spot(directory: &Directory, import: &Option<Import>) -> Option<ComponentPlace>
     ensures { result ≡ first (imports_agree directory.now import.now) }
 {
     match import {
@@ -101,7 +101,7 @@ fn applet_count(applet: &Option<Applet>) -> usize
 }
 
 /// The first size in Directory that is not the component's.
-fn sizes_spot(tree: &CapTree) -> Option<Spot>
+fn sizes_spot(tree: &CapTree) -> Option<ComponentPlace>
     requires { IsSmall tree.now }
     ensures { result ≡ first (sizes_agree tree.now.directory.component_sizes (size_items tree.now)) }
 {
@@ -111,7 +111,7 @@ fn sizes_spot(tree: &CapTree) -> Option<Spot>
 }
 
 /// Whether Directory has the number of applets.
-fn applets_spot(tree: &CapTree) -> Option<Spot>
+fn applets_spot(tree: &CapTree) -> Option<ComponentPlace>
     ensures { result ≡ first (applets_agree tree.now.directory tree.now.applet) }
 {
     let count = applet_count(&tree.applet);
@@ -125,7 +125,7 @@ fn applets_spot(tree: &CapTree) -> Option<Spot>
 /// Where 701 is broken first: the item of Directory that is not what the components have, or the size of one
 /// that may not be absent. A component with its tag and size has fewer than 2^32 bytes.
 #[tactic(auto, using(cjc_sentences::proofs::Firsts::first_append))]
-pub fn directory_spot(tree: &CapTree) -> Option<Spot>
+pub fn directory_spot(tree: &CapTree) -> Option<ComponentPlace>
     requires { IsSmall tree.now }
     ensures { result ≡ first (directory_spots tree.now) }
 {

@@ -9,7 +9,7 @@ ghost use Rattle.cjc_export.specs.Members.{same_bool};
 
 use cjc_capread::{Handler, Method};
 use cjc_lookup::{earlier, same_bool, unless};
-use cjc_sentences::Spot;
+use cjc_sentences::ComponentPlace;
 
 /// The tag of Method.
 const METHOD: u8 = 7;
@@ -43,7 +43,7 @@ fn meets_any(one: Handler, later: &[Handler]) -> bool
 }
 
 /// The place of a handler's stop bit where that is wrong, the handler beginning at an offset.
-fn stop_at(at: u32, one: &Handler, later: &[Handler]) -> Option<Spot>
+fn stop_at(at: u32, one: &Handler, later: &[Handler]) -> Option<ComponentPlace>
     requires { 5 + at < 2 ^ 32 }
     ensures { result ≡ first (unless (same_bool one.now.stop (not (list_any (meet one.now) later.now))) (in_info 7 (at + 2))) }
 {
@@ -52,7 +52,7 @@ fn stop_at(at: u32, one: &Handler, later: &[Handler]) -> Option<Spot>
 }
 
 /// The first stop bit that is wrong, where the first handler begins at an offset. A component has at most 255 handlers.
-fn stops(at: u32, handlers: &[Handler]) -> Option<Spot>
+fn stops(at: u32, handlers: &[Handler]) -> Option<ComponentPlace>
     requires { 3 + at + 8 * length handlers.now < 2 ^ 32 }
     ensures { result ≡ first (stops_from at handlers.now) }
 {
@@ -64,7 +64,7 @@ fn stops(at: u32, handlers: &[Handler]) -> Option<Spot>
 
 /// Where 713 is broken first: a stop bit is 1 exactly where the range of no later handler meets this one's. A
 /// component with its tag and size has fewer than 2^32 bytes.
-pub fn stop_spot(method: &Method) -> Option<Spot>
+pub fn stop_spot(method: &Method) -> Option<ComponentPlace>
     requires { 3 + method_size method.now < 2 ^ 32 }
     ensures { result ≡ first (stop_spots method.now) }
 {

@@ -10,7 +10,7 @@ ghost use Rattle.std.specs.Str.{bytes_eq};
 use cjc_capread::{Import, ImportedPackage};
 use cjc_export::ExportTree;
 use cjc_lookup::{Comparison, earlier, first_beside, unless};
-use cjc_sentences::Spot;
+use cjc_sentences::ComponentPlace;
 
 /// The tag of Import.
 const IMPORT: u8 = 4;
@@ -31,7 +31,12 @@ impl Comparison<ImportedPackage, ExportTree> for Agree {
     ghost fits = { λ s. Unit {0} };
 
     #[tactic(auto, using(cjc_sentences::proofs::Firsts::first_append))]
-    fn first_between(&self, at: u32, item: &ImportedPackage, other: &ExportTree) -> Option<Spot> {
+    fn first_between(
+        &self,
+        at: u32,
+        item: &ImportedPackage,
+        other: &ExportTree,
+    ) -> Option<ComponentPlace> {
         let major = unless(item.major == other.major, IMPORT, at + 1);
         let aid = unless(has_aid(item, other), IMPORT, at + 2);
         earlier(major, aid)
@@ -40,7 +45,7 @@ impl Comparison<ImportedPackage, ExportTree> for Agree {
 
 /// Where 703 is broken first: the number of packages, a major version or an AID that is another than the export
 /// file's of its place. A component with its tag and size has fewer than 2^32 bytes.
-pub fn import_spot(import: &Import, exports: &[ExportTree]) -> Option<Spot>
+pub fn import_spot(import: &Import, exports: &[ExportTree]) -> Option<ComponentPlace>
     requires { 3 + import_size import.now < 2 ^ 32 }
     ensures { result ≡ first (import_spots import.now exports.now) }
 {

@@ -10,7 +10,7 @@ ghost use Rattle.cjc_export.specs.Members.{same_bool};
 use cjc_bytes::has;
 use cjc_capread::CapTree;
 use cjc_lookup::{same_bool, unless};
-use cjc_sentences::Spot;
+use cjc_sentences::ComponentPlace;
 
 /// The tag of Header.
 const HEADER: u8 = 1;
@@ -30,7 +30,7 @@ fn flags_agree(flags: u8, applet: bool, export: bool) -> bool
 }
 
 /// Where 702 is broken: the flags.
-pub fn flags_spot(tree: &CapTree) -> Option<Spot>
+pub fn flags_spot(tree: &CapTree) -> Option<ComponentPlace>
     ensures { result ≡ first (flags_spots tree.now) }
 {
     let agree = flags_agree(

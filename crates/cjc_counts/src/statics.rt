@@ -8,7 +8,7 @@ ghost use Rattle.cjc_sentences.specs.Statics.{element_size, image_spots, in_arra
 
 use cjc_capread::{ArrayInit, StaticField};
 use cjc_lookup::{earlier, unless};
-use cjc_sentences::Spot;
+use cjc_sentences::ComponentPlace;
 
 /// The tag of StaticField.
 const STATIC_FIELD: u8 = 8;
@@ -25,7 +25,7 @@ fn element_size(type_: u8) -> usize
 }
 
 /// Whether an array has whole elements; where not, its place, the array beginning at an offset.
-fn in_array(at: u32, array: &ArrayInit) -> Option<Spot>
+fn in_array(at: u32, array: &ArrayInit) -> Option<ComponentPlace>
     requires { 4 + at < 2 ^ 32 }
     ensures { result ≡ first (in_array at array.now) }
 {
@@ -34,7 +34,7 @@ fn in_array(at: u32, array: &ArrayInit) -> Option<Spot>
 }
 
 /// The first array that has no whole elements.
-fn in_arrays(arrays: &[ArrayInit]) -> Option<Spot>
+fn in_arrays(arrays: &[ArrayInit]) -> Option<ComponentPlace>
     requires { 9 + sum_by array_size arrays.now < 2 ^ 32 }
     ensures { result ≡ first (along array_size in_array 6 arrays.now) }
 {
@@ -64,7 +64,7 @@ fn has_room(statics: &StaticField) -> bool
 
 /// Where 716 is broken first: the size of the image, the number of arrays, or the number of an array's bytes. A
 /// component with its tag and size has fewer than 2^32 bytes.
-pub fn image_spot(statics: &StaticField) -> Option<Spot>
+pub fn image_spot(statics: &StaticField) -> Option<ComponentPlace>
     requires { 3 + statics_size statics.now < 2 ^ 32 }
     ensures { result ≡ first (image_spots statics.now) }
 {

@@ -10,7 +10,7 @@ use Rattle.cjc_world.specs.declared.found.Found.{Found}
 use Rattle.cjc_world.specs.Classes.{Member, Class, class_at}
 use Rattle.cjc_world.specs.Lookup.{member_at}
 use Rattle.cjc_tokens.specs.Methods.{is_open_bound}
-use Rattle.cjc_card.specs.Classes.{Own, Foreign, foreign_from, or_else, token_named}
+use Rattle.cjc_card.specs.Classes.{Own, External, external_from, or_else, token_named}
 use Rattle.cjc_clinit.specs.Image.{field_id}
 use Rattle.cjc_vtable.proofs.Numbers.{at-tree}
 use Rattle.cjc_components.specs.Package.{Package, world}
@@ -26,19 +26,19 @@ use Rattle.cjc_export_file.specs.Working.Exported.{offset_in, ref_offset, row_at
 -- ---- the offset of a class
 
 -- a class of an export file has none
-foreign-offset : (n : ℕ) (trees : List ExportTree) (name : List ℕ) → offset_in (ref_to (unwrap_or (foreign_from n trees name) (Own 0 0))) ≡ 0
-foreign-offset n [] name = refl
-foreign-offset n (t ∷ trees) name = by (token_named t.classes name) (foreign-offset (n + 1) trees name)
+external-offset : (n : ℕ) (trees : List ExportTree) (name : List ℕ) → offset_in (ref_to (unwrap_or (external_from n trees name) (Own 0 0))) ≡ 0
+external-offset n [] name = refl
+external-offset n (t ∷ trees) name = by (token_named t.classes name) (external-offset (n + 1) trees name)
   where
-    by : (o : Option ℕ) → offset_in (ref_to (unwrap_or (foreign_from (n + 1) trees name) (Own 0 0))) ≡ 0 → offset_in (ref_to (unwrap_or (or_else (option_map (Foreign n) o) (foreign_from (n + 1) trees name)) (Own 0 0))) ≡ 0
+    by : (o : Option ℕ) → offset_in (ref_to (unwrap_or (external_from (n + 1) trees name) (Own 0 0))) ≡ 0 → offset_in (ref_to (unwrap_or (or_else (option_map (External n) o) (external_from (n + 1) trees name)) (Own 0 0))) ≡ 0
     by None e = e
     by (Some token) e = refl
 
 ref-class : (p : Package) (name : List ℕ) → offset_in (class_ref p name) ≡ unwrap_or (class_offset p name) 0
 ref-class p name = by (class_offset p name)
   where
-    by : (o : Option ℕ) → offset_in (ref_to (unwrap_or (or_else (option_map (Own 0) o) (let files = p.files in foreign_from 0 files.exports name)) (Own 0 0))) ≡ unwrap_or o 0
-    by None = let files = p.files in foreign-offset 0 files.exports name
+    by : (o : Option ℕ) → offset_in (ref_to (unwrap_or (or_else (option_map (Own 0) o) (let files = p.files in external_from 0 files.exports name)) (Own 0 0))) ≡ unwrap_or o 0
+    by None = let files = p.files in external-offset 0 files.exports name
     by (Some offset) = refl
 
 pub offset-of-class : (p : Package) (o : Offsets) (c : Class) → AreOffsets p o → class_at (world p) false c.number ≡ Some c → ref_offset o.refs.now c.number ≡ unwrap_or (class_offset p c.name) 0

@@ -8,7 +8,7 @@ use Rattle.cjc_export.specs.declared.tree.ExportClass.{ExportClass}
 use Rattle.cjc_export.specs.ExportFile.{class_token, new_name}
 use Rattle.cjc_export.specs.Writable.{ClassFits, EachAfter, FieldFits, IsWritable}
 use Rattle.cjc_world.specs.Classes.{Class, field_of_class}
-use Rattle.cjc_world.specs.Kin.{kin}
+use Rattle.cjc_world.specs.Supertypes.{supertypes}
 use Rattle.cjc_supers.specs.Supers.{names_upwards, superclasses}
 use Rattle.cjc_tokens.specs.Members.{is_exposed}
 use Rattle.cjc_components.specs.Class.{fields_in, fields_of, is_shareable}
@@ -50,7 +50,7 @@ module _ (p : Package) (h : IsExportable p) (stands : ClassesStand p) (few : (le
       let long : length c.fields ≡ length tree.fields = ap (λ (d : Class). length d.fields) own.is ∙ length-map tree.fields field_of_class in
       let fewer_fields = subst (λ (fs : List FieldTree). length (fields_from p c 0 fs) ≤ length tree.fields) (sym shown) (fewer p c 0 tree.fields) in
       let fields_few = s.fields in
-      let supers = few_supers t k (export_class p c) (names_upwards (kin (world p) c.supers)) (at ∙ ap (λ (x : ExportClass). Some x) (sym is)) refl in
+      let supers = few_supers t k (export_class p c) (names_upwards (supertypes (world p) c.supers)) (at ∙ ap (λ (x : ExportClass). Some x) (sym is)) refl in
       let entries = h.entries in
       record {
         token = (let lt : (let x = export_class p c in x.token) < 2 ^ 8 = omega (arith, token, within, few) in lt);

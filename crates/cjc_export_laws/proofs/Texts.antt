@@ -5,7 +5,7 @@ use Rattle.std.specs.List.{AllByRecursion}
 use Rattle.cjc_export.specs.Supers.{is_one_of}
 use Rattle.cjc_export.specs.Writable.{ClassFits, EachAfter, IsText}
 use Rattle.cjc_world.specs.Classes.{Class, class_named}
-use Rattle.cjc_world.specs.Kin.{Kin, End, Unknown, Known, grown, in_a_row, kin, known_as}
+use Rattle.cjc_world.specs.Supertypes.{Supertypes, End, Unknown, Known, supertypes_within, in_a_row, supertypes, known_as}
 use Rattle.cjc_world.specs.Interfaces.{Interface, gathered, is_among, where_listed}
 use Rattle.cjc_world.specs.Interfaces as worlds
 use Rattle.cjc_supers.specs.Supers.{each_once, interfaces, name_of, names_upwards, superclasses}
@@ -47,13 +47,13 @@ lists_texts p h x c e = by c (filed p.files x c e)
 
 -- ---- a tree of names
 
-abbrev AreTexts : Kin → Type 0
+abbrev AreTexts : Supertypes → Type 0
 AreTexts End = Unit {0}
 AreTexts (Unknown name next) = IsText name × AreTexts next
 AreTexts (Known c supers interfaces next) = IsText c.name × AreTexts supers × AreTexts interfaces × AreTexts next
 
 module _ (w : List Class) (lists : (x : List ℕ) (c : Class) → class_named w x ≡ Some c → ListsTexts c) where
-  row_texts : (above : List (List ℕ) → Kin) → ((ys : List (List ℕ)) → AllByRecursion IsText ys → AreTexts (above ys)) → (xs : List (List ℕ)) → AllByRecursion IsText xs → AreTexts (in_a_row w above xs)
+  row_texts : (above : List (List ℕ) → Supertypes) → ((ys : List (List ℕ)) → AllByRecursion IsText ys → AreTexts (above ys)) → (xs : List (List ℕ)) → AllByRecursion IsText xs → AreTexts (in_a_row w above xs)
   row_texts above deep [] h = tt
   row_texts above deep (x ∷ xs) h = by (row_texts above deep xs h.1) (class_named w x) refl
     where
@@ -61,16 +61,16 @@ module _ (w : List Class) (lists : (x : List ℕ) (c : Class) → class_named w 
       by rest None e = (h.0, rest)
       by rest (Some c) e = let l = lists x c e in (l.name, deep c.supers l.supers, deep c.interfaces l.interfaces, rest)
 
-  grown_texts : (n : ℕ) (xs : List (List ℕ)) → AllByRecursion IsText xs → AreTexts (grown w n xs)
-  unfolding grown
+  grown_texts : (n : ℕ) (xs : List (List ℕ)) → AllByRecursion IsText xs → AreTexts (supertypes_within w n xs)
+  unfolding supertypes_within
   grown_texts zero xs h = tt
-  grown_texts (suc n) xs h = row_texts (grown w n) (grown_texts n) xs h
+  grown_texts (suc n) xs h = row_texts (supertypes_within w n) (grown_texts n) xs h
 
-  kin_texts : (xs : List (List ℕ)) → AllByRecursion IsText xs → AreTexts (kin w xs)
-  unfolding kin
-  kin_texts xs h = grown_texts (suc (length w)) xs h
+  supertypes_texts : (xs : List (List ℕ)) → AllByRecursion IsText xs → AreTexts (supertypes w xs)
+  unfolding supertypes
+  supertypes_texts xs h = grown_texts (suc (length w)) xs h
 
-upwards_texts : (k : Kin) → AreTexts k → AllByRecursion IsText (names_upwards k)
+upwards_texts : (k : Supertypes) → AreTexts k → AllByRecursion IsText (names_upwards k)
 upwards_texts End h = tt
 upwards_texts (Unknown name next) h = (h.0, upwards_texts next h.1)
 upwards_texts (Known c supers interfaces next) h = (h.0, all_both IsText (names_upwards supers) (names_upwards next) (upwards_texts supers h.1) (upwards_texts next h.3))
@@ -78,7 +78,7 @@ upwards_texts (Known c supers interfaces next) h = (h.0, all_both IsText (names_
 abbrev NameIsText : Interface → Type 0
 NameIsText i = IsText (name_of i)
 
-gathered_texts : (listed : Bool) (k : Kin) → AreTexts k → AllByRecursion NameIsText (gathered listed k)
+gathered_texts : (listed : Bool) (k : Supertypes) → AreTexts k → AllByRecursion NameIsText (gathered listed k)
 unfolding gathered
 gathered_texts listed End h = tt
 gathered_texts listed (Unknown name next) h = all_both NameIsText (where_listed listed (record { name = name; class = None })) (gathered listed next) (one listed) (gathered_texts listed next h.1)
@@ -124,13 +124,13 @@ name_text p h c own = let l = own_lists p h c own in l.name
 pub super_texts : (p : Package) → IsExportable p → (c : Class) → IsOwn p c → AllByRecursion IsText (superclasses (world p) c)
 super_texts p h c own =
     let l = own_lists p h c own in
-    once_texts [] (names_upwards (kin (world p) c.supers)) (upwards_texts (kin (world p) c.supers) (kin_texts (world p) (lists_texts p h) c.supers l.supers))
+    once_texts [] (names_upwards (supertypes (world p) c.supers)) (upwards_texts (supertypes (world p) c.supers) (supertypes_texts (world p) (lists_texts p h) c.supers l.supers))
 
 pub interface_texts : (p : Package) → IsExportable p → (c : Class) → IsOwn p c → AllByRecursion IsText (interfaces (world p) c)
 interface_texts p h c own =
     let l = own_lists p h c own in
-    let all = gathered false (kin (world p) c.supers) ++ gathered true (kin (world p) c.interfaces) in
+    let all = gathered false (supertypes (world p) c.supers) ++ gathered true (supertypes (world p) c.interfaces) in
     all_mapped IsText name_of (worlds.each_once [] all) (interfaces_once [] all
-    (all_both NameIsText (gathered false (kin (world p) c.supers)) (gathered true (kin (world p) c.interfaces))
-    (gathered_texts false (kin (world p) c.supers) (kin_texts (world p) (lists_texts p h) c.supers l.supers))
-    (gathered_texts true (kin (world p) c.interfaces) (kin_texts (world p) (lists_texts p h) c.interfaces l.interfaces))))
+    (all_both NameIsText (gathered false (supertypes (world p) c.supers)) (gathered true (supertypes (world p) c.interfaces))
+    (gathered_texts false (supertypes (world p) c.supers) (supertypes_texts (world p) (lists_texts p h) c.supers l.supers))
+    (gathered_texts true (supertypes (world p) c.interfaces) (supertypes_texts (world p) (lists_texts p h) c.interfaces l.interfaces))))

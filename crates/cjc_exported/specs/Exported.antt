@@ -7,13 +7,13 @@ use Rattle.cjc_capread.specs.declared.tree.ClassDescriptor.{ClassDescriptor}
 use Rattle.cjc_capread.specs.declared.tree.ExportedClass.{ExportedClass}
 use Rattle.cjc_capread.specs.declared.tree.FieldDescriptor.{FieldDescriptor}
 use Rattle.cjc_capread.specs.declared.tree.MethodDescriptor.{MethodDescriptor}
-use Rattle.cjc_sentences.specs.declared.spot.Spot.{Spot}
+use Rattle.cjc_sentences.specs.declared.spot.ComponentPlace.{ComponentPlace}
 use Rattle.cjc_sentences.specs.Complete.{Complete}
 use Rattle.cjc_sentences.specs.Exports.{class_for, in_exported}
 use Rattle.cjc_sentences.specs.Members.{is_cell_at, is_constructor}
 
 -- where the offsets of an exported class are broken, beside the class of Descriptor with its token and start
-abbrev pub exported_spot : Complete → (token at : ℕ) → ExportedClass → List Spot
+abbrev pub exported_spot : Complete → (token at : ℕ) → ExportedClass → List ComponentPlace
 exported_spot c token at e = in_exported c at e (class_for c token e.class_offset)
 
 -- a static field of a class with this token has this cell

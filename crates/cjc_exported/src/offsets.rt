@@ -22,7 +22,7 @@ use cjc_capread::{
     ClassDescriptor, ClassRef, ExportedClass, FieldDescriptor, FieldPlace, MethodDescriptor,
 };
 use cjc_lookup::{Item, Methods, Names, earlier, unless};
-use cjc_sentences::Spot;
+use cjc_sentences::ComponentPlace;
 use std::alloc::Global;
 
 /// The tag of Export.
@@ -139,7 +139,7 @@ fn method_marks(
 }
 
 /// The first of offsets that is not marked, where they stand one behind the other from a place on.
-fn first_unmarked(from: u32, offsets: &[u64], marks: &[bool]) -> Option<Spot>
+fn first_unmarked(from: u32, offsets: &[u64], marks: &[bool]) -> Option<ComponentPlace>
     requires each { length marks.now ≡ length offsets.now }
     requires small { 3 + from + 2 * length offsets.now < 2 ^ 32 }
     ensures { (is : ℕ → ℕ → Bool) → ((n : ℕ) → n < length offsets.now → get_or marks.now n false ≡ is n (get_or offsets.now n 0)) → result ≡ first (numbered (λ o. 2) (λ n at o. unless (is n o) (in_info 10 at)) 0 from offsets.now) }
@@ -159,7 +159,7 @@ fn field_spot(
     at: u32,
     offsets: &[u64],
     fields: &[FieldDescriptor],
-) -> Result<Option<Spot>, NoMemory>
+) -> Result<Option<ComponentPlace>, NoMemory>
     requires { 3 + at + 2 * length offsets.now < 2 ^ 32 }
     ensures { IfOk result (λ r. r ≡ first (numbered (λ o. 2) (λ token at o. unless (has_cell fields.now token o) (in_info 10 at)) 0 at offsets.now)) }
 {
@@ -174,7 +174,7 @@ fn method_spot(
     methods: &Methods<'_>,
     offsets: &[u64],
     described: &[MethodDescriptor],
-) -> Result<Option<Spot>, NoMemory>
+) -> Result<Option<ComponentPlace>, NoMemory>
     requires ready { HasMethods methods.now }
     requires small { 3 + at + 2 * length offsets.now < 2 ^ 32 }
     ensures { IfOk result (λ r. r ≡ first (numbered (λ o. 2) (λ token at o. unless (is_method_start (complete_of methods.now.names.now.parts.now) o && has_start described.now token o) (in_info 10 at)) 0 at offsets.now)) }
@@ -239,7 +239,7 @@ fn in_class(
     at: u32,
     exported: &ExportedClass,
     class: &ClassDescriptor,
-) -> Result<Option<Spot>, NoMemory>
+) -> Result<Option<ComponentPlace>, NoMemory>
     requires ready { HasMethods methods.now }
     requires small { 3 + at + exported_size exported.now < 2 ^ 32 }
     ensures { IfOk result (λ r. r ≡ first (in_exported (complete_of methods.now.names.now.parts.now) at exported.now (Some class.now))) }
@@ -261,7 +261,7 @@ fn at_place(
     at: u32,
     exported: &ExportedClass,
     place: Option<usize>,
-) -> Result<Option<Spot>, NoMemory>
+) -> Result<Option<ComponentPlace>, NoMemory>
     requires ready { HasMethods methods.now }
     requires small { 3 + at + exported_size exported.now < 2 ^ 32 }
     ensures { IfOk result (λ r. r ≡ first (in_exported (complete_of methods.now.names.now.parts.now) at exported.now (class_in methods.now.names.now.parts.now.descriptor.now.classes place))) }
@@ -281,7 +281,7 @@ fn class_spot(
     alloc: Global,
     methods: &Methods<'_>,
     exported: &[ExportedClass],
-) -> Result<Option<Spot>, NoMemory>
+) -> Result<Option<ComponentPlace>, NoMemory>
     requires ready { HasMethods methods.now }
     requires small { 3 + 1 + sum_by exported_size exported.now < 2 ^ 32 }
     ensures { IfOk result (λ r. r ≡ first (numbered exported_size (exported_spot (complete_of methods.now.names.now.parts.now)) 0 1 exported.now)) }
@@ -300,7 +300,7 @@ fn class_spot(
 
 /// Where 717 is broken first: an offset that is not that of what Descriptor gives its token.
 #[tactic(auto, unfolding(cjc_sentences::specs::Spots::numbered, cjc_sentences::specs::Spots::first))]
-pub fn export_spot(alloc: Global, methods: &Methods<'_>) -> Result<Option<Spot>, NoMemory>
+pub fn export_spot(alloc: Global, methods: &Methods<'_>) -> Result<Option<ComponentPlace>, NoMemory>
     requires ready { HasMethods methods.now }
     requires small { AreSmall (complete_of methods.now.names.now.parts.now) }
     ensures { IfOk result (λ r. r ≡ first (export_spots (complete_of methods.now.names.now.parts.now))) }

@@ -12,9 +12,9 @@ use Rattle.cjc_tables_by_token.proofs.Filed.{import_filed, import_in}
 use Rattle.cjc_tables_by_token.specs.Sound.{IsSound}
 use Rattle.cjc_world.specs.Classes.{Class, all_classes, class_named, imported, numbered}
 use Rattle.cjc_world.specs.Files.{Files}
-use Rattle.cjc_world.specs.Kin.{Above, IsAcyclic, IsKin, Kin, Lists, after, directly, ends, foremost, kin, known_here, onwards, unknown_here}
+use Rattle.cjc_world.specs.Supertypes.{Above, IsAcyclic, AreSupertypes, Supertypes, Lists, after, directly, ends, foremost, supertypes, known_here, onwards, unknown_here}
 use Rattle.cjc_world.proofs.Cycles.{class_named-name}
-use Rattle.cjc_world.proofs.Settled.{IsKin-one, bytes-refl, kin-IsKin, lists-behind, lists-front}
+use Rattle.cjc_world.proofs.Settled.{AreSupertypes-one, bytes-refl, supertypes-AreSupertypes, lists-behind, lists-front}
 use Rattle.cjc_world.proofs.Unbroken.{unbroken_is_acyclic}
 
 -- ---- classes of export files in a row
@@ -122,17 +122,17 @@ module _ (list : List ℕ) (files : Files) (sound : IsSound list files) where
   interfaces_abroad : (x : List ℕ) (c : Class) → class_named w x ≡ Some c → c.is_imported ≡ true → AreAbroad c.interfaces
   interfaces_abroad x c e is y d l f = listed_abroad list files sound.unbroken x y c d e is (lists-behind y c.supers c.interfaces l) f
 
-  kin_out : (xs : List (List ℕ)) (k : Kin) → IsKin v xs k → AreAbroad xs → IsKin w xs k
-  kin_out xs k ends abroad = ends
-  kin_out (x ∷ xs) k (unknown_here {next = next} e rest) abroad =
-      unknown_here (nowhere x e (λ d f. abroad x d foremost f)) (kin_out xs next rest (λ y d l f. abroad y d (after l) f))
-  kin_out (x ∷ xs) k (known_here {c = c} {supers = supers} {interfaces = interfaces} {next = next} e s i rest) abroad =
+  supertypes_out : (xs : List (List ℕ)) (k : Supertypes) → AreSupertypes v xs k → AreAbroad xs → AreSupertypes w xs k
+  supertypes_out xs k ends abroad = ends
+  supertypes_out (x ∷ xs) k (unknown_here {next = next} e rest) abroad =
+      unknown_here (nowhere x e (λ d f. abroad x d foremost f)) (supertypes_out xs next rest (λ y d l f. abroad y d (after l) f))
+  supertypes_out (x ∷ xs) k (known_here {c = c} {supers = supers} {interfaces = interfaces} {next = next} e s i rest) abroad =
       let f = out x c e in
       let is = is_import x c e in
-      known_here f (kin_out c.supers supers s (supers_abroad x c f is)) (kin_out c.interfaces interfaces i (interfaces_abroad x c f is)) (kin_out xs next rest (λ y d l g. abroad y d (after l) g))
+      known_here f (supertypes_out c.supers supers s (supers_abroad x c f is)) (supertypes_out c.interfaces interfaces i (interfaces_abroad x c f is)) (supertypes_out xs next rest (λ y d l g. abroad y d (after l) g))
 
-  pub same_kin : (xs : List (List ℕ)) → AreAbroad xs → kin w xs ≡ kin v xs
-  same_kin xs abroad = IsKin-one w xs (kin w xs) (kin v xs) (kin-IsKin w acyclic xs) (kin_out xs (kin v xs) (kin-IsKin v (λ x far. acyclic x (above_out x x far)) xs) abroad)
+  pub same_supertypes : (xs : List (List ℕ)) → AreAbroad xs → supertypes w xs ≡ supertypes v xs
+  same_supertypes xs abroad = AreSupertypes-one w xs (supertypes w xs) (supertypes v xs) (supertypes-AreSupertypes w acyclic xs) (supertypes_out xs (supertypes v xs) (supertypes-AreSupertypes v (λ x far. acyclic x (above_out x x far)) xs) abroad)
 
   pub one_abroad : (n : ℕ) (c : ExportClass) → slice_get (imports files.exports) n ≡ Some c → AreAbroad (c.name ∷ [])
   one_abroad n c e y d foremost f =

@@ -4,7 +4,7 @@ use Rattle.std.specs.Prelude.{not, ◌&&◌, Some, if◌then◌else◌}
 use Rattle.cjc_call_laws.proofs.Selects.{receiver_plain}
 use Rattle.cjc_call_laws.proofs.Types.{type_below}
 use Rattle.cjc_fair_exports.specs.Fair.{ExportsAreFair, world_of}
-use Rattle.cjc_fair_exports.proofs.Alone.{AreAbroad, back, filed, same_kin}
+use Rattle.cjc_fair_exports.proofs.Alone.{AreAbroad, back, filed, same_supertypes}
 use Rattle.cjc_solid_laws.proofs.Rules.{listed_abroad}
 use Rattle.cjc_tables_by_token.specs.Sound.{IsSound}
 use Rattle.cjc_tokens.specs.Members.{all_methods, chosen, is_exposed, signature_of}
@@ -12,7 +12,7 @@ use Rattle.cjc_upward_laws.specs.Upwards.{Below}
 use Rattle.cjc_vtable.specs.Calls.{selects}
 use Rattle.cjc_world.specs.Classes.{Class, Member, all_classes, class_named}
 use Rattle.cjc_world.specs.Files.{Files}
-use Rattle.cjc_world.specs.Kin.{Above, Kin, Lists, after, directly, foremost, kin, line, onwards, stands, upwards}
+use Rattle.cjc_world.specs.Supertypes.{Above, Supertypes, Lists, after, directly, foremost, supertypes, line, onwards, stands, upwards}
 use Rattle.cjc_world.specs.Lookup.{receiver}
 use Rattle.cjc_world.specs.Subtype.{array_is, element, is_element, is_subclass, is_subtype, starts}
 use Rattle.cjc_world.proofs.Cycles.{class_named-name}
@@ -20,12 +20,12 @@ use Rattle.cjc_written_sends.specs.Sends.{ExportsImplement}
 
 -- ---- subtypes by what stands above
 
-same_subtype : (w v : List Class) (x y : List ℕ) → starts 91 x ≡ false → kin w (x ∷ []) ≡ kin v (x ∷ []) → is_subtype w x y ≡ true → is_subtype v x y ≡ true
+same_subtype : (w v : List Class) (x y : List ℕ) → starts 91 x ≡ false → supertypes w (x ∷ []) ≡ supertypes v (x ∷ []) → is_subtype w x y ≡ true → is_subtype v x y ≡ true
 unfolding is_subtype is_subclass
 same_subtype w v x y plain same e = by (starts 91 x) (starts 91 y) plain e
   where
-    by : (a b : Bool) → a ≡ false → (if a then (if b then is_element w (element x) (element y) else array_is w y) else not b && stands y (kin w (x ∷ []))) ≡ true
-        → (if a then (if b then is_element v (element x) (element y) else array_is v y) else not b && stands y (kin v (x ∷ []))) ≡ true
+    by : (a b : Bool) → a ≡ false → (if a then (if b then is_element w (element x) (element y) else array_is w y) else not b && stands y (supertypes w (x ∷ []))) ≡ true
+        → (if a then (if b then is_element v (element x) (element y) else array_is v y) else not b && stands y (supertypes v (x ∷ []))) ≡ true
     by true b p e = absurd cc
     by false b p e = subst (λ k. (not b && stands y k) ≡ true) same e
 
@@ -78,8 +78,8 @@ module _ (list : List ℕ) (files : Files) (sound : IsSound list files) where
       let r = filed list files sound x c e is in
       let name : r.1.name ≡ x = ap (λ (q : Class). q.name) (sym r.3) ∙ class_named-name w x c e in
       let no : starts 91 x ≡ false = ap (starts 91) (sym name) ∙ sound.names r.0 r.1 r.2 in
-      let same : kin w (x ∷ []) ≡ kin v (x ∷ []) = same_kin list files sound (x ∷ []) (alone x c e is) in
+      let same : supertypes w (x ∷ []) ≡ supertypes v (x ∷ []) = same_supertypes list files sound (x ∷ []) (alone x c e is) in
       let way : Below w x i.name = subst (λ z. Below w z i.name) (receiver_plain x no) (type_below w x i.name (no_array w x i.name no sub) sub) in
       let abroad = below_abroad x i.name c i e is way f in
       fair.implements x c i asked given (back list files sound x c e is) is plain (back list files sound i.name i f abroad) interface (same_subtype w v x i.name no same sub) among
-      (subst (λ (k : Kin). chosen selects (signature_of asked) (all_methods (upwards k)) ≡ Some given) same choice)
+      (subst (λ (k : Supertypes). chosen selects (signature_of asked) (all_methods (upwards k)) ≡ Some given) same choice)

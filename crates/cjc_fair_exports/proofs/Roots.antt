@@ -8,7 +8,7 @@ use Rattle.cjc_bytes.specs.AccessFlags.{is_interface}
 use Rattle.cjc_export.specs.declared.tree.ExportClass.{ExportClass}
 use Rattle.cjc_export.specs.declared.tree.ExportTree.{ExportTree}
 use Rattle.cjc_fair_exports.specs.Fair.{ExportsAreFair}
-use Rattle.cjc_fair_exports.proofs.Alone.{acyclic, found, one_abroad, same_kin}
+use Rattle.cjc_fair_exports.proofs.Alone.{acyclic, found, one_abroad, same_supertypes}
 use Rattle.cjc_solid_laws.proofs.Rules.{only_object, super_class}
 use Rattle.cjc_solid_laws.specs.Files.{ExportsAreSound}
 use Rattle.cjc_subset.specs.Members.{imports}
@@ -20,7 +20,7 @@ use Rattle.cjc_upward_laws.proofs.Lines.{above_on, below_line, line_below}
 use Rattle.cjc_vtable.proofs.Filed.{Has, at_front, behind, has-get}
 use Rattle.cjc_world.specs.Classes.{Class, all_classes, class_named, imported}
 use Rattle.cjc_world.specs.Files.{Files}
-use Rattle.cjc_world.specs.Kin.{Above, is_below, stands_by_supers}
+use Rattle.cjc_world.specs.Supertypes.{Above, is_below, stands_by_supers}
 use Rattle.cjc_world.specs.Lookup.{object}
 use Rattle.cjc_world.specs.Rules.{has_array_exceptions, has_class, has_exception, has_language, has_needed, has_other_exceptions, has_roots, throwable}
 use Rattle.cjc_world.proofs.Cycles.{class_named-name}
@@ -106,7 +106,7 @@ module _ (list : List ℕ) (files : Files) (sound : IsSound list files) (fair : 
 
   pub below_root : (n : ℕ) (c : ExportClass) → slice_get (imports files.exports) n ≡ Some c → is_interface c.flags ≡ false → is_below w c.name object ≡ true
   unfolding is_below
-  below_root n c e plain = ap (stands_by_supers object) (same_kin list files sound (c.name ∷ []) (one_abroad list files sound n c e)) ∙ fair.roots n c e plain
+  below_root n c e plain = ap (stands_by_supers object) (same_supertypes list files sound (c.name ∷ []) (one_abroad list files sound n c e)) ∙ fair.roots n c e plain
 
   -- what stands on a line is the first class there, or no interface
   last_plain : (x : List ℕ) (d : Class) → OnLine w x d → (class_named w x ≡ Some d) ⊎ (is_interface d.flags ≡ false)

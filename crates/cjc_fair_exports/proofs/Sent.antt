@@ -8,7 +8,7 @@ use Rattle.cjc_components.specs.Package.{Package, world}
 use Rattle.cjc_export.specs.declared.tree.ExportClass.{ExportClass}
 use Rattle.cjc_export.specs.declared.tree.ExportMethod.{ExportMethod}
 use Rattle.cjc_fair_exports.specs.Fair.{ExportsAreFair, world_of}
-use Rattle.cjc_fair_exports.proofs.Alone.{acyclic, filed, found, same_kin, supers_abroad}
+use Rattle.cjc_fair_exports.proofs.Alone.{acyclic, filed, found, same_supertypes, supers_abroad}
 use Rattle.cjc_fair_exports.proofs.Roots.{below_root, object_there}
 use Rattle.cjc_solid_laws.proofs.Rules.{listed_abroad, super_class}
 use Rattle.cjc_tables_by_token.specs.Sound.{IsSound}
@@ -25,10 +25,10 @@ use Rattle.cjc_world.specs.Added.{asked_by, by_token, methods_of, own_methods, w
 use Rattle.cjc_world.specs.Classes.{Class, Member, all_classes, class_named, imported, method_of_export}
 use Rattle.cjc_world.specs.Files.{Files}
 use Rattle.cjc_world.specs.Interfaces.{gathered, known}
-use Rattle.cjc_world.specs.Kin.{Above, End, IsKin, Kin, Known, Lists, after, directly, ends, foremost, is_below, kin, known_here, line, unknown_here, upwards}
+use Rattle.cjc_world.specs.Supertypes.{Above, End, AreSupertypes, Supertypes, Known, Lists, after, directly, ends, foremost, is_below, supertypes, known_here, line, unknown_here, upwards}
 use Rattle.cjc_world.specs.Lookup.{is_selectable, object}
 use Rattle.cjc_world.proofs.Cycles.{class_named-name}
-use Rattle.cjc_world.proofs.Settled.{IsKin-one, kin-IsKin, lists-front}
+use Rattle.cjc_world.proofs.Settled.{AreSupertypes-one, supertypes-AreSupertypes, lists-front}
 use Rattle.cjc_written_sends.specs.Sends.{ExportsSend, InterfacesAsk}
 
 -- ---- an interface's methods are no initialisers
@@ -87,15 +87,15 @@ asked_plain (c ∷ cs) s e = ⊎_elim (λ f. own_plain c s f) (λ g. asked_plain
 
 interface_plain : (w : List Class) (c : Class) (s : Signature) → has (interface_methods w c) s ≡ true → is_initialiser s.name ≡ false
 unfolding interface_methods asked_by
-interface_plain w c s e = by c.is_imported (has_new [] (map signature_of (if c.is_imported then own_methods c else asked_by (kin w c.supers) (kin w c.interfaces) ++ own_methods c)) s e)
+interface_plain w c s e = by c.is_imported (has_new [] (map signature_of (if c.is_imported then own_methods c else asked_by (supertypes w c.supers) (supertypes w c.interfaces) ++ own_methods c)) s e)
   where
-    by : (b : Bool) → has (map signature_of (if b then own_methods c else asked_by (kin w c.supers) (kin w c.interfaces) ++ own_methods c)) s ≡ true → is_initialiser s.name ≡ false
+    by : (b : Bool) → has (map signature_of (if b then own_methods c else asked_by (supertypes w c.supers) (supertypes w c.interfaces) ++ own_methods c)) s ≡ true → is_initialiser s.name ≡ false
     by true f = own_plain c s f
-    by false f = ⊎_elim (λ g. asked_plain (known (gathered false (kin w c.supers) ++ gathered true (kin w c.interfaces))) s g) (λ g. own_plain c s g) (has_either (asked_by (kin w c.supers) (kin w c.interfaces)) (own_methods c) s f)
+    by false f = ⊎_elim (λ g. asked_plain (known (gathered false (supertypes w c.supers) ++ gathered true (supertypes w c.interfaces))) s g) (λ g. own_plain c s g) (has_either (asked_by (supertypes w c.supers) (supertypes w c.interfaces)) (own_methods c) s f)
 
 -- ---- a class of which no super is known
 
-none_known : (w : List Class) (xs : List (List ℕ)) (k : Kin) → IsKin w xs k → ((y : List ℕ) (d : Class) → Lists y xs → class_named w y ≡ Some d → ⊥) → upwards k ≡ []
+none_known : (w : List Class) (xs : List (List ℕ)) (k : Supertypes) → AreSupertypes w xs k → ((y : List ℕ) (d : Class) → Lists y xs → class_named w y ≡ Some d → ⊥) → upwards k ≡ []
 none_known w xs k ends none = refl
 none_known w (x ∷ xs) k (unknown_here {next = next} e rest) none = none_known w xs next rest (λ y d l f. none y d (after l) f)
 none_known w (x ∷ xs) k (known_here {c = c} e s i rest) none = absurd (none x c foremost e)
@@ -127,8 +127,8 @@ module _ (list : List ℕ) (files : Files) (sound : IsSound list files) (fair : 
       let r = filed list files sound x c e is in
       let plain : is_interface r.1.flags ≡ false = ap (λ (v : Class). is_interface v.flags) (sym r.3) ∙ class_here in
       let abroad = supers_abroad list files sound x c e is in
-      subst (λ k. IsOneToOne (c.methods ++ all_methods (upwards k))) (sym (same_kin list files sound c.supers abroad))
-      (subst (λ (q : Class). IsOneToOne (q.methods ++ all_methods (upwards (kin (world_of files.exports) q.supers)))) (sym r.3) (fair.tokens r.0 r.1 r.2 plain))
+      subst (λ k. IsOneToOne (c.methods ++ all_methods (upwards k))) (sym (same_supertypes list files sound c.supers abroad))
+      (subst (λ (q : Class). IsOneToOne (q.methods ++ all_methods (upwards (supertypes (world_of files.exports) q.supers)))) (sym r.3) (fair.tokens r.0 r.1 r.2 plain))
 
   -- ---- interfaces
 
@@ -168,10 +168,10 @@ module _ (list : List ℕ) (files : Files) (sound : IsSound list files) (fair : 
   objects o e is m among plain =
       let r = filed list files sound object o e is in
       let name : r.1.name ≡ object = ap (λ (v : Class). v.name) (sym r.3) ∙ class_named-name w object o e in
-      let tree = known_here e (kin-IsKin w (acyclic list files sound) o.supers) (kin-IsKin w (acyclic list files sound) o.interfaces) ends in
-      let line_is : kin w (object ∷ []) ≡ Known o (kin w o.supers) (kin w o.interfaces) End =
-      IsKin-one w (object ∷ []) _ _ (kin-IsKin w (acyclic list files sound) (object ∷ [])) tree in
-      let bare : upwards (kin w o.supers) ≡ [] = none_known w o.supers (kin w o.supers) (kin-IsKin w (acyclic list files sound) o.supers) (no_super o e is) in
+      let tree = known_here e (supertypes-AreSupertypes w (acyclic list files sound) o.supers) (supertypes-AreSupertypes w (acyclic list files sound) o.interfaces) ends in
+      let line_is : supertypes w (object ∷ []) ≡ Known o (supertypes w o.supers) (supertypes w o.interfaces) End =
+      AreSupertypes-one w (object ∷ []) _ _ (supertypes-AreSupertypes w (acyclic list files sound) (object ∷ [])) tree in
+      let bare : upwards (supertypes w o.supers) ≡ [] = none_known w o.supers (supertypes w o.supers) (supertypes-AreSupertypes w (acyclic list files sound) o.supers) (no_super o e is) in
       let here : In m o.methods = in_front m o.methods (subst (λ ks. In m (o.methods ++ all_methods (ks ++ []))) bare (subst (λ k. In m (all_methods (upwards k))) line_is among)) in
       let at = in_at m o.methods here in
       let q = mapped_at method_of_export r.1.methods at.0 m (ap (λ (v : Class). slice_get v.methods at.0) (sym r.3) ∙ at.1) in

@@ -17,7 +17,7 @@ use Rattle.cjc_tokens.specs.Members.{In, all_methods, chosen, first_of, is_expos
 use Rattle.cjc_tokens.proofs.Facts.{same-refl, same-true}
 use Rattle.cjc_vtable.specs.Calls.{IsOneToOne, selects}
 use Rattle.cjc_world.specs.Classes.{Class, Member, class_named, method_of_export}
-use Rattle.cjc_world.specs.Kin.{is_below, kin, line, upwards}
+use Rattle.cjc_world.specs.Supertypes.{is_below, supertypes, line, upwards}
 use Rattle.cjc_world.specs.Lookup.{object}
 use Rattle.cjc_world.specs.Subtype.{is_subtype}
 use Rattle.cjc_world.proofs.Cycles.{class_named-name}
@@ -131,7 +131,7 @@ same_names_are (x ∷ xs) (y ∷ ys) e =
     ap (λ z. z ∷ xs) (bytes-true x y (both_front (bytes_eq x y) (same_names xs ys) e)) ∙ ap (λ zs. y ∷ zs) (same_names_are xs ys (both_back (bytes_eq x y) (same_names xs ys) e))
 
 unfoldable pub members_above : List Class → ExportClass → List Member
-members_above w c = map method_of_export c.methods ++ all_methods (upwards (kin w c.supers))
+members_above w c = map method_of_export c.methods ++ all_methods (upwards (supertypes w c.supers))
 
 unfoldable pub fair_class : List Class → ExportClass → Bool
 fair_class w c =
@@ -176,7 +176,7 @@ record IsFairClass (w : List Class) (c : ExportClass) : Type 0 where
   name : IsClassName c.name
   root : is_interface c.flags ≡ false → is_below w c.name object ≡ true
   super : is_interface c.flags ≡ true → c.supers ≡ object ∷ []
-  tokens : is_interface c.flags ≡ false → IsOneToOne (map method_of_export c.methods ++ all_methods (upwards (kin w c.supers)))
+  tokens : is_interface c.flags ≡ false → IsOneToOne (map method_of_export c.methods ++ all_methods (upwards (supertypes w c.supers)))
   methods : (k : ℕ) (m : ExportMethod) → slice_get c.methods k ≡ Some m → fair_method (is_interface c.flags) (bytes_eq c.name object) m ≡ true
 
 told_class : (w : List Class) (c : ExportClass) → fair_class w c ≡ true → IsFairClass w c

@@ -11,7 +11,7 @@ use Rattle.cjc_subset.specs.Members.{imports}
 use Rattle.cjc_tokens.specs.Members.{all_methods}
 use Rattle.cjc_vtable.specs.Calls.{IsOneToOne}
 use Rattle.cjc_world.specs.Classes.{Class, method_of_export, numbered}
-use Rattle.cjc_world.specs.Kin.{is_below, kin, upwards}
+use Rattle.cjc_world.specs.Supertypes.{is_below, supertypes, upwards}
 use Rattle.cjc_world.specs.Lookup.{object}
 use Rattle.cjc_written_sends.specs.Sends.{ExportsImplement}
 
@@ -37,7 +37,7 @@ pub record ExportsAreFair (exports : List ExportTree) : Type 0 where
   pub supers : OfEach exports (λ c. is_interface c.flags ≡ true → c.supers ≡ object ∷ [])
   -- Along a class that is no interface and its superclasses one name and descriptor has one virtual token, and one virtual token has one name and descriptor.
   -- The tokens of an interface's methods are counted apart from those of its superclass java/lang/Object.
-  pub tokens : OfEach exports (λ c. is_interface c.flags ≡ false → IsOneToOne (map method_of_export c.methods ++ all_methods (upwards (kin (world_of exports) c.supers))))
+  pub tokens : OfEach exports (λ c. is_interface c.flags ≡ false → IsOneToOne (map method_of_export c.methods ++ all_methods (upwards (supertypes (world_of exports) c.supers))))
   -- for a method of one of its interfaces, selection on a class gives none that is package-visible
   pub implements : ExportsImplement (world_of exports)
   -- no method is private

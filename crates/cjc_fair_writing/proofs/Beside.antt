@@ -20,8 +20,8 @@ use Rattle.cjc_vtable.proofs.Filed.{Has, at_front, behind, get-has, has-get}
 use Rattle.cjc_vtable.proofs.Given.{In-split}
 use Rattle.cjc_vtable.specs.Laws.{Under, below, itself}
 use Rattle.cjc_world.specs.Classes.{Class, Member, class_named, declared, imported, method_of_export, numbered}
-use Rattle.cjc_world.specs.Kin.{Above, IsAcyclic, Lists, directly, kin, onwards, upwards}
-use Rattle.cjc_world.proofs.Settled.{kin-IsKin, lists-behind, lists-front}
+use Rattle.cjc_world.specs.Supertypes.{Above, IsAcyclic, Lists, directly, supertypes, onwards, upwards}
+use Rattle.cjc_world.proofs.Settled.{supertypes-AreSupertypes, lists-behind, lists-front}
 use Rattle.cjc_world.proofs.Trees.{lists-split}
 use Rattle.cjc_world.proofs.Unbroken.{unbroken_is_acyclic}
 use Rattle.cjc_fair_writing.proofs.Upwards.{interface_below, step_above, super_under, under_below, under_on}
@@ -246,10 +246,10 @@ module _ (list : List ℕ) (p : Package) (sound : IsSound list p.files) (before 
     pub under : Under w x class.name
     pub has : In m (map method_of_export class.methods)
 
-  pub above_from : (e : ExportClass) → Has e cs → (m : Member) → In m (all_methods (upwards (kin v e.supers))) → IsFrom e.name m
+  pub above_from : (e : ExportClass) → Has e cs → (m : Member) → In m (all_methods (upwards (supertypes v e.supers))) → IsFrom e.name m
   above_from e h m i =
-      let o = of_one (upwards (kin v e.supers)) m i in
-      let l = listed_line v e.supers (kin v e.supers) o.0 (kin-IsKin v still_acyclic e.supers) o.1 in
+      let o = of_one (upwards (supertypes v e.supers)) m i in
+      let l = listed_line v e.supers (supertypes v e.supers) o.0 (supertypes-AreSupertypes v still_acyclic e.supers) o.1 in
       let on = on_line l.0 o.0 l.2 in
       record {
         class = on.class;
@@ -258,8 +258,8 @@ module _ (list : List ℕ) (p : Package) (sound : IsSound list p.files) (before 
         has = subst (λ (d : Class). In m d.methods) on.is o.2;
       }
 
-  pub all_from : (e : ExportClass) → Has e cs → (m : Member) → In m (map method_of_export e.methods ++ all_methods (upwards (kin v e.supers))) → IsFrom e.name m
+  pub all_from : (e : ExportClass) → Has e cs → (m : Member) → In m (map method_of_export e.methods ++ all_methods (upwards (supertypes v e.supers))) → IsFrom e.name m
   all_from e h m i = ⊎_elim
       (λ j. record { class = e; there = h; under = itself; has = j })
       (λ j. above_from e h m j)
-      (In-split m (map method_of_export e.methods) (all_methods (upwards (kin v e.supers))) i)
+      (In-split m (map method_of_export e.methods) (all_methods (upwards (supertypes v e.supers))) i)

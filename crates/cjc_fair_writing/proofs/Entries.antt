@@ -36,11 +36,11 @@ use Rattle.cjc_vtable.proofs.SlotNames.{get-behind, position-at}
 use Rattle.cjc_vtable.proofs.Worlds.{told-class}
 use Rattle.cjc_vtable.specs.Laws.{KeepsRules}
 use Rattle.cjc_world.proofs.Cycles.{class_named-name}
-use Rattle.cjc_world.proofs.Settled.{IsKin-one, kin-IsKin, kin-known}
+use Rattle.cjc_world.proofs.Settled.{AreSupertypes-one, supertypes-AreSupertypes, supertypes-known}
 use Rattle.cjc_world.specs.Added.{added, asked_by, declares_open, has_open, is_one_of, lacking, own_methods, takes_added}
 use Rattle.cjc_world.specs.Classes.{Class, Member, class_named, declared, field_of_class, method_of_class, method_of_export}
 use Rattle.cjc_world.specs.Interfaces.{gathered, known}
-use Rattle.cjc_world.specs.Kin.{End, IsKin, Kin, Known, Unknown, ends, kin, known_here, unknown_here, upwards}
+use Rattle.cjc_world.specs.Supertypes.{End, AreSupertypes, Supertypes, Known, Unknown, ends, supertypes, known_here, unknown_here, upwards}
 use Rattle.cjc_world.specs.Lookup.{first, is_called, is_wanted, member_at, method_of_interface, or_else, own_method, own_of}
 use Rattle.cjc_world.specs.declared.found.Found.{Found}
 use Rattle.cjc_writing_laws.proofs.Entries.{supers_in}
@@ -114,10 +114,10 @@ unfolding added
 added_plain w c k m e = by (takes_added c) e
   where
     test : Member → Bool
-    test q = declares_open q.name q.desc c || has_open q.name q.desc (kin w c.supers)
+    test q = declares_open q.name q.desc c || has_open q.name q.desc (supertypes w c.supers)
 
-    by : (b : Bool) → slice_get (if b then lacking test [] (asked_by (kin w c.supers) (kin w c.interfaces)) else []) k ≡ Some m → is_initialiser m.name ≡ false
-    by true f = asked_plain (kin w c.supers) (kin w c.interfaces) c m (front_has m (asked_by (kin w c.supers) (kin w c.interfaces)) (own_methods c) (lacking_has test [] (asked_by (kin w c.supers) (kin w c.interfaces)) k m f))
+    by : (b : Bool) → slice_get (if b then lacking test [] (asked_by (supertypes w c.supers) (supertypes w c.interfaces)) else []) k ≡ Some m → is_initialiser m.name ≡ false
+    by true f = asked_plain (supertypes w c.supers) (supertypes w c.interfaces) c m (front_has m (asked_by (supertypes w c.supers) (supertypes w c.interfaces)) (own_methods c) (lacking_has test [] (asked_by (supertypes w c.supers) (supertypes w c.interfaces)) k m f))
     by false f = cc
 
 same_member : {m n : Member} → Some m ≡ Some n → m ≡ n
@@ -134,8 +134,8 @@ module _ (list : List ℕ) (p : Package) (codes : List MethodCode) (settings : S
   abbrev w : List Class
   w = world p
 
-  is_kin : (xs : List (List ℕ)) → IsKin w xs (kin w xs)
-  is_kin xs = kin-IsKin w ordered.acyclic xs
+  are_supertypes : (xs : List (List ℕ)) → AreSupertypes w xs (supertypes w xs)
+  are_supertypes xs = supertypes-AreSupertypes w ordered.acyclic xs
 
   -- ---- methods of interfaces
 
@@ -208,7 +208,7 @@ module _ (list : List ℕ) (p : Package) (codes : List MethodCode) (settings : S
             plain = added_plain w d i r.0 r.1;
           }
 
-  line_meant : (xs : List (List ℕ)) (k : Kin) → IsKin w xs k → (s : Signature) (f : Found) → implementing (line_in w k) s ≡ Some f → IsMeant s f
+  line_meant : (xs : List (List ℕ)) (k : Supertypes) → AreSupertypes w xs k → (s : Signature) (f : Found) → implementing (line_in w k) s ≡ Some f → IsMeant s f
   line_meant xs End ends s f e = cc
   line_meant xs (Unknown x next) (unknown_here g n) s f e = cc
   line_meant xs (Known c supers interfaces next) (known_here {x = x} {xs = rest} g sk ik n) s f e = by c.is_imported e (line_meant c.supers supers sk s f)
@@ -280,7 +280,7 @@ module _ (list : List ℕ) (p : Package) (codes : List MethodCode) (settings : S
 
     module _ (plain : is_interface t.flags ≡ false) (rules : KeepsRules w) where
       same_line : line_of w t.name ≡ line_at w c
-      same_line = ap (line_in w) (kin-known w ordered.acyclic t.name c named)
+      same_line = ap (line_in w) (supertypes-known w ordered.acyclic t.name c named)
 
       at_line : (s : Signature) (k : ℕ) → token (slots (line_at w c)) s ≡ Some k → token (slots (line_of w t.name)) s ≡ Some k
       at_line s k e = ap (λ l. token (slots l) s) same_line ∙ e
@@ -329,8 +329,8 @@ module _ (list : List ℕ) (p : Package) (codes : List MethodCode) (settings : S
       given_entry : (e : ExportMethod) → Has e B → IsEntry e
       given_entry e h = let r = added_in p c (fields + length methods) given e h in subst IsEntry r.is (given_made r.place r.member r.there)
 
-      tree : IsKin w (t.name ∷ []) (Known c (kin w c.supers) (kin w c.interfaces) End)
-      tree = known_here named (is_kin c.supers) (is_kin c.interfaces) ends
+      tree : AreSupertypes w (t.name ∷ []) (Known c (supertypes w c.supers) (supertypes w c.interfaces) End)
+      tree = known_here named (are_supertypes c.supers) (are_supertypes c.interfaces) ends
 
       inherited_entry : (e : ExportMethod) → Has e C → IsEntry e
       inherited_entry e h = by slot.0 slot.1 slot.2
@@ -343,10 +343,10 @@ module _ (list : List ℕ) (p : Package) (codes : List MethodCode) (settings : S
 
           made : (s : Signature) → slice_get (slots (line_at w c)) r.place ≡ Some (Some s) → implementing (line_at w c) s ≡ Some r.found → IsEntry (method_entry (0 + r.place) r.member)
           made s at means =
-              let m = line_meant (t.name ∷ []) (Known c (kin w c.supers) (kin w c.interfaces) End) tree s r.found means in
+              let m = line_meant (t.name ∷ []) (Known c (supertypes w c.supers) (supertypes w c.interfaces) End) tree s r.found means in
               let same : m.member ≡ r.member = same_member (sym m.meant ∙ r.meant) in
               let signature : signature_of r.member ≡ s = ap signature_of (sym same) ∙ m.signature in
-              let told = told-class w is_kin (IsKin-one w) rules t.name c named (λ im. absurd (cc)) in
+              let told = told-class w are_supertypes (AreSupertypes-one w) rules t.name c named (λ im. absurd (cc)) in
               let zero_more : 0 + r.place ≡ r.place = omega arith in
               record {
                 visible = ap (λ (y : Member). is_private y.flags) (sym same) ∙ m.visible;
@@ -412,13 +412,13 @@ module _ (list : List ℕ) (p : Package) (codes : List MethodCode) (settings : S
           no e = cc
 
           others : List Class
-          others = known (gathered false (kin w (t.name ∷ [])))
+          others = known (gathered false (supertypes w (t.name ∷ [])))
 
           by : (o : Option Found) → own_of name desc (class_named w t.name) ≡ o → or_else o (first (own_method false name desc) others) ≡ Some f → IsDeclared name desc f
           by (Some g) h k = record { class = c; named_so = named; is = interface; own_one = sym (ap (own_of name desc) named) ∙ h ∙ k }
           by None h k =
               let r = first_has (own_method false name desc) others f k in
-              let a = gathered_above w ordered false (t.name ∷ []) (kin w (t.name ∷ [])) r.0 (is_kin (t.name ∷ [])) (λ is. absurd (no is)) r.1 in
+              let a = gathered_above w ordered false (t.name ∷ []) (supertypes w (t.name ∷ [])) r.0 (are_supertypes (t.name ∷ [])) (λ is. absurd (no is)) r.1 in
               record { class = r.0; named_so = a.3; is = a.4; own_one = r.2 }
 
       declared_member : (s : Signature) (f : Found) (m : Member) → IsDeclared s.name s.desc f → method_meant w f ≡ Some m → is_initialiser s.name ≡ false → (is_private m.flags ≡ false) × (is_static m.flags ≡ false) × (is_initialiser m.name ≡ false)
@@ -439,9 +439,9 @@ module _ (list : List ℕ) (p : Package) (codes : List MethodCode) (settings : S
       wanted_plain : (k : ℕ) (s : Signature) → slice_get (interface_methods w c) k ≡ Some s → is_initialiser s.name ≡ false
       unfolding interface_methods
       wanted_plain k s e =
-          let all = asked_by (kin w c.supers) (kin w c.interfaces) ++ own_methods c in
+          let all = asked_by (supertypes w c.supers) (supertypes w c.interfaces) ++ own_methods c in
           let r = mapped_has signature_of s all (new_has [] (map signature_of all) k s e) in
-          ap (λ (u : Signature). is_initialiser u.name) (sym r.2) ∙ asked_plain (kin w c.supers) (kin w c.interfaces) c r.0 r.1
+          ap (λ (u : Signature). is_initialiser u.name) (sym r.2) ∙ asked_plain (supertypes w c.supers) (supertypes w c.interfaces) c r.0 r.1
 
       super_bound : (e : ExportMethod) → Has e D → IsBound e
       super_bound e h =

@@ -39,10 +39,10 @@ use Rattle.cjc_vtable.proofs.Worlds.{tokens_are_once}
 use Rattle.cjc_vtable.specs.Calls.{IsOneToOne, selects}
 use Rattle.cjc_vtable.specs.Laws.{KeepsRules, Under, below, itself}
 use Rattle.cjc_world.specs.Classes.{Class, Member, class_named, imported, method_of_export}
-use Rattle.cjc_world.specs.Kin.{Lists, foremost, grown, is_below, kin, line, upwards}
+use Rattle.cjc_world.specs.Supertypes.{Lists, foremost, supertypes_within, is_below, supertypes, line, upwards}
 use Rattle.cjc_world.specs.Lookup.{object}
 use Rattle.cjc_world.proofs.Cycles.{class_named-name}
-use Rattle.cjc_world.proofs.Settled.{IsKin-one, kin-IsKin, kin-known, lists-front}
+use Rattle.cjc_world.proofs.Settled.{AreSupertypes-one, supertypes-AreSupertypes, supertypes-known, lists-front}
 use Rattle.cjc_written_sends.specs.Sends.{ExportsImplement}
 use Rattle.cjc_fair_writing.specs.Open.{ExportsAreOpen}
 use Rattle.cjc_fair_writing.proofs.Entries.{IsBound, IsEntry, class_entry, interface_entry}
@@ -194,14 +194,14 @@ module _ (list : List ℕ) (p : Package) (codes : List MethodCode) (settings : S
   -- ---- superclasses of interfaces
 
   -- above java/lang/Object is nothing
-  object_alone : names_upwards (kin w (object ∷ [])) ≡ object ∷ []
-  unfolding kin grown
+  object_alone : names_upwards (supertypes w (object ∷ [])) ≡ object ∷ []
+  unfolding supertypes supertypes_within
   object_alone =
       let o = imported root.number root.class in
       let name : o.name ≡ object = class_named-name w object o root.found in
       let bare : o.supers ≡ [] = open_ones.top root.number root.class root.listed name in
-      ap names_upwards (kin-known w ordered.acyclic object o root.found)
-      ∙ ap (λ xs. o.name ∷ names_upwards (kin w xs) ++ []) bare
+      ap names_upwards (supertypes-known w ordered.acyclic object o root.found)
+      ∙ ap (λ xs. o.name ∷ names_upwards (supertypes w xs) ++ []) bare
       ∙ ap (λ x. x ∷ []) name
 
   own_supers : (k : ℕ) (c : Class) → slice_get (exported_classes p) k ≡ Some c → is_interface (let x = export_class p c in x.flags) ≡ true → superclasses w c ≡ object ∷ []
@@ -209,7 +209,7 @@ module _ (list : List ℕ) (p : Package) (codes : List MethodCode) (settings : S
       let named = own_named list p sound before following split k c at in
       let s = rules.single c.name c named (own_here list p sound before following split k c at) in
       let up_is : s.0 ≡ object = ordered.only_object c.name s.0 c named (sym (kept k c at) ∙ is) (subst (Lists s.0) (sym s.1) foremost) in
-      ap (λ xs. each_once [] (names_upwards (kin w xs))) (s.1 ∙ ap (λ x. x ∷ []) up_is) ∙ ap (each_once []) object_alone
+      ap (λ xs. each_once [] (names_upwards (supertypes w xs))) (s.1 ∙ ap (λ x. x ∷ []) up_is) ∙ ap (each_once []) object_alone
 
   supers : OfEach (beside list p sound before following split) (λ c. is_interface c.flags ≡ true → c.supers ≡ object ∷ [])
   supers = each (λ c. is_interface c.flags ≡ true → c.supers ≡ object ∷ []) fair.supers own_supers
@@ -313,8 +313,8 @@ module _ (list : List ℕ) (p : Package) (codes : List MethodCode) (settings : S
       of_import : IsImport list p sound before following split e k.class → token (slots (line_of w e.name)) (signature_of m) ≡ Some m.token
       of_import j =
           let c = k.class in
-          let t = tokens_are_once w (λ xs. kin-IsKin w ordered.acyclic xs) (IsKin-one w) rules e.name e.name c c k.named (known_flags e k ∙ plain) k.named itself in
-          t.listed c m k.named (ap (λ (d : Class). d.is_imported) j.is) (In-front m c.methods (all_methods (upwards (kin w c.supers))) (subst (λ (d : Class). In m d.methods) (sym j.is) i)) (both_true (is_exposed m.flags) (is_virtual m) (all_exposed e h plain m i) virtual)
+          let t = tokens_are_once w (λ xs. supertypes-AreSupertypes w ordered.acyclic xs) (AreSupertypes-one w) rules e.name e.name c c k.named (known_flags e k ∙ plain) k.named itself in
+          t.listed c m k.named (ap (λ (d : Class). d.is_imported) j.is) (In-front m c.methods (all_methods (upwards (supertypes w c.supers))) (subst (λ (d : Class). In m d.methods) (sym j.is) i)) (both_true (is_exposed m.flags) (is_virtual m) (all_exposed e h plain m i) virtual)
 
       of_own : IsWritten list p sound before following split e k.class → token (slots (line_of w e.name)) (signature_of m) ≡ Some m.token
       of_own j =
@@ -333,13 +333,13 @@ module _ (list : List ℕ) (p : Package) (codes : List MethodCode) (settings : S
   token_below e h plain m f virtual =
       let k = knows e h in
       let l = knows f.class f.there in
-      let t = tokens_are_once w (λ xs. kin-IsKin w ordered.acyclic xs) (IsKin-one w) rules e.name (let q = f.class in q.name) k.class l.class k.named (known_flags e k ∙ plain) l.named f.under in
+      let t = tokens_are_once w (λ xs. supertypes-AreSupertypes w ordered.acyclic xs) (AreSupertypes-one w) rules e.name (let q = f.class in q.name) k.class l.class k.named (known_flags e k ∙ plain) l.named f.under in
       t.inherited (signature_of m) m.token (own_token f.class f.there (still_plain e h plain f.class f.there f.under) m f.has virtual)
 
   some_number : {a b : ℕ} → Some a ≡ Some b → a ≡ b
   some_number e = cc
 
-  tokens : OfEach (beside list p sound before following split) (λ c. is_interface c.flags ≡ false → IsOneToOne (map method_of_export c.methods ++ all_methods (upwards (kin u c.supers))))
+  tokens : OfEach (beside list p sound before following split) (λ c. is_interface c.flags ≡ false → IsOneToOne (map method_of_export c.methods ++ all_methods (upwards (supertypes u c.supers))))
   tokens place e at plain m n i j virtual other =
       let h = get-has e all place at in
       let S = slots (line_of w e.name) in

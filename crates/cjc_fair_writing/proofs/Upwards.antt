@@ -11,9 +11,9 @@ use Rattle.cjc_vtable.specs.Laws.{Under, below, itself}
 use Rattle.cjc_world.specs.Classes.{Class, class_named}
 use Rattle.cjc_world.specs.Interfaces.{Interface, gathered, is_among, where_listed}
 use Rattle.cjc_world.specs.Interfaces
-use Rattle.cjc_world.specs.Kin.{Above, IsAcyclic, IsKin, Kin, Lists, after, directly, ends, foremost, kin, known_here, onwards, unknown_here}
+use Rattle.cjc_world.specs.Supertypes.{Above, IsAcyclic, AreSupertypes, Supertypes, Lists, after, directly, ends, foremost, supertypes, known_here, onwards, unknown_here}
 use Rattle.cjc_world.proofs.Cycles.{class_named-name}
-use Rattle.cjc_world.proofs.Settled.{bytes-true, kin-IsKin, lists-behind, lists-front}
+use Rattle.cjc_world.proofs.Settled.{bytes-true, supertypes-AreSupertypes, lists-behind, lists-front}
 use Rattle.cjc_world.proofs.Trees.{lists-split}
 
 -- ---- lists
@@ -102,7 +102,7 @@ module _ (w : List Class) where
 
   -- ---- superclasses
 
-  up_names : (xs : List (List ℕ)) (k : Kin) (y : List ℕ) → IsKin w xs k → Lists y (names_upwards k) → (x : List ℕ) × Lists x xs × Under w x y
+  up_names : (xs : List (List ℕ)) (k : Supertypes) (y : List ℕ) → AreSupertypes w xs k → Lists y (names_upwards k) → (x : List ℕ) × Lists x xs × Under w x y
   up_names xs k y ends l = no_list l
   up_names xs k y (unknown_here {x = x} {xs = rest} {next = next} e n) foremost = (x, foremost, itself)
   up_names xs k y (unknown_here {x = x} {xs = rest} {next = next} e n) (after l) = let r = up_names rest next y n l in (r.0, after r.1, r.2)
@@ -112,7 +112,7 @@ module _ (w : List Class) where
       (λ b. let r = up_names rest next y n b in (r.0, after r.1, r.2))
       (lists-split y (names_upwards s) (names_upwards next) l)
 
-  names_up : (x : List ℕ) (xs : List (List ℕ)) (k : Kin) (y : List ℕ) → IsKin w xs k → Lists x xs → Under w x y → Lists y (names_upwards k)
+  names_up : (x : List ℕ) (xs : List (List ℕ)) (k : Supertypes) (y : List ℕ) → AreSupertypes w xs k → Lists x xs → Under w x y → Lists y (names_upwards k)
   names_up x xs k y ends l under = no_list l
   names_up x xs k y (unknown_here {next = next} e n) foremost itself = foremost
   names_up x xs k y (unknown_here {next = next} e n) foremost (below c f l rest) = absurd (clash (sym e ∙ f))
@@ -129,7 +129,7 @@ module _ (w : List Class) where
 
   -- ---- interfaces
 
-  up_gathered : (listed : Bool) (xs : List (List ℕ)) (k : Kin) (i : Interface) → IsKin w xs k → Has i (gathered listed k) → (x : List ℕ) × Lists x xs × Below w x i.name
+  up_gathered : (listed : Bool) (xs : List (List ℕ)) (k : Supertypes) (i : Interface) → AreSupertypes w xs k → Has i (gathered listed k) → (x : List ℕ) × Lists x xs × Below w x i.name
   unfolding gathered
   up_gathered listed xs k i ends h = no_item h
   up_gathered listed xs k i (unknown_here {x = x} {xs = rest} {next = next} e n) h = ⊎_elim
@@ -175,19 +175,19 @@ module _ (w : List Class) where
   module _ (acyclic : IsAcyclic w) (c : Class) where
     -- a superclass that an export file lists stands over superclasses above the class
     pub super_under : (y : List ℕ) → Lists y (superclasses w c) → (s : List ℕ) × Lists s c.supers × Under w s y
-    super_under y l = up_names c.supers (kin w c.supers) y (kin-IsKin w acyclic c.supers) (once_lists [] (names_upwards (kin w c.supers)) y l)
+    super_under y l = up_names c.supers (supertypes w c.supers) y (supertypes-AreSupertypes w acyclic c.supers) (once_lists [] (names_upwards (supertypes w c.supers)) y l)
 
     -- and each is listed
     pub under_super : (s y : List ℕ) → Lists s c.supers → Under w s y → Lists y (superclasses w c)
-    under_super s y l under = all_once (names_upwards (kin w c.supers)) y (names_up s c.supers (kin w c.supers) y (kin-IsKin w acyclic c.supers) l under)
+    under_super s y l under = all_once (names_upwards (supertypes w c.supers)) y (names_up s c.supers (supertypes w c.supers) y (supertypes-AreSupertypes w acyclic c.supers) l under)
 
     -- an interface that it lists stands above the class
     pub interface_below : (y : List ℕ) → Lists y (interfaces w c) → (s : List ℕ) × Lists s (c.supers ++ c.interfaces) × Below w s y
     interface_below y l =
-        let n = named_has (Interfaces.each_once [] (gathered false (kin w c.supers) ++ gathered true (kin w c.interfaces))) y l in
+        let n = named_has (Interfaces.each_once [] (gathered false (supertypes w c.supers) ++ gathered true (supertypes w c.interfaces))) y l in
         let i = n.0 in
-        let h = once_has [] (gathered false (kin w c.supers) ++ gathered true (kin w c.interfaces)) i n.1 in
+        let h = once_has [] (gathered false (supertypes w c.supers) ++ gathered true (supertypes w c.interfaces)) i n.1 in
         ⊎_elim
-        (λ a. let r = up_gathered false c.supers (kin w c.supers) i (kin-IsKin w acyclic c.supers) a in (r.0, lists-front r.0 c.supers c.interfaces r.1, subst (Below w r.0) n.2 r.2))
-        (λ b. let r = up_gathered true c.interfaces (kin w c.interfaces) i (kin-IsKin w acyclic c.interfaces) b in (r.0, lists-behind r.0 c.supers c.interfaces r.1, subst (Below w r.0) n.2 r.2))
-        (has_either i (gathered false (kin w c.supers)) (gathered true (kin w c.interfaces)) h)
+        (λ a. let r = up_gathered false c.supers (supertypes w c.supers) i (supertypes-AreSupertypes w acyclic c.supers) a in (r.0, lists-front r.0 c.supers c.interfaces r.1, subst (Below w r.0) n.2 r.2))
+        (λ b. let r = up_gathered true c.interfaces (supertypes w c.interfaces) i (supertypes-AreSupertypes w acyclic c.interfaces) b in (r.0, lists-behind r.0 c.supers c.interfaces r.1, subst (Below w r.0) n.2 r.2))
+        (has_either i (gathered false (supertypes w c.supers)) (gathered true (supertypes w c.interfaces)) h)

@@ -3,7 +3,7 @@ use Rattle.std.proofs.Common.{◌≡◌, ℕ, ◌≤◌, refl, Bool, true, false
 use Rattle.std.specs.Prelude.{◌||◌, nat_lt}
 use Rattle.std.specs.List.{list_any}
 use Rattle.std.proofs.lemmas.Bool.Decides.{nat_tests}
-use Rattle.cjc_bytes.specs.Breaks.{Break, Spot, at}
+use Rattle.cjc_bytes.specs.Breaks.{Break, RulePlace, at}
 use Rattle.cjc_capwrite.specs.Files.{Infos, infos_of, is_too_large, is_wide}
 use Rattle.cjc_capwrite.specs.Descriptor.{types_bytes}
 use Rattle.cjc_components.specs.Package.{Package, pool}
@@ -19,11 +19,11 @@ pub second_off : (a b : Bool) → (a || b) ≡ false → b ≡ false
 second_off true b e = cc
 second_off false b e = e
 
-front_off : (a b : Bool) (s : Spot) (m n : ℕ) → at a s m ++ at b s n ≡ [] → a ≡ false
+front_off : (a b : Bool) (s : RulePlace) (m n : ℕ) → at a s m ++ at b s n ≡ [] → a ≡ false
 front_off true b s m n e = cc
 front_off false b s m n e = refl
 
-back_off : (a b : Bool) (s : Spot) (m n : ℕ) → at a s m ++ at b s n ≡ [] → b ≡ false
+back_off : (a b : Bool) (s : RulePlace) (m n : ℕ) → at a s m ++ at b s n ≡ [] → b ≡ false
 back_off true b s m n e = cc
 back_off false true s m n e = cc
 back_off false false s m n e = refl
@@ -42,7 +42,7 @@ before_second : (a b : List Break) → else_of a b ≡ [] → a ≡ []
 before_second [] b e = refl
 before_second (x ∷ a) b e = cc
 
-behind_off : (a : List Break) (b : Bool) (s : Spot) (n : ℕ) → a ++ at b s n ≡ [] → b ≡ false
+behind_off : (a : List Break) (b : Bool) (s : RulePlace) (n : ℕ) → a ++ at b s n ≡ [] → b ≡ false
 behind_off [] true s n e = cc
 behind_off [] false s n e = refl
 behind_off (x ∷ a) b s n e = cc

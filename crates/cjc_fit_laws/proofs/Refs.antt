@@ -12,7 +12,7 @@ use Rattle.cjc_capread.specs.declared.tree.ClassEntry.{ClassEntry}
 use Rattle.cjc_capwrite.specs.Class.{interface_bytes, implemented_bytes, class_entry_bytes, class_info_bytes}
 use Rattle.cjc_capwrite.specs.Fits.{ClassFits, StaticFits}
 use Rattle.cjc_capwrite.proofs.Lengths.{interface_length, implemented_length, class_entry_length, class_info_length}
-use Rattle.cjc_card.specs.Classes.{Class as CardClass, Own, Foreign, foreign_from, or_else, token_named}
+use Rattle.cjc_card.specs.Classes.{Class as CardClass, Own, External, external_from, or_else, token_named}
 use Rattle.cjc_export.specs.declared.tree.ExportClass.{ExportClass}
 use Rattle.cjc_export.specs.declared.tree.ExportTree.{ExportTree}
 use Rattle.cjc_export.specs.Writable.{EachAfter, IsWritable}
@@ -93,22 +93,22 @@ token_low before (c ∷ cs) name token all e = by (bytes_eq c.name name) e (λ f
     by true e rest = let fits = all.0 in let low = fits.token in let same : c.token ≡ token = cc in omega (arith, low, same)
     by false e rest = rest e
 
-foreign_fits : (tree : ℕ) (trees : List ExportTree) (name : List ℕ) (c : CardClass) → tree + length trees ≤ 128 → AllByRecursion IsWritable trees → foreign_from tree trees name ≡ Some c → ClassFits (ref_to c)
-foreign_fits tree [] name c few all e = cc
-foreign_fits tree (t ∷ trees) name c few all e = by (token_named t.classes name) refl e (λ f. foreign_fits (tree + 1) trees name c (omega (arith, few)) all.1 f)
+external_fits : (tree : ℕ) (trees : List ExportTree) (name : List ℕ) (c : CardClass) → tree + length trees ≤ 128 → AllByRecursion IsWritable trees → external_from tree trees name ≡ Some c → ClassFits (ref_to c)
+external_fits tree [] name c few all e = cc
+external_fits tree (t ∷ trees) name c few all e = by (token_named t.classes name) refl e (λ f. external_fits (tree + 1) trees name c (omega (arith, few)) all.1 f)
   where
-    by : (o : Option ℕ) → token_named t.classes name ≡ o → or_else (option_map (Foreign tree) o) (foreign_from (tree + 1) trees name) ≡ Some c → (foreign_from (tree + 1) trees name ≡ Some c → ClassFits (ref_to c)) → ClassFits (ref_to c)
+    by : (o : Option ℕ) → token_named t.classes name ≡ o → or_else (option_map (External tree) o) (external_from (tree + 1) trees name) ≡ Some c → (external_from (tree + 1) trees name ≡ Some c → ClassFits (ref_to c)) → ClassFits (ref_to c)
     by None f e rest = rest e
     by (Some token) f e rest =
         let w = all.0 in
-        let same : Foreign tree token ≡ c = cc in
+        let same : External tree token ≡ c = cc in
         subst (λ (d : CardClass). ClassFits (ref_to d)) same (omega (arith, few), token_low [] t.classes name token w.classes f)
 
 -- ---- references
 
 static_by : (c : CardClass) (offset token : ℕ) → ClassFits (ref_to c) → offset < 2 ^ 16 → StaticFits (member_ref c offset token)
 static_by (Own part at) offset token fits low = low
-static_by (Foreign file class) offset token fits low = fits.0
+static_by (External file class) offset token fits low = fits.0
 
 module _ (p : Package) (h : IsLimited p) where
   pub class_short : length (class_info_bytes (class_info (class_ref p) p)) ≤ 32767
@@ -141,7 +141,7 @@ module _ (p : Package) (h : IsLimited p) where
 
   pub class_fits : (name : List ℕ) → ClassFits (class_ref p name)
   class_fits name = let files = p.files in
-      by (class_offset p name) (class_low name) (foreign_from 0 files.exports name) (λ c e. foreign_fits 0 files.exports name c (let few = h.few_imports in omega (arith, few)) (all_of IsWritable files.exports h.exports) e)
+      by (class_offset p name) (class_low name) (external_from 0 files.exports name) (λ c e. external_fits 0 files.exports name c (let few = h.few_imports in omega (arith, few)) (all_of IsWritable files.exports h.exports) e)
     where
       by : (o : Option ℕ) → ((s : ℕ) → o ≡ Some s → s ≤ 32767) → (f : Option CardClass) → ((c : CardClass) → f ≡ Some c → ClassFits (ref_to c)) → ClassFits (ref_to (unwrap_or (or_else (option_map (Own 0) o) f) (Own 0 0)))
       by None low None fits = omega arith

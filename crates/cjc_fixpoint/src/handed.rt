@@ -4,7 +4,7 @@
 ghost use Rattle.std.specs.Prelude.{◌≡◌, ◌<◌, ◌==◌, if◌then◌else◌, None, Some, Contains, IfOk};
 ghost use Rattle.cjc_fixpoint.specs.declared.flow.Edge.{Edge as Leads};
 ghost use Rattle.cjc_fixpoint.specs.Working.HandedLaws.{OwnMaybe};
-ghost use Rattle.cjc_fixpoint.specs.Kept.{merged as merged_of, handed as handed_of, handed_on as handed_on_by};
+ghost use Rattle.cjc_fixpoint.specs.Kept.{merged, handed, handed_on};
 
 use crate::flow::{Edge, Flow};
 use cjc_bytes::{NoMemory, Row};
@@ -19,7 +19,7 @@ pub(crate) fn merged<F: Flow>(
 ) -> Result<Option<F::State>, NoMemory>
     requires row { OwnMaybe (F.meaning flow.now) row }
     requires own { (F.meaning flow.now).Own state }
-    ensures { IfOk result (λ more. more ≡ merged_of (F.meaning flow.now) row (Some state)) }
+    ensures { IfOk result (λ more. more ≡ merged (F.meaning flow.now) row (Some state)) }
 {
     match row {
         None => Ok(Some(state)),
@@ -37,7 +37,7 @@ fn with_edge<F: Flow>(
 ) -> Result<Option<F::State>, NoMemory>
     requires row { OwnMaybe (F.meaning flow.now) row }
     requires own { (F.meaning flow.now).Own edge.state }
-    ensures { IfOk result (λ more. more ≡ merged_of (F.meaning flow.now) row (if edge.to == to then Some edge.state else None)) }
+    ensures { IfOk result (λ more. more ≡ merged (F.meaning flow.now) row (if edge.to == to then Some edge.state else None)) }
 {
     if edge.to == to {
         merged(alloc, flow, row, edge.state)
@@ -54,7 +54,7 @@ fn handed<F: Flow>(
     edges: Row<Edge<F::State>>,
 ) -> Result<Option<F::State>, NoMemory>
     requires { (e : Leads F.State) → Contains edges e → (F.meaning flow.now).Own e.state }
-    ensures { IfOk result (λ row. row ≡ handed_of (F.meaning flow.now) to edges) }
+    ensures { IfOk result (λ row. row ≡ handed (F.meaning flow.now) to edges) }
 {
     let mut row = None;
     for edge in edges.into_vec() {
@@ -72,7 +72,7 @@ pub fn moved_on<F: Flow>(
 ) -> Result<Option<F::State>, NoMemory>
     requires at { at < 4294967295 }
     requires row { OwnMaybe (F.meaning flow.now) row }
-    ensures { IfOk result (λ next. next ≡ handed_on_by (F.meaning flow.now) at row) }
+    ensures { IfOk result (λ next. next ≡ handed_on (F.meaning flow.now) at row) }
 {
     match row {
         None => Ok(None),

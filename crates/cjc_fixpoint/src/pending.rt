@@ -5,7 +5,7 @@ ghost use Rattle.std.specs.Ordering.{nat_cmp};
 ghost use Rattle.std.specs.BTreeMap.{get as state_at, IsOrdered};
 ghost use Rattle.cjc_fixpoint.specs.Working.HandedLaws.{OwnMaybe};
 ghost use Rattle.cjc_fixpoint.specs.Gathered.{edge_of};
-ghost use Rattle.cjc_fixpoint.specs.Kept.{merged as merged_of};
+ghost use Rattle.cjc_fixpoint.specs.Kept.{merged};
 
 use crate::flow::{Edge, Flow};
 use cjc_bytes::{NoMemory, Row};
@@ -16,7 +16,7 @@ use std::collections::BTreeMap;
 fn is_known<F: Flow>(flow: &F, pending: &BTreeMap<u32, F::State>, to: u32, state: &F::State) -> bool
     requires own { OwnMaybe (F.meaning flow.now) (state_at nat_cmp pending.now to) }
     requires state { (F.meaning flow.now).Own state.now }
-    ensures { IsTrue result → merged_of (F.meaning flow.now) (state_at nat_cmp pending.now to) (Some state.now) ≡ state_at nat_cmp pending.now to }
+    ensures { IsTrue result → merged (F.meaning flow.now) (state_at nat_cmp pending.now to) (Some state.now) ≡ state_at nat_cmp pending.now to }
 {
     match pending.get(&to) {
         Some(row) => flow.is_above(row, state),
@@ -33,7 +33,7 @@ fn joined<F: Flow>(
 ) -> Result<F::State, NoMemory>
     requires row { OwnMaybe (F.meaning flow.now) row }
     requires own { (F.meaning flow.now).Own state }
-    ensures { IfOk result (λ more. Some more ≡ merged_of (F.meaning flow.now) row (Some state)) }
+    ensures { IfOk result (λ more. Some more ≡ merged (F.meaning flow.now) row (Some state)) }
 {
     match row {
         None => Ok(state),
@@ -51,7 +51,7 @@ pub(crate) fn hand<F: Flow>(
 ) -> Result<(), NoMemory>
     requires pending { (k : ℕ) → OwnMaybe (F.meaning flow.now) (state_at nat_cmp pending.old k) }
     requires own { (F.meaning flow.now).Own state }
-    ensures { OnOk result ((k : ℕ) → state_at nat_cmp pending.new k ≡ merged_of (F.meaning flow.now) (state_at nat_cmp pending.old k) (if to == k then Some state else None)) }
+    ensures { OnOk result ((k : ℕ) → state_at nat_cmp pending.new k ≡ merged (F.meaning flow.now) (state_at nat_cmp pending.old k) (if to == k then Some state else None)) }
 {
     if is_known(flow, pending, to, &state) {
         return Ok(());

@@ -6,11 +6,11 @@ ghost use Rattle.std.specs.Prelude.{◌≡◌, ◌+◌, ◌==◌, if◌then◌el
 ghost use Rattle.cjc_fixpoint.specs.declared.flow.Edge.{Edge as Leads};
 ghost use Rattle.std.specs.Ordering.{nat_cmp};
 ghost use Rattle.std.specs.BTreeMap.{get as state_at};
-ghost use Rattle.cjc_fixpoint.specs.Gathered.{gathered as gathered_of};
+ghost use Rattle.cjc_fixpoint.specs.Gathered.{gathered};
 ghost use Rattle.cjc_fixpoint.specs.Working.HandedLaws.{OwnMaybe};
-ghost use Rattle.cjc_fixpoint.specs.Kept.{AreMarks, IsAscending, merged as merged_of, handed as handed_of, handed_more, mark_of as mark_at};
+ghost use Rattle.cjc_fixpoint.specs.Kept.{AreMarks, IsAscending, merged, handed, handed_more, mark_of as mark_at};
 ghost use Rattle.cjc_fixpoint.specs.Segments.{to_segment, segment_end};
-ghost use Rattle.cjc_fixpoint.specs.Shortened.{asked as asked_of, short_run};
+ghost use Rattle.cjc_fixpoint.specs.Shortened.{asked, short_run};
 
 use crate::flow::{Edge, Flow, Repeating};
 use crate::handed::merged;
@@ -59,7 +59,7 @@ fn deal_one<F: Flow>(
     requires out { (k : ℕ) → OwnMaybe (F.meaning flow.now) (state_at nat_cmp out.old k) }
     ensures out { OnOk result ((k : ℕ) → state_at nat_cmp out.new k ≡ handed_more (F.meaning flow.now) k (state_at nat_cmp out.old k) (filter_map (to_segment marks.now) (edge ∷ []))) }
     ensures own { IfOk result (OwnMaybe (F.meaning flow.now)) }
-    ensures next { IfOk result (λ more. next < end → more ≡ merged_of (F.meaning flow.now) row (if edge.to == next then Some edge.state else None)) }
+    ensures next { IfOk result (λ more. next < end → more ≡ merged (F.meaning flow.now) row (if edge.to == next then Some edge.state else None)) }
 {
     if edge.to == next && next < end {
         return merged(alloc, flow, row, edge.state);
@@ -86,7 +86,7 @@ fn deal<F: Flow>(
     requires out { (k : ℕ) → OwnMaybe (F.meaning flow.now) (state_at nat_cmp out.old k) }
     ensures out { OnOk result ((k : ℕ) → state_at nat_cmp out.new k ≡ handed_more (F.meaning flow.now) k (state_at nat_cmp out.old k) (filter_map (to_segment marks.now) edges)) }
     ensures own { IfOk result (OwnMaybe (F.meaning flow.now)) }
-    ensures next { IfOk result (λ row. next < end → row ≡ handed_of (F.meaning flow.now) next edges) }
+    ensures next { IfOk result (λ row. next < end → row ≡ handed (F.meaning flow.now) next edges) }
 {
     let mut row = None;
     for edge in edges.into_vec() {
@@ -124,9 +124,9 @@ fn go_on<F: Repeating>(
     requires unmarked { at + 1 < end → mark_at marks.now (at + 1) ≡ None }
     requires own { (F.meaning flow.now).Own state }
     requires out { (k : ℕ) → OwnMaybe (F.meaning flow.now) (state_at nat_cmp out.old k) }
-    ensures out { OnOk result ((k : ℕ) → state_at nat_cmp out.new k ≡ handed_more (F.meaning flow.now) k (state_at nat_cmp out.old k) (asked_of (F.meaning flow.now) marks.now (asks || is_some (mark_at marks.now (at + 1))) at state)) }
+    ensures out { OnOk result ((k : ℕ) → state_at nat_cmp out.new k ≡ handed_more (F.meaning flow.now) k (state_at nat_cmp out.old k) (asked (F.meaning flow.now) marks.now (asks || is_some (mark_at marks.now (at + 1))) at state)) }
     ensures own { IfOk result (OwnMaybe (F.meaning flow.now)) }
-    ensures next { IfOk result (λ row. at + 1 < end → row ≡ handed_of (F.meaning flow.now) (at + 1) ((F.meaning flow.now).edges at state)) }
+    ensures next { IfOk result (λ row. at + 1 < end → row ≡ handed (F.meaning flow.now) (at + 1) ((F.meaning flow.now).edges at state)) }
 {
     if is_asked(marks, at + 1, asks) {
         let edges = flow.step(alloc, at, state)?;
@@ -177,7 +177,7 @@ fn gathered<F: Repeating>(
     requires ascending { IsAscending marks.now }
     requires unmarked { (at : ℕ) → start < at → at < end → mark_at marks.now at ≡ None }
     requires own { (F.meaning flow.now).Own state }
-    ensures { IfOk result (λ edges. edges ≡ gathered_of (F.meaning flow.now) (length marks.now) (short_run (F.meaning flow.now) marks.now (F.again flow.now) (end - start) start true (Some state))) }
+    ensures { IfOk result (λ edges. edges ≡ gathered (F.meaning flow.now) (length marks.now) (short_run (F.meaning flow.now) marks.now (F.again flow.now) (end - start) start true (Some state))) }
 {
     let mut out = BTreeMap::new(alloc);
     run(alloc, flow, marks, start, end, state, &mut out)?;

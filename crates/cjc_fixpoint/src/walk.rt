@@ -3,7 +3,7 @@
 
 ghost use Rattle.std.specs.Prelude.{◌≡◌, ◌+◌, ◌<◌, None, Some, MatchOption, length, slice_get, OnErr, OnOk, IfOk};
 ghost use Rattle.cjc_fixpoint.specs.Working.HandedLaws.{OwnMaybe};
-ghost use Rattle.cjc_fixpoint.specs.Kept.{IsAscending, StandsForLeast, full, handed_on as handed_on_by, mark_of};
+ghost use Rattle.cjc_fixpoint.specs.Kept.{IsAscending, StandsForLeast, full, handed_on, mark_of};
 ghost use Rattle.cjc_fixpoint.specs.Walks.{IsNext};
 
 use crate::flow::{Flow, Repeating};
@@ -42,7 +42,7 @@ pub fn passed_on<F: Repeating>(
     requires ascending { IsAscending marks.now }
     requires at { at < places }
     requires row { OwnMaybe (F.meaning flow.now) row }
-    ensures { IfOk result (λ next. at + 1 < places → mark_of marks.now (at + 1) ≡ None → next ≡ handed_on_by (F.meaning flow.now) at row) }
+    ensures { IfOk result (λ next. at + 1 < places → mark_of marks.now (at + 1) ≡ None → next ≡ handed_on (F.meaning flow.now) at row) }
 {
     let next = at + 1;
     if next == places {
@@ -70,7 +70,7 @@ fn passed_on_copy<F: Repeating>(
     requires ascending { IsAscending marks.now }
     requires at { at < places }
     requires row { OwnMaybe (F.meaning flow.now) row.now }
-    ensures { IfOk result (λ next. at + 1 < places → mark_of marks.now (at + 1) ≡ None → next ≡ handed_on_by (F.meaning flow.now) at row.now) }
+    ensures { IfOk result (λ next. at + 1 < places → mark_of marks.now (at + 1) ≡ None → next ≡ handed_on (F.meaning flow.now) at row.now) }
 {
     let next = at + 1;
     if next == places {

@@ -2,7 +2,7 @@
 //! ranging.rt. Knows no instruction.
 
 ghost use Rattle.std.specs.Prelude.{◌≡◌, if◌then◌else◌, option_map, IfOk};
-ghost use Rattle.cjc_types.specs.Rules.{is_number as is_number_cell};
+ghost use Rattle.cjc_types.specs.Rules.{is_number};
 ghost use Rattle.cjc_types.specs.Tables.{state_of};
 ghost use Rattle.cjc_types.specs.declared.table.Frame.{Frame as Typed};
 ghost use Rattle.cjc_range_flow.specs.Flow.{by_types, number_range, rounded};
@@ -17,7 +17,7 @@ use cjc_types::{Cell, Frame};
 use std::alloc::Global;
 
 fn is_number(cell: &Cell) -> bool
-    ensures { result ≡ is_number_cell cell.now }
+    ensures { result ≡ is_number cell.now }
 {
     match cell {
         Cell::Number => true,

@@ -2,7 +2,7 @@
 //! intervals off and puts them on without moving the rest; contracts see it first. Knows no instruction.
 
 ghost use Rattle.std.specs.Prelude.{◌≡◌, ◌≤◌, ◌*◌, ◌^◌, ◌∷◌, [], length, drop, sum_by, All, IfOk, OnOk, IsTrue};
-ghost use Rattle.cjc_fixpoint.specs.Lattice.{joined as joined_in_turn};
+ghost use Rattle.cjc_fixpoint.specs.Lattice.{joined};
 ghost use Rattle.cjc_range.specs.Rows.{join_row};
 ghost use Rattle.cjc_range.specs.Span.{full, width, IsWord};
 ghost use Rattle.cjc_range_flow.specs.Steps.{operand};
@@ -25,7 +25,7 @@ pub(crate) fn full_interval() -> Interval
 /// The intervals joined in turn, made of the first ones.
 pub(crate) fn joined(left: Vec<Interval>, right: &[Interval]) -> Vec<Interval>
     requires { length left.items ≡ length right.now }
-    ensures { result.items ≡ joined_in_turn join_row left.items right.now }
+    ensures { result.items ≡ joined join_row left.items right.now }
 {
     let mut cells = left;
     for i in 0..right.len() {
@@ -45,7 +45,7 @@ fn is_wider(left: Interval, right: Interval) -> bool
 /// Whether to join the other intervals in turn changes none.
 pub(crate) fn are_above(left: &[Interval], right: &[Interval]) -> bool
     requires { length left.now ≡ length right.now }
-    ensures { IsTrue result → joined_in_turn join_row left.now right.now ≡ left.now }
+    ensures { IsTrue result → joined join_row left.now right.now ≡ left.now }
 {
     for i in 0..left.len() {
         if !is_wider(left[i], right[i]) {
@@ -139,7 +139,7 @@ impl Intervals {
     /// The intervals of two stacks of one height, joined in turn.
     pub(crate) fn joined(self, other: &Intervals) -> Intervals
         requires { length self ≡ length other.now }
-        ensures { result ≡ joined_in_turn join_row self other.now }
+        ensures { result ≡ joined join_row self other.now }
     {
         let Intervals { cells } = self;
         let cells = joined(cells, other.cells.as_slice());
@@ -149,7 +149,7 @@ impl Intervals {
     /// Whether to join the intervals of another stack of this height changes none.
     pub(crate) fn is_above(&self, other: &Intervals) -> bool
         requires { length self.now ≡ length other.now }
-        ensures { IsTrue result → joined_in_turn join_row self.now other.now ≡ self.now }
+        ensures { IsTrue result → joined join_row self.now other.now ≡ self.now }
     {
         are_above(self.cells.as_slice(), other.cells.as_slice())
     }

@@ -10,11 +10,11 @@ ghost use Rattle.cjc_fixpoint.specs.Kept.{IsAscending, StandsForLeast, mark_of a
 ghost use Rattle.cjc_world.specs.Classes.{all_classes};
 ghost use Rattle.cjc_types.specs.declared.state.State.{State as TypeState};
 ghost use Rattle.cjc_types.specs.Flow.{body_of};
-ghost use Rattle.cjc_types.specs.Marks.{is_marked as is_marked_by, marks_of};
+ghost use Rattle.cjc_types.specs.Marks.{is_marked, marks_of};
 ghost use Rattle.cjc_types.specs.Repeats.{repeats_at as repeats_here};
 ghost use Rattle.cjc_types.specs.Search.{cells_of};
 ghost use Rattle.cjc_types.specs.Tables.{IsMethodOf, IsOfPackage, IsTypeTable, rows_of};
-ghost use Rattle.cjc_range_flow.specs.Flow.{caught as caught_by, is_target as is_target_of};
+ghost use Rattle.cjc_range_flow.specs.Flow.{caught as caught_by, is_target};
 ghost use Rattle.cjc_flow.specs.Constants.{AreNumbers, values_of};
 ghost use Rattle.cjc_flow.specs.Tables.{IsRangeTable, ranges_of};
 ghost use Rattle.cjc_flow.specs.Working.Given.{after_by, element_at as element_by, element_given};
@@ -140,7 +140,7 @@ impl<'a> Ranging<'a> {
     /// Whether a place is marked.
     fn is_marked(&self, at: u32) -> bool
         requires { at ≡ 0 → 0 < length self.now.body.insns }
-        ensures { result ≡ is_marked_by self.now.body at }
+        ensures { result ≡ is_marked self.now.body at }
     {
         cjc_fixpoint::is_marked(self.types.marks.items(), at)
     }
@@ -155,7 +155,7 @@ impl<'a> Ranging<'a> {
 
     /// Whether what comes to a marked place is rounded.
     fn rounds(&self, to: u32) -> bool
-        ensures { result ≡ (not (to == 0) || is_target_of self.now.body 0) }
+        ensures { result ≡ (not (to == 0) || is_target self.now.body 0) }
     {
         to != 0 || self.first
     }

@@ -2,7 +2,7 @@
 //! word that holds no number has the full interval.
 
 ghost use Rattle.std.specs.Prelude.{◌≡◌, ◌≤◌, ◌+◌, ◌*◌, ◌^◌, IfOk, IsTrue};
-ghost use Rattle.cjc_range_flow.specs.Frames.{IsStack, joined_stack, spans, spans_of, stack_of as stack_of_cells, stack_rank, states};
+ghost use Rattle.cjc_range_flow.specs.Frames.{IsStack, joined_stack, spans, spans_of, stack_of, stack_rank, states};
 ghost use Rattle.cjc_range_flow.specs.Steps.{operand};
 ghost use Rattle.cjc_flow.specs.States.{stack_in};
 
@@ -54,7 +54,7 @@ impl Ranges {
 /// The stack of these intervals.
 #[tactic(auto, unfolding(cjc_types::specs::States::most_cells))]
 pub(crate) fn stack_of(cells: Intervals) -> Option<Intervals>
-    ensures { stack_in result ≡ stack_of_cells cells }
+    ensures { stack_in result ≡ stack_of cells }
 {
     if cells.len() <= 393_216 {
         Some(cells)

@@ -4,7 +4,7 @@
 ghost use Rattle.std.specs.Prelude.{◌≡◌, [], ◌∷◌, ◌++◌, map, drop, slice_set, option_to_list, if◌then◌else◌, IfOk, OnOk};
 ghost use Rattle.cjc_range.specs.Rows.{and_row, or_row};
 ghost use Rattle.cjc_range.specs.Span.{IsWord};
-ghost use Rattle.cjc_range_flow.specs.Steps.{arithmetic as arithmetic_by, field_range, loaded as loaded_by, locals_after, narrowed as narrowed_by, operand, stored as stored_by, two_operands};
+ghost use Rattle.cjc_range_flow.specs.Steps.{arithmetic, field_range, loaded, locals_after, narrowed, operand, stored, two_operands};
 ghost use Rattle.cjc_range_flow.specs.Values.{result_ranges};
 ghost use Rattle.cjc_types.specs.Types.{parts};
 ghost use Rattle.cjc_flow.specs.States.{stack_in};
@@ -64,7 +64,7 @@ fn calculated(opcode: u8, x: Interval, y: Interval) -> Interval
 }
 
 fn arithmetic(opcode: u8, stack: &Intervals) -> Interval
-    ensures { result ≡ arithmetic_by opcode stack.now }
+    ensures { result ≡ arithmetic opcode stack.now }
 {
     if opcode == jvm::INEG {
         stack.get(0).neg()
@@ -75,7 +75,7 @@ fn arithmetic(opcode: u8, stack: &Intervals) -> Interval
 
 /// i2b and i2s.
 fn narrowed(opcode: u8, x: Interval) -> Interval
-    ensures { result ≡ narrowed_by opcode x }
+    ensures { result ≡ narrowed opcode x }
 {
     if opcode == jvm::I2B {
         x.to_byte()
@@ -96,7 +96,7 @@ fn local_at(locals: &[Interval], local: u16) -> Interval
 
 /// What a load of a local gives.
 fn loaded(refs: bool, locals: &[Interval], local: u16) -> Interval
-    ensures { result ≡ loaded_by refs (operand locals.now local) }
+    ensures { result ≡ loaded refs (operand locals.now local) }
 {
     if refs {
         full_interval()
@@ -233,7 +233,7 @@ fn after_stack(
 
 /// What a store puts into a local.
 fn stored(refs: bool, stack: &Option<Intervals>) -> Interval
-    ensures { result ≡ stored_by refs (stack_in stack.now) }
+    ensures { result ≡ stored refs (stack_in stack.now) }
 {
     match stack {
         Some(cells) if !refs => cells.get(0),

@@ -4,7 +4,7 @@ ghost use Rattle.std.specs.Prelude.{◌≡◌, ◌++◌, map, option_to_list, If
 ghost use Rattle.std.specs.List.{list_all};
 ghost use Rattle.cjc_range_flow.specs.Values.{boolean_range, byte_element_range, element_range, exactly, is_boolean_array, length_range, range_of, range_of_kind, result_ranges};
 ghost use Rattle.cjc_range.specs.Span.{byte_range, short_range};
-ghost use Rattle.cjc_types.specs.Types.{is_void as is_void_kind, parts};
+ghost use Rattle.cjc_types.specs.Types.{is_void, parts};
 
 use crate::intervals::full_interval;
 use cjc_bytes::{Kind, NoMemory, Row};
@@ -78,7 +78,7 @@ fn of_kind(kind: Kind) -> Interval
 }
 
 fn is_void(kind: Kind) -> bool
-    ensures { result ≡ is_void_kind kind }
+    ensures { result ≡ is_void kind }
 {
     match kind {
         Kind::Void => true,

@@ -1,6 +1,6 @@
 -- What the files that were read say, and which of them break their format.
 use Rattle.std.specs.Prelude.{◌≡◌, ◌==◌, if◌then◌else◌, ℕ, ◌<◌, ◌^◌, List, [], ◌∷◌, ◌++◌, All, length, Option, Some, None, Result, Ok, Err}
-use Rattle.cjc_bytes.specs.Breaks.{Break, Spot, broken_at}
+use Rattle.cjc_bytes.specs.Breaks.{Break, RulePlace, broken_at}
 use Rattle.cjc_bytes.specs.Order.{FilePlace}
 use Rattle.cjc_bytes.specs.Reading.{read_file}
 use Rattle.cjc_bytes.specs.Refused.{in_file}
@@ -22,7 +22,7 @@ use Rattle.cjc_folder.specs.declared.trees.FolderTrees.{FolderTrees}
 -- ---- what is broken
 
 -- an offset of a file as a whole
-abbrev pub file_spot : FilePlace → (offset : ℕ) → Spot
+abbrev pub file_spot : FilePlace → (offset : ℕ) → RulePlace
 file_spot f offset = record { file = f.key; class = 0; member = 0; place = in_file f.name offset }
 
 -- where a file breaks its format, a rule is broken at that place

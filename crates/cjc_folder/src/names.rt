@@ -1,8 +1,8 @@
 //! The names of the files that are read, and which components there are. It knows no shelf.
 
 ghost use Rattle.std.specs.Prelude.{◌≡◌, ◌+◌, ◌-◌, ◌<◌, ◌≤◌, ◌^◌, ◌==◌, not, get_or, map, length, IfOk};
-ghost use Rattle.cjc_sentences.specs.Consistent.{file_name as file_name_lem};
-ghost use Rattle.cjc_folder.specs.Reads.{component_name as component_name_lem, export_names as export_names_lem, has_size as has_size_lem, tags_of as tags_of_lem, tags_with_size as tags_with_size_lem};
+ghost use Rattle.cjc_sentences.specs.Consistent.{file_name};
+ghost use Rattle.cjc_folder.specs.Reads.{component_name, export_names, has_size, tags_of, tags_with_size};
 
 use cjc_bytes::{Bytes, Fault, FileLine, NoMemory, Out, Row};
 use cjc_capread::read;
@@ -10,7 +10,7 @@ use std::alloc::Global;
 
 /// The name of a component's file by its tag, the folder aside.
 pub fn file_name(tag: u8) -> &'static [u8]
-    ensures { result.now ≡ file_name_lem tag }
+    ensures { result.now ≡ file_name tag }
 {
     match tag {
         1 => b"Header.cap",
@@ -29,7 +29,7 @@ pub fn file_name(tag: u8) -> &'static [u8]
 
 /// The name of a component's file in the folder.
 pub fn component_name(alloc: Global, dir: &[u8], tag: u8) -> Result<Bytes, NoMemory>
-    ensures { IfOk result (λ name. name ≡ component_name_lem dir.now tag) }
+    ensures { IfOk result (λ name. name ≡ component_name dir.now tag) }
 {
     let mut name = Out::new(alloc);
     name.put_slice(dir)?;
@@ -44,7 +44,7 @@ pub(crate) fn component_names(
     dir: &[u8],
     tags: &[u8],
 ) -> Result<Row<Bytes>, NoMemory>
-    ensures { IfOk result (λ names. names ≡ map (component_name_lem dir.now) tags.now) }
+    ensures { IfOk result (λ names. names ≡ map (component_name dir.now) tags.now) }
 {
     let mut names = Row::new(alloc);
     for tag in tags {
@@ -55,7 +55,7 @@ pub(crate) fn component_names(
 
 /// The names of the export files among the lines of a list, in their order.
 pub fn export_names(alloc: Global, lines: &[FileLine]) -> Result<Row<Bytes>, NoMemory>
-    ensures { IfOk result (λ names. names ≡ export_names_lem lines.now) }
+    ensures { IfOk result (λ names. names ≡ export_names lines.now) }
 {
     let mut names = Row::new(alloc);
     for line in lines {
@@ -69,7 +69,7 @@ pub fn export_names(alloc: Global, lines: &[FileLine]) -> Result<Row<Bytes>, NoM
 /// Whether a size of a component is not 0.
 fn has_size(sizes: &[u64], tag: u8) -> bool
     requires { 1 ≤ tag }
-    ensures { result ≡ has_size_lem sizes.now tag }
+    ensures { result ≡ has_size sizes.now tag }
 {
     match sizes.get(usize::from(tag) - 1) {
         Some(size) => *size != 0,
@@ -79,7 +79,7 @@ fn has_size(sizes: &[u64], tag: u8) -> bool
 
 /// The tags from Applet to Descriptor whose size is not 0.
 fn tags_with_size(alloc: Global, sizes: &[u64]) -> Result<Row<u8>, NoMemory>
-    ensures { IfOk result (λ tags. tags ≡ tags_with_size_lem sizes.now) }
+    ensures { IfOk result (λ tags. tags ≡ tags_with_size sizes.now) }
 {
     let mut tags = Row::new(alloc);
     for tag in 3..12u8 {
@@ -94,7 +94,7 @@ fn tags_with_size(alloc: Global, sizes: &[u64]) -> Result<Row<u8>, NoMemory>
 /// where they spell no Directory.
 pub(crate) fn tags_of(alloc: Global, bytes: &[u8]) -> Result<Row<u8>, NoMemory>
     requires { length bytes.now < 2 ^ 32 }
-    ensures { IfOk result (λ tags. tags ≡ tags_of_lem bytes.now) }
+    ensures { IfOk result (λ tags. tags ≡ tags_of bytes.now) }
 {
     match read(alloc, b"Directory.cap", 2, bytes) {
         Ok(component) => match component.into_directory() {

@@ -5,7 +5,7 @@ ghost use Rattle.cjc_command.specs.Gather.{Gathers, IsSame, AreShort as AreShort
 ghost use Rattle.cjc_shelf.specs.Shelf.{longest_file};
 ghost use Rattle.cjc_folder.specs.Breaks.{AreShort, ArePartsShort, AreRead, ArePartsRead};
 ghost use Rattle.cjc_command.specs.Plan.{read};
-ghost use Rattle.cjc_folder.specs.Reads.{plan_behind_exports, plan_behind_header, plan_behind_list, plan_behind_text, plan_of_folder, plan_of_others, plan_of_parts, component_name as component_name_lem, tags_of as tags_of_lem};
+ghost use Rattle.cjc_folder.specs.Reads.{plan_behind_exports, plan_behind_header, plan_behind_list, plan_behind_text, plan_of_folder, plan_of_others, plan_of_parts, component_name, tags_of};
 
 use crate::folder::{Folder, Parts};
 use crate::names::{component_name, component_names, export_names, tags_of};
@@ -53,7 +53,7 @@ fn fetch_component<S: Shelf>(
     tag: u8,
     shelf: &mut S,
 ) -> Result<Bytes, Status>
-    ensures gathers { Gathers (read (component_name_lem dir.now tag)) IsSame (S.shelved shelf.old) (S.shelved shelf.new) result }
+    ensures gathers { Gathers (read (component_name dir.now tag)) IsSame (S.shelved shelf.old) (S.shelved shelf.new) result }
     ensures short { IfOk result (λ bytes. length bytes ≤ longest_file) }
 {
     match component_name(alloc, dir, tag) {

@@ -4,7 +4,7 @@ ghost use Rattle.std.specs.Prelude.{◌≡◌, ℕ, ◌≤◌, List as Items, []
 ghost use Rattle.cjc_bytes.specs.Breaks.{IsFirstRefusal};
 ghost use Rattle.cjc_bytes.specs.Order.{FilePlace};
 ghost use Rattle.cjc_capread.specs.declared.tree.Component.TheVariants as components;
-ghost use Rattle.cjc_folder.specs.Breaks.{ArePartsRead, AreRead, AreShort, ArePartsShort, AreTrees, IsShort, break_in, cap_in, component_breaks, component_place, export_breaks, export_trees, file_breaks, front as front_lem, part_breaks, with_component as with_component_lem, with_components};
+ghost use Rattle.cjc_folder.specs.Breaks.{ArePartsRead, AreRead, AreShort, ArePartsShort, AreTrees, IsShort, break_in, cap_in, component_breaks, component_place, export_breaks, export_trees, file_breaks, front, part_breaks, with_component, with_components};
 ghost use Rattle.cjc_folder.specs.Reads.{read_component};
 ghost use Rattle.cjc_folder.specs.Working.Heads.{IsForemost};
 
@@ -72,7 +72,7 @@ fn directory_in(alloc: Global, bytes: &[u8]) -> Result<Directory, Fault>
 
 /// The components of a package of which no other is there yet.
 fn front(header: Header, directory: Directory) -> CapTree
-    ensures { result ≡ front_lem header directory }
+    ensures { result ≡ front header directory }
 {
     CapTree {
         header,
@@ -91,7 +91,7 @@ fn front(header: Header, directory: Directory) -> CapTree
 
 /// Puts a component of a tag into its place.
 fn put(cap: &mut CapTree, tag: u8, component: Component)
-    ensures { cap.new ≡ with_component_lem cap.old tag component }
+    ensures { cap.new ≡ with_component cap.old tag component }
 {
     match tag {
         3 => cap.applet = component.into_applet(),

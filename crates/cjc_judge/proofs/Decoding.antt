@@ -15,27 +15,27 @@ use Rattle.cjc_classfile.specs.declared.tree.MethodTree.{MethodTree}
 use Rattle.cjc_classfile.specs.declared.tree.ClassTree.{ClassTree}
 use Rattle.cjc_bytes.specs.declared.breaks.BrokenAt.{BrokenAt}
 use Rattle.cjc_code.specs.Cut.{cut}
-use Rattle.cjc_code.specs.Decoded.{HasCode, least, unless_unfit, unless_foreign, decoding, of_code, of_method, decoding_at, refusal_of}
+use Rattle.cjc_code.specs.Decoded.{HasCode, least, unless_unfit, unless_unsupported, decoding, of_code, of_method, decoding_at, refusal_of}
 use Rattle.cjc_code.specs.Named.{all_named}
 use Rattle.cjc_code.specs.Unfit.{unfit_code}
 use Rattle.cjc_code.specs.declared.insn.JInsn.{JInsn}
 use Rattle.cjc_code.specs.declared.method_code.MethodCode.{MethodCode}
 use Rattle.cjc_code.specs.PackageCodes.{code_with, where_code, of_methods}
-use Rattle.cjc_judge.specs.Codes.{foreign_with}
+use Rattle.cjc_judge.specs.Codes.{unsupported_with}
 use Rattle.cjc_judge.specs.Rules.{CodeBreaks}
 use Rattle.cjc_judge.proofs.Items.{item_at, front_more}
 use Rattle.cjc_judge.specs.Working.Reading.{BreaksBy, DecodesMethod, DecodesClass}
-use Rattle.cjc_judge.specs.declared.reading.Foreign.{Foreign}
+use Rattle.cjc_judge.specs.declared.reading.UnsupportedInsn.{UnsupportedInsn}
 
 -- ---- one method
 
-foreign_rule : (found : Result (List JInsn) ℕ) (b : BrokenAt) → unless_foreign found ≡ Err b → b.rule ≡ 303
-foreign_rule (Ok insns) b e = absurd cc
-foreign_rule (Err k) b e = let is : record { rule = 303; offset = k } ≡ b = cc in sym (ap (λ (x : BrokenAt). x.rule) is)
+unsupported_rule : (found : Result (List JInsn) ℕ) (b : BrokenAt) → unless_unsupported found ≡ Err b → b.rule ≡ 303
+unsupported_rule (Ok insns) b e = absurd cc
+unsupported_rule (Err k) b e = let is : record { rule = 303; offset = k } ≡ b = cc in sym (ap (λ (x : BrokenAt). x.rule) is)
 
-unfit_rule : (o : Option ℕ) (found : Result (List JInsn) ℕ) (b : BrokenAt) → unless_unfit o (unless_foreign found) ≡ Err b → (b.rule ≡ 103) ⊎ (b.rule ≡ 303)
+unfit_rule : (o : Option ℕ) (found : Result (List JInsn) ℕ) (b : BrokenAt) → unless_unfit o (unless_unsupported found) ≡ Err b → (b.rule ≡ 103) ⊎ (b.rule ≡ 303)
 unfit_rule (Some k) found b e = let is : record { rule = 103; offset = k } ≡ b = cc in inl (sym (ap (λ (x : BrokenAt). x.rule) is))
-unfit_rule None found b e = inr (foreign_rule found b e)
+unfit_rule None found b e = inr (unsupported_rule found b e)
 
 code_rule : (tree : ClassTree) (m : MethodTree) (o : Option CodeTree) (b : BrokenAt) → of_code tree m o ≡ Err b → (b.rule ≡ 103) ⊎ (b.rule ≡ 303)
 unfolding decoding
@@ -87,25 +87,25 @@ no_code b (Some a) e f = absurd (let g : true ≡ false = sym e ∙ f in cc)
 -- ---- the methods so far
 
 -- The codes and the places by rule 303 are those of the first so many methods, none of which breaks rule 103.
-pub record MethodsRead (class : ℕ) (tree : ClassTree) (old new : List MethodCode) (from to : List Foreign) (bound : ℕ) : Type 0 where
+pub record MethodsRead (class : ℕ) (tree : ClassTree) (old new : List MethodCode) (from to : List UnsupportedInsn) (bound : ℕ) : Type 0 where
   pub codes : new ≡ old ++ of_methods code_with class 0 tree (take bound tree.methods)
-  pub foreigns : to ≡ from ++ of_methods foreign_with class 0 tree (take bound tree.methods)
+  pub unsupported_insns : to ≡ from ++ of_methods unsupported_with class 0 tree (take bound tree.methods)
   pub fine : (k : ℕ) → k < bound → (offset : ℕ) → CodeBreaks tree k 103 offset → ⊥
 
-pub none_read : (class : ℕ) (tree : ClassTree) (old : List MethodCode) (from : List Foreign) → MethodsRead class tree old old from from 0
+pub none_read : (class : ℕ) (tree : ClassTree) (old : List MethodCode) (from : List UnsupportedInsn) → MethodsRead class tree old old from from 0
 none_read class tree old from = record {
   codes = sym (append-nil old);
-  foreigns = sym (append-nil from);
+  unsupported_insns = sym (append-nil from);
   fine = λ k lt offset breaks. absurd (omega arith);
 }
 
-pub all_read : (file : List ℕ) (class : ℕ) (tree : ClassTree) (items : List MethodTree) (old new : List MethodCode) (from to : List Foreign) (bound : ℕ) → items ≡ tree.methods → length items ≤ bound → bound ≤ length items
+pub all_read : (file : List ℕ) (class : ℕ) (tree : ClassTree) (items : List MethodTree) (old new : List MethodCode) (from to : List UnsupportedInsn) (bound : ℕ) → items ≡ tree.methods → length items ≤ bound → bound ≤ length items
     → MethodsRead class tree old new from to bound → DecodesClass file class tree old new from to (Ok tt)
 all_read file class tree items old new from to bound is below above r =
     let low : length tree.methods ≤ bound = omega (arith, ap length is) in
     let same : bound ≡ length tree.methods = omega (arith, ap length is) in (
       r.codes ∙ ap (λ ms. old ++ of_methods code_with class 0 tree ms) (take_all bound tree.methods low),
-      r.foreigns ∙ ap (λ ms. from ++ of_methods foreign_with class 0 tree ms) (take_all bound tree.methods low),
+      r.unsupported_insns ∙ ap (λ ms. from ++ of_methods unsupported_with class 0 tree ms) (take_all bound tree.methods low),
       λ k offset breaks. ⊎_elim (λ below. r.fine k (omega arith) offset breaks) (λ beyond. past tree k offset (omega arith) breaks) (cases_lt k (length tree.methods)),
     )
   where
@@ -144,25 +144,25 @@ module _ (class : ℕ) (tree : ClassTree) (k : ℕ) (m : MethodTree) (here : Sta
   decoded_is f code has = ap (where_code (f class k) tree m) has ∙ ap (f class k) (sym (ap (of_method tree) here.is ∙ ap (of_code tree m) has))
 
   -- without code there are no instructions
-  pub step_abstract : (old new : List MethodCode) (from to : List Foreign) → m.code ≡ None → MethodsRead class tree old new from to k → MethodsRead class tree old new from to (k + 1)
+  pub step_abstract : (old new : List MethodCode) (from to : List UnsupportedInsn) → m.code ≡ None → MethodsRead class tree old new from to k → MethodsRead class tree old new from to (k + 1)
   step_abstract old new from to none r =
       let at : decoding_at tree k ≡ Ok [] = ap (of_method tree) here.is ∙ ap (of_code tree m) none in
       record {
         codes = put code_with old new new [] r.codes (sym (append-nil new)) (ap (where_code (code_with class k) tree m) none);
-        foreigns = put foreign_with from to to [] r.foreigns (sym (append-nil to)) (ap (where_code (foreign_with class k) tree m) none);
+        unsupported_insns = put unsupported_with from to to [] r.unsupported_insns (sym (append-nil to)) (ap (where_code (unsupported_with class k) tree m) none);
         fine = below_more (λ j. (offset : ℕ) → CodeBreaks tree j 103 offset → ⊥) k r.fine (λ offset e. let g = sym at ∙ e in absurd cc);
       }
 
-  pub step_code : (file : List ℕ) (code : CodeTree) (old mid new : List MethodCode) (from way to : List Foreign) → m.code ≡ Some code → MethodsRead class tree old mid from way k → DecodesMethod file class tree k mid new way to (Ok tt)
+  pub step_code : (file : List ℕ) (code : CodeTree) (old mid new : List MethodCode) (from way to : List UnsupportedInsn) → m.code ≡ Some code → MethodsRead class tree old mid from way k → DecodesMethod file class tree k mid new way to (Ok tt)
       → MethodsRead class tree old new from to (k + 1)
   step_code file code old mid new from way to has r did = record {
     codes = put code_with old mid new _ r.codes did.0 (decoded_is code_with code has);
-    foreigns = put foreign_with from way to _ r.foreigns did.1 (decoded_is foreign_with code has);
+    unsupported_insns = put unsupported_with from way to _ r.unsupported_insns did.1 (decoded_is unsupported_with code has);
     fine = below_more (λ j. (offset : ℕ) → CodeBreaks tree j 103 offset → ⊥) k r.fine did.2;
   }
 
 -- the first method that breaks rule 103 stops the reading
-pub first_unfit : (file : List ℕ) (class : ℕ) (tree : ClassTree) (old new mid : List MethodCode) (from to way : List Foreign) (k : ℕ) (e : Fault) → MethodsRead class tree old mid from way k
+pub first_unfit : (file : List ℕ) (class : ℕ) (tree : ClassTree) (old new mid : List MethodCode) (from to way : List UnsupportedInsn) (k : ℕ) (e : Fault) → MethodsRead class tree old mid from way k
     → DecodesMethod file class tree k mid new way to (Err e) → DecodesClass file class tree old new from to (Err e)
 first_unfit file class tree old new mid from to way k (faults.Refused r) read by = record { method = k; breaks = by; first = λ j other lt breaks. read.fine j lt other breaks }
 first_unfit file class tree old new mid from to way k faults.NoMemory read by = tt
@@ -170,19 +170,19 @@ first_unfit file class tree old new mid from to way k faults.NoMemory read by = 
 -- ---- what decoding one method answers
 
 -- it has these instructions
-pub decodes : (file : List ℕ) (class : ℕ) (tree : ClassTree) (k : ℕ) (insns : List JInsn) (old new : List MethodCode) (from : List Foreign) → decoding_at tree k ≡ Ok insns
+pub decodes : (file : List ℕ) (class : ℕ) (tree : ClassTree) (k : ℕ) (insns : List JInsn) (old new : List MethodCode) (from : List UnsupportedInsn) → decoding_at tree k ≡ Ok insns
     → new ≡ old ++ record { class = class; method = k; insns = insns } ∷ [] → DecodesMethod file class tree k old new from from (Ok tt)
 decodes file class tree k insns old new from is put = (
   put ∙ ap (λ r. old ++ code_with class k r) (sym is),
-  sym (append-nil from) ∙ ap (λ r. from ++ foreign_with class k r) (sym is),
+  sym (append-nil from) ∙ ap (λ r. from ++ unsupported_with class k r) (sym is),
   λ offset e. let g = sym is ∙ e in absurd cc,
 )
 
 -- it breaks rule 303
-pub refuses : (file : List ℕ) (class : ℕ) (tree : ClassTree) (k : ℕ) (r : Refusal) (old : List MethodCode) (from to : List Foreign) → BreaksBy file tree k 303 r
+pub refuses : (file : List ℕ) (class : ℕ) (tree : ClassTree) (k : ℕ) (r : Refusal) (old : List MethodCode) (from to : List UnsupportedInsn) → BreaksBy file tree k 303 r
     → to ≡ from ++ record { class = class; method = k; offset = r.place.offset } ∷ [] → DecodesMethod file class tree k old old from to (Ok tt)
 refuses file class tree k r old from to (offset, is, refused) put = (
   sym (append-nil old) ∙ ap (λ x. old ++ code_with class k x) (sym is),
-  put ∙ ap (λ n. let x : Foreign = record { class = class; method = k; offset = n } in from ++ x ∷ []) (ap (λ (x : Refusal). x.place.offset) refused) ∙ ap (λ x. from ++ foreign_with class k x) (sym is),
+  put ∙ ap (λ n. let x : UnsupportedInsn = record { class = class; method = k; offset = n } in from ++ x ∷ []) (ap (λ (x : Refusal). x.place.offset) refused) ∙ ap (λ x. from ++ unsupported_with class k x) (sym is),
   λ other e. let same : record { rule = 303; offset = offset } ≡ record { rule = 103; offset = other } = (let g = sym is ∙ e in cc) in let rules : 303 ≡ 103 = ap (λ (b : BrokenAt). b.rule) same in omega arith,
 )

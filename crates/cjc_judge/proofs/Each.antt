@@ -1,7 +1,7 @@
 -- What holds of each break of a list.
 use Rattle.std.proofs.Common.{◌≡◌, ℕ, suc, ◌+◌, Bool, true, false, List, [], ◌∷◌, ◌++◌, Option, Some, None, refl, subst, arith}
 use Rattle.std.specs.Prelude.{map, slice_get}
-use Rattle.cjc_bytes.specs.Breaks.{Break, Among, foremost, after, Spot, at, broken_at, each_from}
+use Rattle.cjc_bytes.specs.Breaks.{Break, Among, foremost, after, RulePlace, at, broken_at, each_from}
 use Rattle.cjc_bytes.specs.Order.{FilePlace, file_of}
 use Rattle.cjc_classfile.specs.declared.tree.ClassTree.{ClassTree}
 use Rattle.cjc_classfile.specs.declared.tree.MethodTree.{MethodTree}
@@ -26,7 +26,7 @@ module _ (P : Break → Type 0) where
   each_append [] ys p q = q
   each_append (x ∷ xs) ys p q = each_more x (xs ++ ys) (p.holds x foremost) (each_append xs ys (record { holds = λ b i. p.holds b (after i) }) q)
 
-  pub each_at : (broken : Bool) (s : Spot) (rule : ℕ) → P (broken_at s rule) → Each P (at broken s rule)
+  pub each_at : (broken : Bool) (s : RulePlace) (rule : ℕ) → P (broken_at s rule) → Each P (at broken s rule)
   each_at true s rule p = each_more _ [] p each_none
   each_at false s rule p = each_none
 

@@ -14,11 +14,11 @@ use Rattle.cjc_types.specs.declared.table.TypeTable.{TypeTable}
 use Rattle.cjc_world.specs.Files.{Files}
 use Rattle.cjc_judge.specs.declared.groups.Group.{Group}
 use Rattle.cjc_judge.specs.declared.groups.Group.TheVariants as groups
-use Rattle.cjc_judge.specs.declared.reading.Foreign.{Foreign}
+use Rattle.cjc_judge.specs.declared.reading.UnsupportedInsn.{UnsupportedInsn}
 use Rattle.cjc_judge.specs.Rules.{BreaksAnyType, BreaksAnyRange, IsFirstRefused, IsFirstIn, IsFirstFault, has_applets, settings_of}
 use Rattle.cjc_judge.specs.Types.{AreTablesWhereNamed, asks_types, asks_ranges}
 use Rattle.cjc_judge.specs.Working.Groups.{WorldBreaks, WorldBreaksAny, EarlyBreaks, EarlyBreaksAny, NamedTypeBreaks, NamedRangeBreaks}
-use Rattle.cjc_judge.proofs.Families.{foreigns_third, checks_language, tokens_fourth, type_fifth, range_sixth}
+use Rattle.cjc_judge.proofs.Families.{unsupported_insns_third, checks_language, tokens_fourth, type_fifth, range_sixth}
 use Rattle.cjc_judge.proofs.Firsts.{none_among}
 
 -- nothing is broken of nothing
@@ -82,9 +82,9 @@ types_too tested h = let found = named asks_ranges tested h in asked asks_types 
     too groups.Limits e = absurd cc
     too groups.Tokens e = absurd cc
 
-module _ (list : ListTree) (world : Files) (codes : List MethodCode) (foreigns : List Foreign) (tested : List Group) where
-  early_family : (g : Group) (b : Break) → EarlyBreaks list world codes foreigns g b → b.rank.family ≤ 4
-  early_family groups.Unsupported b i = let three = (foreigns_third world foreigns).holds b i in omega (arith, three)
+module _ (list : ListTree) (world : Files) (codes : List MethodCode) (unsupported_insns : List UnsupportedInsn) (tested : List Group) where
+  early_family : (g : Group) (b : Break) → EarlyBreaks list world codes unsupported_insns g b → b.rank.family ≤ 4
+  early_family groups.Unsupported b i = let three = (unsupported_insns_third world unsupported_insns).holds b i in omega (arith, three)
   early_family groups.Language b h = ((checks_language list.name world codes (settings_of list)).holds b h.0).1
   early_family groups.Initialisers b (of_class n c is h) = let three = ap (λ (b : Break). b.rank.family) h.is in omega (arith, three)
   early_family groups.Initialisers b (of_code i code at h) = let three = ap (λ (b : Break). b.rank.family) h.is in omega (arith, three)
@@ -93,7 +93,7 @@ module _ (list : ListTree) (world : Files) (codes : List MethodCode) (foreigns :
   early_family groups.Types b h = absurd h
   early_family groups.Ranges b h = absurd h
 
-  into : (g : Group) (b : Break) → EarlyBreaks list world codes foreigns g b → WorldBreaks list world codes foreigns g b
+  into : (g : Group) (b : Break) → EarlyBreaks list world codes unsupported_insns g b → WorldBreaks list world codes unsupported_insns g b
   into groups.Unsupported b h = h
   into groups.Language b h = h
   into groups.Initialisers b h = h
@@ -102,13 +102,13 @@ module _ (list : ListTree) (world : Files) (codes : List MethodCode) (foreigns :
   into groups.Types b h = absurd h
   into groups.Ranges b h = absurd h
 
-  early_in : (b : Break) → EarlyBreaksAny list world codes foreigns tested b → WorldBreaksAny list world codes foreigns tested b
+  early_in : (b : Break) → EarlyBreaksAny list world codes unsupported_insns tested b → WorldBreaksAny list world codes unsupported_insns tested b
   early_in b (i, g, at, h) = (i, g, at, into g b h)
 
-  types_in : (b : Break) → NamedTypeBreaks world codes tested b → WorldBreaksAny list world codes foreigns tested b
+  types_in : (b : Break) → NamedTypeBreaks world codes tested b → WorldBreaksAny list world codes unsupported_insns tested b
   types_in b (h, breaks) = let found = named asks_types tested h in (found.0, found.1, found.2, by found.1 found.3)
     where
-      by : (g : Group) → asks_types g ≡ true → WorldBreaks list world codes foreigns g b
+      by : (g : Group) → asks_types g ≡ true → WorldBreaks list world codes unsupported_insns g b
       by groups.Types e = breaks
       by groups.Ranges e = inl breaks
       by groups.Unsupported e = absurd cc
@@ -117,10 +117,10 @@ module _ (list : ListTree) (world : Files) (codes : List MethodCode) (foreigns :
       by groups.Limits e = absurd cc
       by groups.Tokens e = absurd cc
 
-  ranges_in : (b : Break) → NamedRangeBreaks world codes tested b → WorldBreaksAny list world codes foreigns tested b
+  ranges_in : (b : Break) → NamedRangeBreaks world codes tested b → WorldBreaksAny list world codes unsupported_insns tested b
   ranges_in b (h, breaks) = let found = named asks_ranges tested h in (found.0, found.1, found.2, by found.1 found.3)
     where
-      by : (g : Group) → asks_ranges g ≡ true → WorldBreaks list world codes foreigns g b
+      by : (g : Group) → asks_ranges g ≡ true → WorldBreaks list world codes unsupported_insns g b
       by groups.Ranges e = inr breaks
       by groups.Types e = absurd cc
       by groups.Unsupported e = absurd cc
@@ -131,14 +131,14 @@ module _ (list : ListTree) (world : Files) (codes : List MethodCode) (foreigns :
 
   -- of what is broken, what is tested first, of types, or of ranges
   data Sorted (b : Break) : Type 0 where
-    early : EarlyBreaksAny list world codes foreigns tested b → Sorted b
+    early : EarlyBreaksAny list world codes unsupported_insns tested b → Sorted b
     of_types : NamedTypeBreaks world codes tested b → Sorted b
     of_ranges : NamedRangeBreaks world codes tested b → Sorted b
 
-  sorted : (b : Break) → WorldBreaksAny list world codes foreigns tested b → Sorted b
+  sorted : (b : Break) → WorldBreaksAny list world codes unsupported_insns tested b → Sorted b
   sorted b (i, g, at, h) = by g at h
     where
-      by : (g : Group) → slice_get tested i ≡ Some g → WorldBreaks list world codes foreigns g b → Sorted b
+      by : (g : Group) → slice_get tested i ≡ Some g → WorldBreaks list world codes unsupported_insns g b → Sorted b
       by groups.Unsupported at h = early (i, groups.Unsupported, at, h)
       by groups.Language at h = early (i, groups.Language, at, h)
       by groups.Initialisers at h = early (i, groups.Initialisers, at, h)
@@ -148,7 +148,7 @@ module _ (list : ListTree) (world : Files) (codes : List MethodCode) (foreigns :
       by groups.Ranges at (inl h) = of_types (asked asks_types tested i groups.Ranges at refl, h)
       by groups.Ranges at (inr h) = of_ranges (asked asks_ranges tested i groups.Ranges at refl, h)
 
-  early_before : (a b : Break) → EarlyBreaksAny list world codes foreigns tested a → 5 ≤ b.rank.family → NotAfter a.rank b.rank
+  early_before : (a b : Break) → EarlyBreaksAny list world codes unsupported_insns tested a → 5 ≤ b.rank.family → NotAfter a.rank b.rank
   early_before a b (i, g, at, h) five = let four = early_family g a h in inl (omega (arith, four, five))
 
   types_low : (b : Break) → NamedTypeBreaks world codes tested b → b.rank.family ≡ 5
@@ -158,10 +158,10 @@ module _ (list : ListTree) (world : Files) (codes : List MethodCode) (foreigns :
   ranges_low b (h, (k, code, is, breaks)) = range_sixth world code b breaks
 
   -- the first of the others is the first of all
-  pub early_fault : (e : Fault) → IsFirstFault (EarlyBreaksAny list world codes foreigns tested) e → IsFirstFault (WorldBreaksAny list world codes foreigns tested) e
-  early_fault e f = fault_from (EarlyBreaksAny list world codes foreigns tested) (WorldBreaksAny list world codes foreigns tested) e early_in least f
+  pub early_fault : (e : Fault) → IsFirstFault (EarlyBreaksAny list world codes unsupported_insns tested) e → IsFirstFault (WorldBreaksAny list world codes unsupported_insns tested) e
+  early_fault e f = fault_from (EarlyBreaksAny list world codes unsupported_insns tested) (WorldBreaksAny list world codes unsupported_insns tested) e early_in least f
     where
-      least : (r : Refusal) (f : IsFirstRefused (EarlyBreaksAny list world codes foreigns tested) r) (b : Break) → WorldBreaksAny list world codes foreigns tested b → NotAfter f.broken.rank b.rank
+      least : (r : Refusal) (f : IsFirstRefused (EarlyBreaksAny list world codes unsupported_insns tested) r) (b : Break) → WorldBreaksAny list world codes unsupported_insns tested b → NotAfter f.broken.rank b.rank
       least r f b h = by (sorted b h)
         where
           by : Sorted b → NotAfter f.broken.rank b.rank
@@ -169,12 +169,12 @@ module _ (list : ListTree) (world : Files) (codes : List MethodCode) (foreigns :
           by (of_types k) = early_before f.broken b f.first.breaks (let five = types_low b k in omega (arith, five))
           by (of_ranges k) = early_before f.broken b f.first.breaks (let six = ranges_low b k in omega (arith, six))
 
-  module _ (none : (b : Break) → EarlyBreaksAny list world codes foreigns tested b → ⊥) where
+  module _ (none : (b : Break) → EarlyBreaksAny list world codes unsupported_insns tested b → ⊥) where
     -- where nothing of the others is broken, the first of types is the first of all
-    pub types_first : (e : Fault) → IsFirstFault (NamedTypeBreaks world codes tested) e → IsFirstFault (WorldBreaksAny list world codes foreigns tested) e
-    types_first e f = fault_from (NamedTypeBreaks world codes tested) (WorldBreaksAny list world codes foreigns tested) e types_in least f
+    pub types_first : (e : Fault) → IsFirstFault (NamedTypeBreaks world codes tested) e → IsFirstFault (WorldBreaksAny list world codes unsupported_insns tested) e
+    types_first e f = fault_from (NamedTypeBreaks world codes tested) (WorldBreaksAny list world codes unsupported_insns tested) e types_in least f
       where
-        least : (r : Refusal) (f : IsFirstRefused (NamedTypeBreaks world codes tested) r) (b : Break) → WorldBreaksAny list world codes foreigns tested b → NotAfter f.broken.rank b.rank
+        least : (r : Refusal) (f : IsFirstRefused (NamedTypeBreaks world codes tested) r) (b : Break) → WorldBreaksAny list world codes unsupported_insns tested b → NotAfter f.broken.rank b.rank
         least r f b h = by (sorted b h)
           where
             by : Sorted b → NotAfter f.broken.rank b.rank
@@ -184,10 +184,10 @@ module _ (list : ListTree) (world : Files) (codes : List MethodCode) (foreigns :
 
     module _ (typed : (b : Break) → NamedTypeBreaks world codes tested b → ⊥) where
       -- and where nothing of types is, the first of ranges
-      pub ranges_first : (e : Fault) → IsFirstFault (NamedRangeBreaks world codes tested) e → IsFirstFault (WorldBreaksAny list world codes foreigns tested) e
-      ranges_first e f = fault_from (NamedRangeBreaks world codes tested) (WorldBreaksAny list world codes foreigns tested) e ranges_in least f
+      pub ranges_first : (e : Fault) → IsFirstFault (NamedRangeBreaks world codes tested) e → IsFirstFault (WorldBreaksAny list world codes unsupported_insns tested) e
+      ranges_first e f = fault_from (NamedRangeBreaks world codes tested) (WorldBreaksAny list world codes unsupported_insns tested) e ranges_in least f
         where
-          least : (r : Refusal) (f : IsFirstRefused (NamedRangeBreaks world codes tested) r) (b : Break) → WorldBreaksAny list world codes foreigns tested b → NotAfter f.broken.rank b.rank
+          least : (r : Refusal) (f : IsFirstRefused (NamedRangeBreaks world codes tested) r) (b : Break) → WorldBreaksAny list world codes unsupported_insns tested b → NotAfter f.broken.rank b.rank
           least r f b h = by (sorted b h)
             where
               by : Sorted b → NotAfter f.broken.rank b.rank
@@ -195,7 +195,7 @@ module _ (list : ListTree) (world : Files) (codes : List MethodCode) (foreigns :
               by (of_types k) = absurd (typed b k)
               by (of_ranges k) = f.first.least b k
 
-      pub unbroken : ((b : Break) → NamedRangeBreaks world codes tested b → ⊥) → (b : Break) → WorldBreaksAny list world codes foreigns tested b → ⊥
+      pub unbroken : ((b : Break) → NamedRangeBreaks world codes tested b → ⊥) → (b : Break) → WorldBreaksAny list world codes unsupported_insns tested b → ⊥
       unbroken ranged b h = by (sorted b h)
         where
           by : Sorted b → ⊥

@@ -17,15 +17,15 @@ use Rattle.cjc_subset.specs.Places.{at_method}
 use Rattle.cjc_bytes.specs.Order.{FilePlace, file_of}
 use Rattle.cjc_subset.specs.Names.{insn_breaks, catch_breaks, catches_of, method_breaks, code_breaks, name_breaks}
 use Rattle.cjc_subset.specs.Checks as checks
-use Rattle.cjc_subset.specs.Overriding.{is_inherited, method_against, class_against, kin_breaks, overriding_breaks}
+use Rattle.cjc_subset.specs.Overriding.{is_inherited, method_against, class_against, supertype_breaks, overriding_breaks}
 use Rattle.cjc_tokens.specs.Rules.{breaks_from, breaks_where, has_high_token, is_few, tested_breaks, token_breaks, at_class as token_at_class}
 use Rattle.cjc_world.specs.Exported.{is_exported}
 use Rattle.cjc_range_rules.proofs.Hundred.{of_sixth_hundred}
 use Rattle.cjc_types.specs.declared.state.State.{State}
 use Rattle.cjc_types.specs.Flow.{Body}
 use Rattle.cjc_types.specs.Rules.{Breaks, clash, wrong, off}
-use Rattle.cjc_judge.specs.declared.reading.Foreign.{Foreign}
-use Rattle.cjc_judge.specs.Rules.{foreign_break, foreign_breaks, BreaksType, BreaksRange}
+use Rattle.cjc_judge.specs.declared.reading.UnsupportedInsn.{UnsupportedInsn}
+use Rattle.cjc_judge.specs.Rules.{unsupported_break, unsupported_breaks, BreaksType, BreaksRange}
 use Rattle.cjc_judge.proofs.Each.{Each, each_none, each_more, each_append, each_at, each_of, each_code}
 
 -- ---- names
@@ -64,15 +64,15 @@ abbrev pub IsThird : Break → Type 0
 IsThird b = b.rank.family ≡ 3
 
 -- 303
-foreign_third : (files : Files) (x : Foreign) → Each IsThird (foreign_break files x)
-unfolding foreign_break
-foreign_third files x =
+unsupported_third : (files : Files) (x : UnsupportedInsn) → Each IsThird (unsupported_break files x)
+unfolding unsupported_break
+unsupported_third files x =
     each_code IsThird files x.class x.method (λ f c m. broken_at (at_method f c x.method m x.offset) 303 ∷ [])
     (λ c m _ _. each_more IsThird (broken_at (at_method (file_of files.lines x.class) c x.method m x.offset) 303) [] refl (each_none IsThird))
 
-pub foreigns_third : (files : Files) (xs : List Foreign) → Each IsThird (foreign_breaks files xs)
-unfolding foreign_breaks
-foreigns_third files xs = each_of IsThird _ xs (λ _ x _. foreign_third files x)
+pub unsupported_insns_third : (files : Files) (xs : List UnsupportedInsn) → Each IsThird (unsupported_breaks files xs)
+unfolding unsupported_breaks
+unsupported_insns_third files xs = each_of IsThird _ xs (λ _ x _. unsupported_third files x)
 
 abbrev pub IsLanguage : Break → Type 0
 IsLanguage b = (3 ≤ b.rank.family) × (b.rank.family ≤ 4)
@@ -115,9 +115,9 @@ check_class_against : (w : List Class) (f : FilePlace) (c : ClassTree) (d : Clas
 unfolding class_against
 check_class_against w f c d = each_append IsLanguage _ _ (each_at IsLanguage _ _ 307 third) (each_of IsLanguage _ c.methods (λ i m _. check_against f c d i m))
 
-check_kin : (w : List Class) (f : FilePlace) (c : ClassTree) (d : Class) → Each IsLanguage (kin_breaks w f c d)
-unfolding kin_breaks
-check_kin w f c d = by (is_inherited w c d)
+check_supertypes : (w : List Class) (f : FilePlace) (c : ClassTree) (d : Class) → Each IsLanguage (supertype_breaks w f c d)
+unfolding supertype_breaks
+check_supertypes w f c d = by (is_inherited w c d)
   where
     by : (b : Bool) → Each IsLanguage (if b then class_against w f c d else [])
     by true = check_class_against w f c d
@@ -127,8 +127,8 @@ check_overriding : (files : Files) (f : FilePlace) (c : ClassTree) → Each IsLa
 unfolding overriding_breaks
 check_overriding files f c =
     each_append IsLanguage _ _
-    (each_append IsLanguage _ _ (each_at IsLanguage _ _ 307 third) (each_of IsLanguage _ files.classes (λ _ d _. check_kin (all_classes files) f c (declared 0 d))))
-    (each_of IsLanguage _ files.exports (λ _ t _. each_of IsLanguage _ t.classes (λ _ d _. check_kin (all_classes files) f c (imported 0 d))))
+    (each_append IsLanguage _ _ (each_at IsLanguage _ _ 307 third) (each_of IsLanguage _ files.classes (λ _ d _. check_supertypes (all_classes files) f c (declared 0 d))))
+    (each_of IsLanguage _ files.exports (λ _ t _. each_of IsLanguage _ t.classes (λ _ d _. check_supertypes (all_classes files) f c (imported 0 d))))
 
 check_own : (files : Files) (settings : Settings) (f : FilePlace) (n : ℕ) (c : ClassTree) → Each IsLanguage (checks.own_breaks files settings f n c)
 unfolding checks.own_breaks

@@ -22,8 +22,8 @@ use Rattle.cjc_export.specs.Writable.{IsWritable}
 use Rattle.cjc_export.specs.declared.tree.ExportTree.{ExportTree}
 use Rattle.cjc_code.specs.declared.insn.JInsn.{JInsn}
 use Rattle.cjc_code.specs.PackageCodes.{code_with, of_methods, of_classes}
-use Rattle.cjc_judge.specs.Codes.{foreign_with}
-use Rattle.cjc_judge.specs.declared.reading.Foreign.{Foreign}
+use Rattle.cjc_judge.specs.Codes.{unsupported_with}
+use Rattle.cjc_judge.specs.declared.reading.UnsupportedInsn.{UnsupportedInsn}
 use Rattle.cjc_bytes.specs.Order.{NotAfter}
 use Rattle.cjc_bytes.specs.Breaks.{Break}
 use Rattle.cjc_judge.specs.Spelt.{FileTree, of_class, of_export, classes_of, exports_of}
@@ -111,7 +111,7 @@ class_stops line bytes old new e is stop = stops line bytes old new e (elim stop
   | inr (k, breaks, refused) ↦ inr (refusal_at line.name bytes k, refused, record { breach = no_class_file k is breaks; is = refl; first = class_first line bytes k is breaks })
 ])
 
-pub code_stops : (line : FileLine) (bytes : List ℕ) (old new : Trees) (number : ℕ) (tree : ClassTree) (from to : List MethodCode) (before behind : List Foreign) (e : Fault) → line.class_file ≡ true → FileSpells class_file tree bytes
+pub code_stops : (line : FileLine) (bytes : List ℕ) (old new : Trees) (number : ℕ) (tree : ClassTree) (from to : List MethodCode) (before behind : List UnsupportedInsn) (e : Fault) → line.class_file ≡ true → FileSpells class_file tree bytes
     → DecodesClass line.name number tree from to before behind (Err e) → ReadsFile line bytes old new (Err e)
 code_stops line bytes old new number tree from to before behind (faults.Refused r) is spelt f = record { breach = no_instructions tree f.method f.breaks.0 is spelt f.breaks.1; is = f.breaks.2; first = code_first line bytes tree r is spelt f }
 code_stops line bytes old new number tree from to before behind faults.NoMemory is spelt f = tt
@@ -247,9 +247,9 @@ class_put f trees tree =
     let at : 0 + length trees ≡ length trees = omega arith in
     classes_put f 0 trees tree ∙ ap (λ k. of_classes f 0 trees ++ of_methods f k 0 tree tree.methods) at
 
-pub none_read : (lines : List FileLine) (files : List (List ℕ)) (read : Trees) → read ≡ record { classes = []; exports = []; codes = []; foreigns = [] } → ReadSoFar lines files 0 read
+pub none_read : (lines : List FileLine) (files : List (List ℕ)) (read : Trees) → read ≡ record { classes = []; exports = []; codes = []; unsupported_insns = [] } → ReadSoFar lines files 0 read
 none_read lines files read is = rw is (record {
-  are_read = record { trees = []; spelt = (refl, refl); classes = refl; exports = refl; codes = refl; foreigns = refl };
+  are_read = record { trees = []; spelt = (refl, refl); classes = refl; exports = refl; codes = refl; unsupported_insns = refl };
   count = omega arith;
 })
 
@@ -273,7 +273,7 @@ read_more lines files old new i line bytes lent a b is_line is_file same read (o
         classes = read.are_read.classes ∙ sym (append-nil (classes_of read.are_read.trees)) ∙ sym (classes_more read.are_read.trees (of_export tree));
         exports = ap (λ es. es ++ tree ∷ []) read.are_read.exports ∙ sym (exports_more read.are_read.trees (of_export tree));
         codes = read.are_read.codes;
-        foreigns = read.are_read.foreigns;
+        unsupported_insns = read.are_read.unsupported_insns;
       };
       count = let few = read.count in omega arith;
     })
@@ -287,7 +287,7 @@ read_more lines files old new i line bytes lent a b is_line is_file same read (o
         classes = ap (λ cs. cs ++ tree ∷ []) read.are_read.classes ∙ sym (classes_more read.are_read.trees (of_class tree));
         exports = read.are_read.exports ∙ sym (append-nil (exports_of read.are_read.trees)) ∙ sym (exports_more read.are_read.trees (of_class tree));
         codes = ap (λ cs. cs ++ of_methods code_with (length old.classes) 0 tree tree.methods) read.are_read.codes ∙ sym (class_put code_with old.classes tree);
-        foreigns = ap (λ xs. xs ++ of_methods foreign_with (length old.classes) 0 tree tree.methods) read.are_read.foreigns ∙ sym (class_put foreign_with old.classes tree);
+        unsupported_insns = ap (λ xs. xs ++ of_methods unsupported_with (length old.classes) 0 tree tree.methods) read.are_read.unsupported_insns ∙ sym (class_put unsupported_with old.classes tree);
       };
       count = let few = read.count in let size = length-append old.classes (tree ∷ []) in omega (arith, size);
     })
@@ -315,20 +315,20 @@ as_class line bytes old new result is name same h =
     subst (λ (b : Bool). ReadsFile (record { class_file = b; name = line.name }) bytes old new result) (sym is) here
 
 -- a class file that is read, with what its methods are decoded to
-pub class_read : (name bytes : List ℕ) (old : Trees) (tree : ClassTree) (items classes : List ClassTree) (codes : List MethodCode) (foreigns : List Foreign) → FileSpells class_file tree bytes → ClassFits tree → items ≡ old.classes
-    → DecodesClass name (length items) tree old.codes codes old.foreigns foreigns (Ok tt) → classes ≡ old.classes ++ tree ∷ []
-    → ReadsFile (record { class_file = true; name = name }) bytes old (record { classes = classes; exports = old.exports; codes = codes; foreigns = foreigns }) (Ok tt)
-class_read name bytes old tree items classes codes foreigns spelt fits same decoded pushed =
-    let with : List ClassTree → List MethodCode → List Foreign → Trees = λ cs ms xs. record { classes = cs; exports = old.exports; codes = ms; foreigns = xs } in
+pub class_read : (name bytes : List ℕ) (old : Trees) (tree : ClassTree) (items classes : List ClassTree) (codes : List MethodCode) (unsupported_insns : List UnsupportedInsn) → FileSpells class_file tree bytes → ClassFits tree → items ≡ old.classes
+    → DecodesClass name (length items) tree old.codes codes old.unsupported_insns unsupported_insns (Ok tt) → classes ≡ old.classes ++ tree ∷ []
+    → ReadsFile (record { class_file = true; name = name }) bytes old (record { classes = classes; exports = old.exports; codes = codes; unsupported_insns = unsupported_insns }) (Ok tt)
+class_read name bytes old tree items classes codes unsupported_insns spelt fits same decoded pushed =
+    let with : List ClassTree → List MethodCode → List UnsupportedInsn → Trees = λ cs ms xs. record { classes = cs; exports = old.exports; codes = ms; unsupported_insns = xs } in
     let put = old.classes ++ tree ∷ [] in
     let own = old.codes ++ of_methods code_with (length old.classes) 0 tree tree.methods in
     let numbered = decoded.0 ∙ ap (λ (ts : List ClassTree). old.codes ++ of_methods code_with (length ts) 0 tree tree.methods) same in
-    let placed = decoded.1 ∙ ap (λ (ts : List ClassTree). old.foreigns ++ of_methods foreign_with (length ts) 0 tree tree.methods) same in (
+    let placed = decoded.1 ∙ ap (λ (ts : List ClassTree). old.unsupported_insns ++ of_methods unsupported_with (length ts) 0 tree tree.methods) same in (
       of_class tree,
       (refl, spelt, decoded.2, fits),
-      ap (λ cs. with cs codes foreigns) pushed ∙ ap (λ ms. with put ms foreigns) numbered ∙ ap (λ xs. with put own xs) placed,
+      ap (λ cs. with cs codes unsupported_insns) pushed ∙ ap (λ ms. with put ms unsupported_insns) numbered ∙ ap (λ xs. with put own xs) placed,
     )
 
 pub export_read : (line : FileLine) (bytes : List ℕ) (old : Trees) (tree : ExportTree) (exports : List ExportTree) → line.class_file ≡ false → FileSpells export_file tree bytes → IsWritable tree → exports ≡ old.exports ++ tree ∷ []
-    → ReadsFile line bytes old (record { classes = old.classes; exports = exports; codes = old.codes; foreigns = old.foreigns }) (Ok tt)
-export_read line bytes old tree exports is spelt fits pushed = (of_export tree, (is, spelt, fits), ap (λ (es : List ExportTree). let t : Trees = record { classes = old.classes; exports = es; codes = old.codes; foreigns = old.foreigns } in t) pushed)
+    → ReadsFile line bytes old (record { classes = old.classes; exports = exports; codes = old.codes; unsupported_insns = old.unsupported_insns }) (Ok tt)
+export_read line bytes old tree exports is spelt fits pushed = (of_export tree, (is, spelt, fits), ap (λ (es : List ExportTree). let t : Trees = record { classes = old.classes; exports = es; codes = old.codes; unsupported_insns = old.unsupported_insns } in t) pushed)

@@ -16,23 +16,23 @@ use Rattle.cjc_list.specs.Listed.{ListTree}
 use Rattle.cjc_world.specs.Classes.{Class, Member, declared, numbered, size, all_classes}
 use Rattle.cjc_world.specs.Files.{Files}
 use Rattle.cjc_world.specs.Rules.{at_class, at_member, told, when, class_rules, member_rules, members, members_before, members_from, class_breaks, classes_breaks, class_file_breaks, export_file_breaks, breaks_from, breaks}
-use Rattle.cjc_bytes.specs.Breaks.{Break, Among, IsFirst, Spot, broken_at, list_spot}
+use Rattle.cjc_bytes.specs.Breaks.{Break, Among, IsFirst, RulePlace, broken_at, list_spot}
 use Rattle.cjc_judge.specs.Spelt.{FileTree, of_class, of_export, SpellsTree, SpellTrees, classes_of}
 use Rattle.cjc_clinit.specs.Rules.{BreaksImage, of_class, of_code}
-use Rattle.cjc_judge.specs.Rules.{FileBreach, no_class_file, no_instructions, no_export_file, file_rank, BreaksFile, files_spelt, AreWorld, BreaksWorld, BreaksNames, BreaksForeign, BreaksSubset, BreaksAnyType, BreaksTypes, BreaksAnyRange, BreaksRanges, BreaksTokens, BreaksInitialisers, BreaksGroup, AnyBreaks, foreign_breaks, settings_of, Breach, of_file, of_world, of_names, of_group, OnLevels, on_first, on_second, has_applets, IsFirstRefused, IsFirstBroken}
+use Rattle.cjc_judge.specs.Rules.{FileBreach, no_class_file, no_instructions, no_export_file, file_rank, BreaksFile, files_spelt, AreWorld, BreaksWorld, BreaksNames, BreaksUnsupported, BreaksSubset, BreaksAnyType, BreaksTypes, BreaksAnyRange, BreaksRanges, BreaksTokens, BreaksInitialisers, BreaksGroup, AnyBreaks, unsupported_breaks, settings_of, Breach, of_file, of_world, of_names, of_group, OnLevels, on_first, on_second, has_applets, IsFirstRefused, IsFirstBroken}
 use Rattle.cjc_judge.specs.declared.groups.Group.{Group}
 use Rattle.cjc_judge.specs.declared.groups.Group.TheVariants as groups
 use Rattle.cjc_judge.specs.Working.Groups.{WorldBreaks}
 use Rattle.cjc_judge.specs.Trees.{FileIs, AllSpelt}
 use Rattle.cjc_subset.specs.Names.{name_breaks}
 use Rattle.cjc_code.specs.PackageCodes.{all_codes}
-use Rattle.cjc_judge.specs.Codes.{all_foreigns}
+use Rattle.cjc_judge.specs.Codes.{all_unsupported_insns}
 use Rattle.cjc_subset.specs.Checks.{check_breaks}
 use Rattle.cjc_subset.specs.Places.{at_class as at_spot}
 use Rattle.cjc_tokens.specs.Rules.{tested_breaks}
 use Rattle.cjc_tokens.specs.Rules as tokens
 use Rattle.cjc_judge.proofs.Each.{Each, each_none, each_more, each_append}
-use Rattle.cjc_judge.proofs.Families.{IsSecond, IsLanguage, names_second, foreigns_third, checks_language, tokens_fourth, type_fifth, range_sixth}
+use Rattle.cjc_judge.proofs.Families.{IsSecond, IsLanguage, names_second, unsupported_insns_third, checks_language, tokens_fourth, type_fifth, range_sixth}
 use Rattle.cjc_judge.proofs.Files.{files_fine}
 
 -- ---- two groups
@@ -173,8 +173,8 @@ names_family list files b (trees, world, among) = (names_second (files_spelt lis
 pub none_among : (b : Break) → Among b [] → ⊥
 none_among b i = elim i [ ]
 
-foreign_family : (list : ListTree) (files : List (List ℕ)) (b : Break) → BreaksForeign list files b → b.rank.family ≡ 3
-foreign_family list files b (trees, spelt, among) = (foreigns_third (files_spelt list trees) (all_foreigns (classes_of trees))).holds b among
+unsupported_family : (list : ListTree) (files : List (List ℕ)) (b : Break) → BreaksUnsupported list files b → b.rank.family ≡ 3
+unsupported_family list files b (trees, spelt, among) = (unsupported_insns_third (files_spelt list trees) (all_unsupported_insns (classes_of trees))).holds b among
 
 subset_family : (list : ListTree) (files : List (List ℕ)) (b : Break) → BreaksSubset list files b → IsLanguage b
 subset_family list files b (trees, world, among) = (checks_language list.name (files_spelt list trees) (all_codes (classes_of trees)) (settings_of list)).holds b among
@@ -194,7 +194,7 @@ initialisers_family list files b (trees, world, of_code i code at h) = ap (λ (b
 
 -- the groups behind names are of the third hundred or a later one: one line a group
 pub late_family : (list : ListTree) (files : List (List ℕ)) (g : Group) (b : Break) → BreaksGroup list files g b → 3 ≤ b.rank.family
-late_family list files groups.Unsupported b h = let three = foreign_family list files b h in omega (arith, three)
+late_family list files groups.Unsupported b h = let three = unsupported_family list files b h in omega (arith, three)
 late_family list files groups.Language b h = (subset_family list files b h.0).0
 late_family list files groups.Initialisers b h = let three = initialisers_family list files b h in omega (arith, three)
 late_family list files groups.Limits b h = (subset_family list files b h).0
@@ -306,7 +306,7 @@ module _ (list : ListTree) (files : List (List ℕ)) (tested : List Group) (tree
       names_fine a h = none_among a (subst (Among a) named (of_names_here a h))
 
       abbrev Here : Group → Break → Type 0
-      Here = WorldBreaks list (files_spelt list trees) (all_codes (classes_of trees)) (all_foreigns (classes_of trees))
+      Here = WorldBreaks list (files_spelt list trees) (all_codes (classes_of trees)) (all_unsupported_insns (classes_of trees))
 
       of_checks : (a : Break) → BreaksSubset list files a → Among a (check_breaks list.name (files_spelt list trees) (all_codes (classes_of trees)) (settings_of list))
       of_checks a (us, world, among) =
@@ -320,7 +320,7 @@ module _ (list : ListTree) (files : List (List ℕ)) (tested : List Group) (tree
 
       -- what the files break of a group is what their world breaks of it: one line a group, both ways
       to_world : (g : Group) (a : Break) → BreaksGroup list files g a → Here g a
-      to_world groups.Unsupported a (us, spelt, among) = subst (λ (ts : List FileTree). Among a (foreign_breaks (files_spelt list ts) (all_foreigns (classes_of ts)))) (spelt_once us spelt) among
+      to_world groups.Unsupported a (us, spelt, among) = subst (λ (ts : List FileTree). Among a (unsupported_breaks (files_spelt list ts) (all_unsupported_insns (classes_of ts)))) (spelt_once us spelt) among
       to_world groups.Language a h = (of_checks a h.0, h.1)
       to_world groups.Initialisers a (us, world, h) = subst (λ (ts : List FileTree). BreaksImage (files_spelt list ts) (all_codes (classes_of ts)) a) (spelt_once us world.0) h
       to_world groups.Limits a h = of_checks a h
@@ -383,8 +383,8 @@ second_level_stops {First} {Second} none f = record { broken = f.broken; first =
 
 -- ---- 413 at the class of its file
 
-pub high_at : (bs : List Break) (f g : FilePlace) (c : ClassTree) (s : Spot) → g ≡ f → s ≡ at_spot g c → IsFirst (tokens.at_class f c.name) bs → IsFirst (broken_at s 413) bs
-high_at bs f g c s e is h = subst (λ (b : Break). IsFirst b bs) (sym (ap (λ (q : Spot). broken_at q 413) is ∙ ap (λ (q : FilePlace). broken_at (at_spot q c) 413) e)) h
+pub high_at : (bs : List Break) (f g : FilePlace) (c : ClassTree) (s : RulePlace) → g ≡ f → s ≡ at_spot g c → IsFirst (tokens.at_class f c.name) bs → IsFirst (broken_at s 413) bs
+high_at bs f g c s e is h = subst (λ (b : Break). IsFirst b bs) (sym (ap (λ (q : RulePlace). broken_at q 413) is ∙ ap (λ (q : FilePlace). broken_at (at_spot q c) 413) e)) h
 
 -- a rule of single files, or one of a later hundred
 pub file_or_later : (list : ListTree) (files : List (List ℕ)) (tested : List Group) (b : Break) → Breach list files tested b → BreaksFile list.lines files b ⊎ (2 ≤ b.rank.family)

@@ -13,7 +13,7 @@ use Rattle.cjc_code.specs.PackageCodes.{all_codes}
 use Rattle.cjc_export.specs.ExportFile.{export_file}
 use Rattle.cjc_list.specs.Listed.{ListTree}
 use Rattle.cjc_range_rules.specs.OutOfRange.{IsOutOfRange}
-use Rattle.cjc_judge.specs.Codes.{all_foreigns}
+use Rattle.cjc_judge.specs.Codes.{all_unsupported_insns}
 use Rattle.cjc_judge.specs.Rules.{FileBreach, no_class_file, no_instructions, no_export_file, file_rank, file_refusal, code_refusal, method_rank, BreaksFile, BreaksWorld, BreaksNames, HasWrongTypes, BreaksGroup, files_spelt, settings_of, has_applets, Breach, of_file, of_world, of_names, of_group, OnLevels, on_first, on_second, IsFirstRefused, IsFirstBroken}
 use Rattle.cjc_judge.specs.Spelt.{FileTree, of_class, of_export, SpellTrees, classes_of}
 use Rattle.cjc_judge.specs.declared.groups.Group.{Group}
@@ -21,7 +21,7 @@ use Rattle.cjc_judge.specs.declared.groups.Group.TheVariants as groups
 use Rattle.cjc_judge.proofs.Firsts.{file_family, world_family, names_family, late_family, one_spelling}
 use Rattle.cjc_judge.proofs.Places.{IsTold, place_at, class_files}
 use Rattle.cjc_judge.proofs.ToldWorld.{world_told}
-use Rattle.cjc_judge.proofs.ToldRules.{image_told, names_told, foreigns_told, checks_told, tokens_told, method_told}
+use Rattle.cjc_judge.proofs.ToldRules.{image_told, names_told, unsupported_insns_told, checks_told, tokens_told, method_told}
 
 -- ---- the rules of one file
 
@@ -91,7 +91,7 @@ module _ (list : ListTree) (files : List (List ℕ)) where
 
   group_spelt : (g : Group) (b : Break) → BreaksGroup list files g b → IsSpelt list files b
   group_spelt groups.Unsupported b (trees, spelt, among) =
-      (trees, spelt, (foreigns_told list.name (files_spelt list trees) (class_lines list.lines files trees spelt) (all_foreigns (classes_of trees))).holds b among)
+      (trees, spelt, (unsupported_insns_told list.name (files_spelt list trees) (class_lines list.lines files trees spelt) (all_unsupported_insns (classes_of trees))).holds b among)
   group_spelt groups.Language b ((trees, world, among), third) =
       (trees, world.0, (checks_told list.name (files_spelt list trees) (class_lines list.lines files trees world.0) (all_codes (classes_of trees)) (settings_of list)).holds b among)
   group_spelt groups.Initialisers b (trees, world, h) =

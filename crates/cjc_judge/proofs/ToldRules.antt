@@ -15,15 +15,15 @@ use Rattle.cjc_code.specs.declared.insn.JInsn.{JInsn}
 use Rattle.cjc_code.specs.declared.method_code.MethodCode.{MethodCode}
 use Rattle.cjc_subset.specs.Checks as checks
 use Rattle.cjc_subset.specs.Names.{insn_breaks, catch_breaks, catches_of, method_breaks, code_breaks, name_breaks}
-use Rattle.cjc_subset.specs.Overriding.{is_inherited, method_against, class_against, kin_breaks, overriding_breaks}
+use Rattle.cjc_subset.specs.Overriding.{is_inherited, method_against, class_against, supertype_breaks, overriding_breaks}
 use Rattle.cjc_subset.specs.Places.{at_class, at_field, at_method}
 use Rattle.cjc_tokens.specs.Rules.{breaks_from, breaks_where, has_high_token, is_few, tested_breaks, token_breaks, at_class as token_at_class}
 use Rattle.cjc_world.specs.Classes.{Class, all_classes, declared, imported}
 use Rattle.cjc_world.specs.Exported.{is_exported}
 use Rattle.cjc_world.specs.Files.{Files}
 use Rattle.cjc_clinit.specs.Rules.{BreaksImage, of_class, of_code}
-use Rattle.cjc_judge.specs.declared.reading.Foreign.{Foreign}
-use Rattle.cjc_judge.specs.Rules.{foreign_break, foreign_breaks, BreaksMethod}
+use Rattle.cjc_judge.specs.declared.reading.UnsupportedInsn.{UnsupportedInsn}
+use Rattle.cjc_judge.specs.Rules.{unsupported_break, unsupported_breaks, BreaksMethod}
 use Rattle.cjc_judge.proofs.Each.{Each, each_none, each_more, each_append, each_at, each_of, each_code}
 use Rattle.cjc_judge.proofs.Places.{IsTold, IsFileOf, class_files, file_is_of, told_list, told_at_class, told_at_field, told_at_method}
 
@@ -91,9 +91,9 @@ module _ (list : List ℕ) (files : Files) (counted : length files.classes ≡ c
     unfolding class_against
     all_against w d = each_append Told _ _ (own _ 307) (each_of Told _ c.methods (λ i m at_i. against d i m at_i))
 
-    kin : (w : List Class) (d : Class) → Each Told (kin_breaks w file c d)
-    unfolding kin_breaks
-    kin w d = by (is_inherited w c d)
+    supertypes : (w : List Class) (d : Class) → Each Told (supertype_breaks w file c d)
+    unfolding supertype_breaks
+    supertypes w d = by (is_inherited w c d)
       where
         by : (b : Bool) → Each Told (if b then class_against w file c d else [])
         by true = all_against w d
@@ -103,8 +103,8 @@ module _ (list : List ℕ) (files : Files) (counted : length files.classes ≡ c
     unfolding overriding_breaks
     overriding =
         each_append Told _ _
-        (each_append Told _ _ (own _ 307) (each_of Told _ files.classes (λ _ d _. kin (all_classes files) (declared 0 d))))
-        (each_of Told _ files.exports (λ _ t _. each_of Told _ t.classes (λ _ d _. kin (all_classes files) (imported 0 d))))
+        (each_append Told _ _ (own _ 307) (each_of Told _ files.classes (λ _ d _. supertypes (all_classes files) (declared 0 d))))
+        (each_of Told _ files.exports (λ _ t _. each_of Told _ t.classes (λ _ d _. supertypes (all_classes files) (imported 0 d))))
 
     check_own : (settings : Settings) → Each Told (checks.own_breaks files settings file number c)
     unfolding checks.own_breaks
@@ -130,9 +130,9 @@ module _ (list : List ℕ) (files : Files) (counted : length files.classes ≡ c
   names_told codes = each_of Told _ codes (λ _ code _. each_code Told files code.class code.method (λ f c m. method_breaks files f c code.method m code.insns) (λ c m is at_i. names_method code.class c is code.method m at_i code.insns))
 
   -- 303
-  pub foreigns_told : (xs : List Foreign) → Each Told (foreign_breaks files xs)
-  unfolding foreign_breaks foreign_break
-  foreigns_told xs = each_of Told _ xs (λ _ x _. each_code Told files x.class x.method (λ f c m. broken_at (at_method f c x.method m x.offset) 303 ∷ [])
+  pub unsupported_insns_told : (xs : List UnsupportedInsn) → Each Told (unsupported_breaks files xs)
+  unfolding unsupported_breaks unsupported_break
+  unsupported_insns_told xs = each_of Told _ xs (λ _ x _. each_code Told files x.class x.method (λ f c m. broken_at (at_method f c x.method m x.offset) 303 ∷ [])
       (λ c m is at_i. each_more Told (broken_at (at_method (file_of files.lines x.class) c x.method m x.offset) 303) [] (told_at_method list files x.class c (file_of files.lines x.class) (there x.class c is) x.method m at_i x.offset 303) (each_none Told)))
 
   by_list : (broken : Bool) (rule : ℕ) → Each Told (at broken (list_spot list) rule)

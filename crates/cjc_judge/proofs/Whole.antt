@@ -15,10 +15,10 @@ use Rattle.cjc_world.specs.Rules.{breaks}
 use Rattle.cjc_bytes.specs.Breaks.{Break, IsFirstRefusal}
 use Rattle.cjc_judge.specs.declared.groups.Group.{Group}
 use Rattle.cjc_judge.specs.declared.judged.Judged.{Judged}
-use Rattle.cjc_judge.specs.declared.reading.Foreign.{Foreign}
+use Rattle.cjc_judge.specs.declared.reading.UnsupportedInsn.{UnsupportedInsn}
 use Rattle.cjc_judge.specs.declared.reading.Trees.{Trees}
 use Rattle.cjc_code.specs.PackageCodes.{all_codes}
-use Rattle.cjc_judge.specs.Codes.{all_foreigns}
+use Rattle.cjc_judge.specs.Codes.{all_unsupported_insns}
 use Rattle.cjc_judge.specs.Judged.{IsJudged, IsStopped}
 use Rattle.cjc_judge.specs.Rules.{world_files, files_spelt, IsFirstFault}
 use Rattle.cjc_judge.specs.Spelt.{classes_of, IsRead}
@@ -78,8 +78,8 @@ module _ (list : ListTree) (files : List (List ℕ)) (tested : List Group) (read
   codes_spelt : read.codes ≡ all_codes (classes_of all.trees)
   codes_spelt = all.codes ∙ ap all_codes all.classes
 
-  foreigns_spelt : read.foreigns ≡ all_foreigns (classes_of all.trees)
-  foreigns_spelt = all.foreigns ∙ ap all_foreigns all.classes
+  unsupported_insns_spelt : read.unsupported_insns ≡ all_unsupported_insns (classes_of all.trees)
+  unsupported_insns_spelt = all.unsupported_insns ∙ ap all_unsupported_insns all.classes
 
   module _ (world : Files) (made : world ≡ WorldFiles list read) (fine : breaks list.name (WorldFiles list read) ≡ []) where
     spelt_fine : breaks list.name (files_spelt list all.trees) ≡ []
@@ -108,14 +108,14 @@ module _ (list : ListTree) (files : List (List ℕ)) (tested : List Group) (read
       spelt_named : name_breaks (files_spelt list all.trees) (all_codes (classes_of all.trees)) ≡ []
       spelt_named = (sym names_spelt) ∙ named
 
-      groups_spelt : WorldBreaksAny list world read.codes read.foreigns tested ≡ WorldBreaksAny list (files_spelt list all.trees) (all_codes (classes_of all.trees)) (all_foreigns (classes_of all.trees)) tested
+      groups_spelt : WorldBreaksAny list world read.codes read.unsupported_insns tested ≡ WorldBreaksAny list (files_spelt list all.trees) (all_codes (classes_of all.trees)) (all_unsupported_insns (classes_of all.trees)) tested
       groups_spelt =
-          ap (λ (w : Files). WorldBreaksAny list w read.codes read.foreigns tested) (made ∙ world_is)
-          ∙ ap (λ (cs : List MethodCode). WorldBreaksAny list (files_spelt list all.trees) cs read.foreigns tested) codes_spelt
-          ∙ ap (λ (xs : List Foreign). WorldBreaksAny list (files_spelt list all.trees) (all_codes (classes_of all.trees)) xs tested) foreigns_spelt
+          ap (λ (w : Files). WorldBreaksAny list w read.codes read.unsupported_insns tested) (made ∙ world_is)
+          ∙ ap (λ (cs : List MethodCode). WorldBreaksAny list (files_spelt list all.trees) cs read.unsupported_insns tested) codes_spelt
+          ∙ ap (λ (xs : List UnsupportedInsn). WorldBreaksAny list (files_spelt list all.trees) (all_codes (classes_of all.trees)) xs tested) unsupported_insns_spelt
 
       -- a rule of the groups
-      pub groups_refused : (e : Fault) → IsFirstFault (WorldBreaksAny list world read.codes read.foreigns tested) e → IsStopped list files tested e
+      pub groups_refused : (e : Fault) → IsFirstFault (WorldBreaksAny list world read.codes read.unsupported_insns tested) e → IsStopped list files tested e
       groups_refused e f =
           elim (subst (λ (G : Break → Type 0). IsFirstFault G e) groups_spelt f) [
             | inl memory ↦ inl memory
@@ -123,7 +123,7 @@ module _ (list : ListTree) (files : List (List ℕ)) (tested : List Group) (read
           ]
 
       -- what is known where no rule is broken
-      pub judged_from : (judged : Judged) → judged.world ≡ world → judged.codes ≡ read.codes → ((b : Break) → WorldBreaksAny list world read.codes read.foreigns tested b → ⊥) → AreTablesWhereNamed tested world read.codes judged.types → IsJudged list files tested judged
+      pub judged_from : (judged : Judged) → judged.world ≡ world → judged.codes ≡ read.codes → ((b : Break) → WorldBreaksAny list world read.codes read.unsupported_insns tested b → ⊥) → AreTablesWhereNamed tested world read.codes judged.types → IsJudged list files tested judged
       judged_from judged w k none tables = record {
         unbroken = none_broken list files tested all.trees all.spelt spelt_fine spelt_named (subst (λ (G : Break → Type 0). (b : Break) → G b → ⊥) groups_spelt none);
         world = w ∙ made ∙ sym (ap (λ (cs : List ClassTree). world_files list cs read.exports) classes) ∙ sym (ap (λ (es : List ExportTree). world_files list judged.world.classes es) exports);

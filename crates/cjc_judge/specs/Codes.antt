@@ -4,13 +4,13 @@ use Rattle.cjc_classfile.specs.declared.tree.ClassTree.{ClassTree}
 use Rattle.cjc_bytes.specs.declared.breaks.BrokenAt.{BrokenAt}
 use Rattle.cjc_code.specs.declared.insn.JInsn.{JInsn}
 use Rattle.cjc_code.specs.PackageCodes.{of_classes}
-use Rattle.cjc_judge.specs.declared.reading.Foreign.{Foreign}
+use Rattle.cjc_judge.specs.declared.reading.UnsupportedInsn.{UnsupportedInsn}
 
 -- the place of the first instruction of a method that is not converted, where 103 is not broken (rule 303)
-abbrev pub foreign_with : (class method : ℕ) → Result (List JInsn) BrokenAt → List Foreign
-foreign_with class method (Ok insns) = []
-foreign_with class method (Err broken) = if broken.rule == 303 then record { class = class; method = method; offset = broken.offset } ∷ [] else []
+abbrev pub unsupported_with : (class method : ℕ) → Result (List JInsn) BrokenAt → List UnsupportedInsn
+unsupported_with class method (Ok insns) = []
+unsupported_with class method (Err broken) = if broken.rule == 303 then record { class = class; method = method; offset = broken.offset } ∷ [] else []
 
 -- of all classes, in list order, their methods in class file order
-abbrev pub all_foreigns : List ClassTree → List Foreign
-all_foreigns trees = of_classes foreign_with 0 trees
+abbrev pub all_unsupported_insns : List ClassTree → List UnsupportedInsn
+all_unsupported_insns trees = of_classes unsupported_with 0 trees

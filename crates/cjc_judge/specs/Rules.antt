@@ -33,10 +33,10 @@ use Rattle.cjc_types.specs.Flow.{Body, body_of}
 use Rattle.cjc_types.specs.Tables.{IsMethodOf, IsBrokenBy}
 use Rattle.cjc_range_rules.specs.OutOfRange.{IsOutOfRange}
 use Rattle.cjc_code.specs.PackageCodes.{all_codes}
-use Rattle.cjc_judge.specs.Codes.{all_foreigns}
+use Rattle.cjc_judge.specs.Codes.{all_unsupported_insns}
 use Rattle.cjc_judge.specs.declared.groups.Group.{Group}
 use Rattle.cjc_judge.specs.declared.groups.Group.TheVariants as groups
-use Rattle.cjc_judge.specs.declared.reading.Foreign.{Foreign}
+use Rattle.cjc_judge.specs.declared.reading.UnsupportedInsn.{UnsupportedInsn}
 use Rattle.cjc_judge.specs.Spelt.{FileTree, SpellTrees, classes_of, exports_of}
 
 -- ---- the rules that one file breaks, whatever the others say
@@ -112,16 +112,16 @@ abbrev pub BreaksNames : ListTree → List (List ℕ) → Break → Type 0
 BreaksNames list files b = (trees : List FileTree) × AreWorld list files trees × Among b (name_breaks (files_spelt list trees) (all_codes (classes_of trees)))
 
 -- 303: the first instruction of a method that is not converted
-unfoldable pub foreign_break : Files → Foreign → List Break
-foreign_break files x = of_code files x.class x.method (λ f c m. broken_at (at_method f c x.method m x.offset) 303 ∷ [])
+unfoldable pub unsupported_break : Files → UnsupportedInsn → List Break
+unsupported_break files x = of_code files x.class x.method (λ f c m. broken_at (at_method f c x.method m x.offset) 303 ∷ [])
 
 -- of all methods that have such an instruction
-unfoldable pub foreign_breaks : Files → List Foreign → List Break
-foreign_breaks files xs = each (λ _ x. foreign_break files x) xs
+unfoldable pub unsupported_breaks : Files → List UnsupportedInsn → List Break
+unsupported_breaks files xs = each (λ _ x. unsupported_break files x) xs
 
 -- a method of the package has an instruction that is not converted
-abbrev pub BreaksForeign : ListTree → List (List ℕ) → Break → Type 0
-BreaksForeign list files b = (trees : List FileTree) × SpellTrees list.lines files trees × Among b (foreign_breaks (files_spelt list trees) (all_foreigns (classes_of trees)))
+abbrev pub BreaksUnsupported : ListTree → List (List ℕ) → Break → Type 0
+BreaksUnsupported list files b = (trees : List FileTree) × SpellTrees list.lines files trees × Among b (unsupported_breaks (files_spelt list trees) (all_unsupported_insns (classes_of trees)))
 
 -- 301 to 310 but 303, and 401 to 409
 abbrev pub settings_of : ListTree → Settings
@@ -201,7 +201,7 @@ BreaksRanges list files b = (trees : List FileTree) × AreWorld list files trees
 
 -- one line a group: what the files of a list break of it
 abbrev pub BreaksGroup : ListTree → List (List ℕ) → Group → Break → Type 0
-BreaksGroup list files groups.Unsupported b = BreaksForeign list files b
+BreaksGroup list files groups.Unsupported b = BreaksUnsupported list files b
 BreaksGroup list files groups.Language b = BreaksLanguage list files b
 BreaksGroup list files groups.Initialisers b = BreaksInitialisers list files b
 BreaksGroup list files groups.Limits b = BreaksSubset list files b

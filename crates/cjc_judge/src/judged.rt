@@ -107,11 +107,18 @@ pub fn judge<'a>(
         classes,
         exports,
         codes,
-        foreigns,
+        unsupported_insns,
     } = read_files(alloc, list.lines.items(), files.items())?;
     let world = world_of(alloc, list, classes, exports)?;
     names(alloc, list.name.items(), &world, &codes)?;
-    let types = test(alloc, list, &world, &codes, foreigns.items(), groups)?;
+    let types = test(
+        alloc,
+        list,
+        &world,
+        &codes,
+        unsupported_insns.items(),
+        groups,
+    )?;
     Ok(Judged {
         world,
         codes,

@@ -9,13 +9,13 @@ ghost use Rattle.cjc_classfile.specs.declared.tree.ClassTree.{ClassTree};
 ghost use Rattle.cjc_classfile.specs.declared.tree.MethodTree.{MethodTree};
 ghost use Rattle.cjc_types.specs.Tables.{IsMethodOf, IsOfPackage};
 ghost use Rattle.cjc_tokens.specs.Rules.{tested_breaks};
-ghost use Rattle.cjc_judge.specs.Rules.{foreign_break, foreign_breaks, settings_of, method_break, BreaksType, BreaksAnyType, BreaksRange, BreaksAnyRange, IsFirstIn, IsFirstFault, IsOfThirdHundred};
+ghost use Rattle.cjc_judge.specs.Rules.{unsupported_break, unsupported_breaks, settings_of, method_break, BreaksType, BreaksAnyType, BreaksRange, BreaksAnyRange, IsFirstIn, IsFirstFault, IsOfThirdHundred};
 ghost use Rattle.cjc_judge.specs.Types.{AreTables, AreTablesWhereNamed, IsTableOf, asks_ranges, asks_types};
 ghost use Rattle.std.specs.List.{list_any};
 ghost use Rattle.cjc_judge.specs.Working.Groups.{EarlyBreaks, EarlyBreaksAny, NamedTypeBreaks, NamedRangeBreaks, WorldBreaksAny, PutsTable};
 
 use crate::groups::Group;
-use crate::reading::Foreign;
+use crate::reading::UnsupportedInsn;
 use cjc_bytes::{
     AppletLine, Break, BrokenAt, Bytes, Fault, NoMemory, Row, Settings, answer, file_of, first,
 };
@@ -54,29 +54,32 @@ pub fn settings(alloc: Global, list: &List) -> Result<Settings, NoMemory>
 }
 
 // Rule 303 in a method that breaks it.
-#[tactic(auto, unfolding(crate::specs::Rules::foreign_break))]
-fn foreign_break<'w>(world: &'w World<'_>, foreign: &Foreign) -> Option<Break<'w>>
-    ensures { IsFirstOf (foreign_break world.now foreign.now) (option_map break_of result) }
+#[tactic(auto, unfolding(crate::specs::Rules::unsupported_break))]
+fn unsupported_break<'w>(world: &'w World<'_>, unsupported: &UnsupportedInsn) -> Option<Break<'w>>
+    ensures { IsFirstOf (unsupported_break world.now unsupported.now) (option_map break_of result) }
 {
-    let class = world.classes().items().get(foreign.class as usize)?;
-    let place = foreign.method as usize;
+    let class = world.classes().items().get(unsupported.class as usize)?;
+    let place = unsupported.method as usize;
     let method = class.methods.items().get(place)?;
-    let file = file_of(world.lines().items(), foreign.class as usize);
+    let file = file_of(world.lines().items(), unsupported.class as usize);
     let spot = class_spot(file, class);
     Some(Break {
         rule: 303,
-        spot: method_spot(spot, class, place, method, foreign.offset),
+        spot: method_spot(spot, class, place, method, unsupported.offset),
     })
 }
 
 // The first of the methods that break rule 303.
-#[tactic(auto, unfolding(crate::specs::Rules::foreign_breaks))]
-fn foreigns_break<'w>(world: &'w World<'_>, foreigns: &[Foreign]) -> Option<Break<'w>>
-    ensures { IsFirstOf (foreign_breaks world.now foreigns.now) (option_map break_of result) }
+#[tactic(auto, unfolding(crate::specs::Rules::unsupported_breaks))]
+fn unsupported_insns_break<'w>(
+    world: &'w World<'_>,
+    unsupported_insns: &[UnsupportedInsn],
+) -> Option<Break<'w>>
+    ensures { IsFirstOf (unsupported_breaks world.now unsupported_insns.now) (option_map break_of result) }
 {
     let mut least = None;
-    for foreign in foreigns {
-        least = first(least, foreign_break(world, foreign));
+    for unsupported in unsupported_insns {
+        least = first(least, unsupported_break(world, unsupported));
     }
     least
 }
@@ -218,16 +221,16 @@ fn group_break<'w>(
     list: &'w List,
     world: &'w World<'_>,
     codes: &Codes,
-    foreigns: &[Foreign],
+    unsupported_insns: &[UnsupportedInsn],
     settings: &Settings,
     group: Group,
 ) -> Result<Option<Break<'w>>, NoMemory>
     requires codes { All (IsOfPackage world.now) codes.now }
     requires settings { settings.now ≡ settings_of list.now }
-    ensures { IfOk result (λ b. IsFirstIn (EarlyBreaks list.now world.now codes.now foreigns.now group) (option_map break_of b)) }
+    ensures { IfOk result (λ b. IsFirstIn (EarlyBreaks list.now world.now codes.now unsupported_insns.now group) (option_map break_of b)) }
 {
     match group {
-        Group::Unsupported => Ok(foreigns_break(world, foreigns)),
+        Group::Unsupported => Ok(unsupported_insns_break(world, unsupported_insns)),
         Group::Language => {
             let broken = first_broken(alloc, list.name.items(), world, codes, settings)?;
             Ok(of_third_hundred(broken))
@@ -245,16 +248,24 @@ fn groups_break<'w>(
     list: &'w List,
     world: &'w World<'_>,
     codes: &Codes,
-    foreigns: &[Foreign],
+    unsupported_insns: &[UnsupportedInsn],
     groups: &[Group],
 ) -> Result<Option<Break<'w>>, NoMemory>
     requires { All (IsOfPackage world.now) codes.now }
-    ensures { IfOk result (λ b. IsFirstIn (EarlyBreaksAny list.now world.now codes.now foreigns.now groups.now) (option_map break_of b)) }
+    ensures { IfOk result (λ b. IsFirstIn (EarlyBreaksAny list.now world.now codes.now unsupported_insns.now groups.now) (option_map break_of b)) }
 {
     let settings = settings(alloc, list)?;
     let mut least = None;
     for group in groups {
-        let broken = group_break(alloc, list, world, codes, foreigns, &settings, *group)?;
+        let broken = group_break(
+            alloc,
+            list,
+            world,
+            codes,
+            unsupported_insns,
+            &settings,
+            *group,
+        )?;
         least = first(least, broken);
     }
     Ok(least)
@@ -352,15 +363,15 @@ pub(crate) fn test(
     list: &List,
     world: &World<'_>,
     codes: &Codes,
-    foreigns: &[Foreign],
+    unsupported_insns: &[UnsupportedInsn],
     groups: &[Group],
 ) -> Result<Row<TypeTable>, Fault>
     requires { All (IsOfPackage world.now) codes.now }
     ensures types { IfOk result (AreTablesWhereNamed groups.now world.now codes.now) }
-    ensures unbroken { OnOk result ((b : Broken) → WorldBreaksAny list.now world.now codes.now foreigns.now groups.now b → ⊥) }
-    ensures refused { IfErr result (IsFirstFault (WorldBreaksAny list.now world.now codes.now foreigns.now groups.now)) }
+    ensures unbroken { OnOk result ((b : Broken) → WorldBreaksAny list.now world.now codes.now unsupported_insns.now groups.now b → ⊥) }
+    ensures refused { IfErr result (IsFirstFault (WorldBreaksAny list.now world.now codes.now unsupported_insns.now groups.now)) }
 {
-    let broken = groups_break(alloc, list, world, codes, foreigns, groups)?;
+    let broken = groups_break(alloc, list, world, codes, unsupported_insns, groups)?;
     answer(alloc, broken)?;
     let types = named_types(alloc, world, codes, groups)?;
     test_ranges(alloc, world, codes, &types, groups)?;

@@ -21,13 +21,13 @@ pub(crate) struct Trees<'a> {
     /// The instructions of each method that breaks neither 103 nor 303.
     pub(crate) codes: Codes,
     /// The methods that break rule 303, and not 103.
-    pub(crate) foreigns: Row<Foreign>,
+    pub(crate) unsupported_insns: Row<UnsupportedInsn>,
 }
 
 /// A method with an instruction that is not converted, by its class's number among the package's and its own among the
 /// class's, with the offset of the first such instruction.
 #[derive(Drop)]
-pub(crate) struct Foreign {
+pub(crate) struct UnsupportedInsn {
     pub(crate) class: u32,
     pub(crate) method: u32,
     pub(crate) offset: u32,
@@ -42,10 +42,10 @@ fn decode_method(
     class: &ClassTree<'_>,
     method: u32,
     codes: &mut Codes,
-    foreigns: &mut Row<Foreign>,
+    unsupported_insns: &mut Row<UnsupportedInsn>,
 ) -> Result<(), Fault>
     requires { HasCode class.now method }
-    ensures { DecodesMethod file.now number class.now method codes.old codes.new foreigns.old foreigns.new result }
+    ensures { DecodesMethod file.now number class.now method codes.old codes.new unsupported_insns.old unsupported_insns.new result }
 {
     match cjc_code::decode_method(alloc, class, method) {
         Ok(insns) => {
@@ -58,7 +58,7 @@ fn decode_method(
         }
         Err(DecodeError::Broken(broken)) => {
             if broken.rule == 303 {
-                foreigns.push(Foreign {
+                unsupported_insns.push(UnsupportedInsn {
                     class: number,
                     method,
                     offset: broken.offset,
@@ -79,14 +79,22 @@ fn decode_class(
     number: u32,
     class: &ClassTree<'_>,
     codes: &mut Codes,
-    foreigns: &mut Row<Foreign>,
+    unsupported_insns: &mut Row<UnsupportedInsn>,
 ) -> Result<(), Fault>
     requires { ClassFits class.now }
-    ensures { DecodesClass file.now number class.now codes.old codes.new foreigns.old foreigns.new result }
+    ensures { DecodesClass file.now number class.now codes.old codes.new unsupported_insns.old unsupported_insns.new result }
 {
     for (method, tree) in class.methods.items().iter().enumerate() {
         if tree.code.is_some() {
-            decode_method(alloc, file, number, class, method as u32, codes, foreigns)?;
+            decode_method(
+                alloc,
+                file,
+                number,
+                class,
+                method as u32,
+                codes,
+                unsupported_insns,
+            )?;
         }
     }
     Ok(())
@@ -111,7 +119,7 @@ fn read_class<'a>(
         number,
         &class,
         &mut trees.codes,
-        &mut trees.foreigns,
+        &mut trees.unsupported_insns,
     )?;
     trees.classes.push(class)?;
     Ok(())
@@ -153,7 +161,7 @@ pub(crate) fn read_files<'a>(
         classes: Row::new(alloc),
         exports: Row::new(alloc),
         codes: Row::new(alloc),
-        foreigns: Row::new(alloc),
+        unsupported_insns: Row::new(alloc),
     };
     for (at, line) in lines.iter().enumerate() {
         read_file(alloc, line, files[at].items(), &mut trees)?;

@@ -18,7 +18,7 @@ use Rattle.cjc_by_name.specs.OnePackage.{method_hit}
 use Rattle.cjc_narrow.specs.Resolved.{by_owner, resolved_method}
 use Rattle.cjc_pool.specs.Pool.{token_of}
 use Rattle.cjc_select_laws.proofs.Limits.{each_at, none_left, none_right, not_broken}
-use Rattle.cjc_subset.specs.Members.{Hit, hit, hit_of, is_array, is_constructor, is_initialiser}
+use Rattle.cjc_subset.specs.Members.{ResolvedMember, hit, hit_of, is_array, is_constructor, is_initialiser}
 use Rattle.cjc_subset.specs.Names.{code_breaks, insn_breaks, is_hidden, is_member_missing, is_name_missing, is_not_found, is_unfit_call, is_unfit_class, is_unfit_interface, is_unfit_method, method_breaks, name_breaks, names_missing, names_unfit, names_unfound, is_other_kind}
 use Rattle.cjc_subset.specs.Places.{of_class, of_method}
 use Rattle.cjc_tokens.specs.Rules.{token_breaks}
@@ -27,7 +27,7 @@ use Rattle.cjc_types.specs.Tables.{IsMethodOf}
 use Rattle.cjc_vtable.proofs.Filed.{at-number}
 use Rattle.cjc_world.specs.Classes.{Class, all_classes, class_at, class_named}
 use Rattle.cjc_world.specs.Files.{Files}
-use Rattle.cjc_world.specs.Kin.{IsAcyclic}
+use Rattle.cjc_world.specs.Supertypes.{IsAcyclic}
 use Rattle.cjc_world.specs.Lookup.{find_method}
 use Rattle.cjc_world.specs.Rules.{is_class_of, is_desc_missing}
 use Rattle.cjc_world.specs.declared.found.Found.{Found}
@@ -94,7 +94,7 @@ module _ (files : Files) (acyclic : IsAcyclic (all_classes files)) (holder : Cla
         ∙ ap (hit_of false (record { imported = d.is_imported; class = d.number; member = length d.fields + own.place })) (at-number files d.name d o.1)
         ∙ ap (λ k. option_map (λ m. record { owner = d; flags = m.flags }) (slice_get d.methods k)) place
         ∙ ap (option_map (λ m. record { owner = d; flags = m.flags })) own.is_member in
-        let h : Hit = record { owner = d; flags = own.member.flags } in
+        let h : ResolvedMember = record { owner = d; flags = own.member.flags } in
         let fine : is_unfit_method w holder 0xB9 id (Some h) ≡ false = sym (ap (is_unfit_method w holder 0xB9 id) told) ∙ fit in
         let class : is_unfit_class w holder 0xB9 id h ≡ false = or_right (is_hidden w holder id h || is_unfit_call 0xB9 id.name h.flags) (is_unfit_class w holder 0xB9 id h) fine in
         let call : is_unfit_call 0xB9 id.name h.flags ≡ false = or_right (is_hidden w holder id h) (is_unfit_call 0xB9 id.name h.flags) (or_left (is_hidden w holder id h || is_unfit_call 0xB9 id.name h.flags) (is_unfit_class w holder 0xB9 id h) fine) in

@@ -5,15 +5,15 @@ use Rattle.std.specs.Str.{bytes_eq}
 use Rattle.std.proofs.lemmas.List.Quantifiers.{position-Some}
 use Rattle.std.proofs.lemmas.Option.{slice_get-get_or}
 use Rattle.std.proofs.lemmas.Slice.Eq.{bytes_eq-Decides}
-use Rattle.cjc_by_name.specs.OnePackage.{Hit, method_hit}
+use Rattle.cjc_by_name.specs.OnePackage.{ResolvedMember, method_hit}
 use Rattle.cjc_vtable.proofs.Asked.{Among, at_head, further}
 use Rattle.cjc_vtable.proofs.Filed.{at-number}
 use Rattle.cjc_vtable.proofs.Stood.{gathered-named, upwards-named}
-use Rattle.cjc_world.proofs.Settled.{kin-IsKin, kin-known}
+use Rattle.cjc_world.proofs.Settled.{supertypes-AreSupertypes, supertypes-known}
 use Rattle.cjc_world.specs.Classes.{Class, Member, all_classes, class_at, class_named}
 use Rattle.cjc_world.specs.Files.{Files}
 use Rattle.cjc_world.specs.Interfaces.{gathered, known}
-use Rattle.cjc_world.specs.Kin.{IsAcyclic, kin, line, upwards}
+use Rattle.cjc_world.specs.Supertypes.{IsAcyclic, supertypes, line, upwards}
 use Rattle.cjc_world.specs.Lookup.{find_method, first, is_called, is_wanted, member_at, or_else, own_method}
 use Rattle.cjc_world.specs.declared.found.Found.{Found}
 
@@ -73,20 +73,20 @@ module _ (name desc : List ℕ) (f : Found) where
   module _ (w : List Class) (acyclic : IsAcyclic w) where
     pub found_own : (class : List ℕ) → find_method w class name desc ≡ Some f → (d : Class) × (class_named w d.name ≡ Some d) × (own_method false name desc d ≡ Some f)
     unfolding find_method line
-    found_own class e = by (first (own_method false name desc) (upwards (kin w (class ∷ [])))) refl e
+    found_own class e = by (first (own_method false name desc) (upwards (supertypes w (class ∷ [])))) refl e
       where
-        by : (o : Option Found) → first (own_method false name desc) (upwards (kin w (class ∷ []))) ≡ o
-            → or_else o (first (own_method false name desc) (known (gathered false (kin w (class ∷ []))))) ≡ Some f
+        by : (o : Option Found) → first (own_method false name desc) (upwards (supertypes w (class ∷ []))) ≡ o
+            → or_else o (first (own_method false name desc) (known (gathered false (supertypes w (class ∷ []))))) ≡ Some f
             → (d : Class) × (class_named w d.name ≡ Some d) × (own_method false name desc d ≡ Some f)
-        by None g e = let r = first_own (known (gathered false (kin w (class ∷ [])))) e in (r.0, gathered-named w false (class ∷ []) (kin w (class ∷ [])) r.0 (kin-IsKin w acyclic (class ∷ [])) r.1, r.2)
-        by (Some h) g e = let r = first_own (upwards (kin w (class ∷ []))) (g ∙ e) in (r.0, upwards-named w (class ∷ []) (kin w (class ∷ [])) r.0 (kin-IsKin w acyclic (class ∷ [])) r.1, r.2)
+        by None g e = let r = first_own (known (gathered false (supertypes w (class ∷ [])))) e in (r.0, gathered-named w false (class ∷ []) (supertypes w (class ∷ [])) r.0 (supertypes-AreSupertypes w acyclic (class ∷ [])) r.1, r.2)
+        by (Some h) g e = let r = first_own (upwards (supertypes w (class ∷ []))) (g ∙ e) in (r.0, upwards-named w (class ∷ []) (supertypes w (class ∷ [])) r.0 (supertypes-AreSupertypes w acyclic (class ∷ [])) r.1, r.2)
 
     -- it is found again from its own class
     pub found_again : (d : Class) → class_named w d.name ≡ Some d → own_method false name desc d ≡ Some f → find_method w d.name name desc ≡ Some f
     unfolding find_method line first
     found_again d named own =
-        ap (λ k. or_else (first (own_method false name desc) (upwards k)) (first (own_method false name desc) (known (gathered false (kin w (d.name ∷ [])))))) (kin-known w acyclic d.name d named)
-        ∙ ap (λ o. or_else (or_else o (first (own_method false name desc) (upwards (kin w d.supers) ++ []))) (first (own_method false name desc) (known (gathered false (kin w (d.name ∷ [])))))) own
+        ap (λ k. or_else (first (own_method false name desc) (upwards k)) (first (own_method false name desc) (known (gathered false (supertypes w (d.name ∷ [])))))) (supertypes-known w acyclic d.name d named)
+        ∙ ap (λ o. or_else (or_else o (first (own_method false name desc) (upwards (supertypes w d.supers) ++ []))) (first (own_method false name desc) (known (gathered false (supertypes w (d.name ∷ [])))))) own
 
 -- what is told of it
 pub owner_hit : (files : Files) (d : Class) (name desc : List ℕ) (f : Found) → class_named (all_classes files) d.name ≡ Some d → (own : IsOwn d name desc f)

@@ -33,7 +33,7 @@ use Rattle.cjc_types.specs.Flow.{body_of}
 use Rattle.cjc_types.specs.Tables.{IsLeastTable, IsTypeTable}
 use Rattle.cjc_world.specs.Classes.{all_classes}
 use Rattle.cjc_world.specs.Files.{Files}
-use Rattle.cjc_world.specs.Kin.{IsAcyclic}
+use Rattle.cjc_world.specs.Supertypes.{IsAcyclic}
 use Rattle.cjc_world.specs.Rules.{breaks}
 use Rattle.cjc_world.proofs.Unbroken.{unbroken_is_acyclic}
 use Rattle.cjc_written.specs.Rows.{has_rows, rows_by}

@@ -34,7 +34,7 @@ use Rattle.cjc_world.specs.Added.{added, asked_by, own_methods, without_initiali
 use Rattle.cjc_world.specs.Classes.{Class, Member, all_classes, class_named, declared, field_of_class, field_of_export, imported, method_of_export}
 use Rattle.cjc_world.specs.Exported.{is_exported}
 use Rattle.cjc_world.specs.Files.{Files}
-use Rattle.cjc_world.specs.Kin.{kin}
+use Rattle.cjc_world.specs.Supertypes.{supertypes}
 use Rattle.cjc_world.specs.declared.found.Found.{Found}
 use Rattle.cjc_fixpoint.specs.Working.Edges.{contains_head, contains_tail}
 use Rattle.cjc_judge_laws.proofs.Owners.{IsOwn}
@@ -131,8 +131,8 @@ module _ (files : Files) (applets : Bool) (unbroken : token_breaks applets files
           by true h = h
           by false h = contains_tail x (without_initialiser ms) m h
 
-      asked : (i : ℕ) (m : Member) → slice_get (declared n c).methods i ≡ Some m → is_initialiser m.name ≡ false → Contains (asked_by (kin w (c.superclass ∷ [])) (kin w c.interfaces) ++ own_methods (declared n c)) m
-      asked i m e plain = Contains-append_right (asked_by (kin w (c.superclass ∷ [])) (kin w c.interfaces)) (without_initialiser (declared n c).methods) m (kept (declared n c).methods i m e plain)
+      asked : (i : ℕ) (m : Member) → slice_get (declared n c).methods i ≡ Some m → is_initialiser m.name ≡ false → Contains (asked_by (supertypes w (c.superclass ∷ [])) (supertypes w c.interfaces) ++ own_methods (declared n c)) m
+      asked i m e plain = Contains-append_right (asked_by (supertypes w (c.superclass ∷ [])) (supertypes w c.interfaces)) (without_initialiser (declared n c).methods) m (kept (declared n c).methods i m e plain)
 
   -- the same of its place among all that the class has
   in_package : (n : ℕ) (c : ClassTree) → slice_get files.classes n ≡ Some c → (name desc : List ℕ) (f : Found) → IsOwn (declared n c) name desc f → is_interface c.flags ≡ true → is_initialiser name ≡ false

@@ -3,7 +3,7 @@ use Rattle.std.proofs.Common.{◌≡◌, ℕ, ◌+◌, ◌<◌, ◌≤◌, List,
 use Rattle.std.specs.Prelude.{flat_map}
 use Rattle.std.proofs.lemmas.List.{drop_more, drop_all}
 use Rattle.std.proofs.lemmas.Option.{same_Some, slice_get-get_or}
-use Rattle.cjc_sentences.specs.declared.spot.Spot.{Spot}
+use Rattle.cjc_sentences.specs.declared.spot.ComponentPlace.{ComponentPlace}
 use Rattle.cjc_sentences.specs.Spots.{earlier, first}
 use Rattle.cjc_sentences.proofs.Firsts.{earlier_none, earlier_assoc, first_append, first_nothing}
 
@@ -11,7 +11,7 @@ use Rattle.cjc_sentences.proofs.Firsts.{earlier_none, earlier_assoc, first_appen
 pub at_item : {A : Type 0} (i : ℕ) (x : A) (xs : List A) → i < length xs → x ≡ get_or xs i x → drop i xs ≡ x ∷ drop (i + 1) xs
 at_item {A} i x xs lt is = drop_more xs i x lt ∙ ap (λ (y : A). y ∷ drop (i + 1) xs) (sym is)
 
-pub flat_more : {A B : Type 0} (view : A → B) (broken : B → List Spot) (i : ℕ) (x : A) (xs : List A) (best found total : Option Spot)
+pub flat_more : {A B : Type 0} (view : A → B) (broken : B → List ComponentPlace) (i : ℕ) (x : A) (xs : List A) (best found total : Option ComponentPlace)
     → i < length xs → x ≡ get_or xs i x → found ≡ first (broken (view x))
     → earlier best (first (flat_map broken (map view (drop i xs)))) ≡ total
     → earlier (earlier best found) (first (flat_map broken (map view (drop (i + 1) xs)))) ≡ total
@@ -23,7 +23,7 @@ flat_more {A} view broken i x xs best found total lt is f so_far =
     ∙ ap (λ (ys : List A). earlier best (first (flat_map broken (map view ys)))) (sym (at_item i x xs lt is))
     ∙ so_far
 
-pub flat_all : {A B : Type 0} (view : A → B) (broken : B → List Spot) (i : ℕ) (xs : List A) (best total : Option Spot)
+pub flat_all : {A B : Type 0} (view : A → B) (broken : B → List ComponentPlace) (i : ℕ) (xs : List A) (best total : Option ComponentPlace)
     → length xs ≤ i → earlier best (first (flat_map broken (map view (drop i xs)))) ≡ total → best ≡ total
 flat_all {A} view broken i xs best total le so_far =
     sym (earlier_none best) ∙ ap (earlier best) (sym first_nothing)

@@ -16,7 +16,7 @@ use Rattle.cjc_decode.specs.declared.shape.Shape.{Shape}
 use Rattle.cjc_decode.specs.declared.shape.Shape.TheVariants as shapes
 use Rattle.cjc_decode.specs.declared.table.Matches.{Matches}
 use Rattle.cjc_decode.specs.declared.table.Matches.TheVariants.{Counted, Short, Int}
-use Rattle.cjc_sentences.specs.declared.spot.Spot.{Spot}
+use Rattle.cjc_sentences.specs.declared.spot.ComponentPlace.{ComponentPlace}
 use Rattle.cjc_sentences.specs.Spots.{earlier, first, in_info, unless}
 use Rattle.cjc_sentences.specs.Codes.{Code}
 use Rattle.cjc_sentences.specs.Instructions.{ends_code, default_of, in_code, is_empty, is_jump, jumps, jumps_land, pair_offsets, switch_offsets}
@@ -171,7 +171,7 @@ step_in code a (b ∷ rest) t e =
     first_append (unless (jumps_land code (placed_of a)) (in_info 7 a.at)) (in_code code (map placed_of (b ∷ rest)))
     ∙ ap (λ (s : Bool). earlier (first (unless s (in_info 7 a.at))) (first (in_code code (map placed_of (b ∷ rest))))) (sym same)
 
-pub in_code_more : (code : Code) (i : ℕ) (a : At) (insns : List At) (g : Bool) (best found total : Option Spot) → i < length insns → a ≡ get_or insns i a
+pub in_code_more : (code : Code) (i : ℕ) (a : At) (insns : List At) (g : Bool) (best found total : Option ComponentPlace) → i < length insns → a ≡ get_or insns i a
     → g ≡ (nat_lt (i + 1) (length insns) || ends_code a.insn.opcode) → found ≡ first (unless (jumps_land code (placed_of a) && g) (in_info 7 a.at))
     → earlier best (first (in_code code (map placed_of (drop i insns)))) ≡ total
     → earlier (earlier best found) (first (in_code code (map placed_of (drop (i + 1) insns)))) ≡ total
@@ -187,7 +187,7 @@ in_code_more code i a insns g best found total lt is test f so_far =
     ∙ ap (earlier best) (sym (step_in code a rest t test2))
     ∙ ap (λ (ys : List At). earlier best (first (in_code code (map placed_of ys)))) (sym (at_item i a insns lt is)) ∙ so_far
 
-pub in_code_all : (code : Code) (i : ℕ) (insns : List At) (best total : Option Spot) → length insns ≤ i
+pub in_code_all : (code : Code) (i : ℕ) (insns : List At) (best total : Option ComponentPlace) → length insns ≤ i
     → earlier best (first (in_code code (map placed_of (drop i insns)))) ≡ total → best ≡ total
 unfolding in_code
 in_code_all code i insns best total le so_far =

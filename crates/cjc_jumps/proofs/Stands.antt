@@ -7,7 +7,7 @@ use Rattle.std.proofs.lemmas.List.{drop_all}
 use Rattle.cjc_capread.specs.declared.tree.Handler.{Handler}
 use Rattle.cjc_codes.specs.declared.code.At.{At}
 use Rattle.cjc_codes.specs.Bodies.{AllAt, placed_of}
-use Rattle.cjc_sentences.specs.declared.spot.Spot.{Spot}
+use Rattle.cjc_sentences.specs.declared.spot.ComponentPlace.{ComponentPlace}
 use Rattle.cjc_sentences.specs.Spots.{earlier, first, in_info, unless}
 use Rattle.cjc_sentences.specs.Codes.{Code}
 use Rattle.cjc_sentences.specs.Handlers.{in_code, targets_from}
@@ -30,7 +30,7 @@ far_end insns n end all le small =
     let differs : (n == end) ≡ false = grind (arith, nat_tests) in
     sym (ap (λ b. b || (n == end)) (far_away insns n all le) ∙ differs)
 
-pub targets_more : (before at i : ℕ) (h : Handler) (hs : List Handler) (best found total : Option Spot) → i < length hs → h ≡ get_or hs i h
+pub targets_more : (before at i : ℕ) (h : Handler) (hs : List Handler) (best found total : Option ComponentPlace) → i < length hs → h ≡ get_or hs i h
     → found ≡ first (unless (nat_le before h.handler) (in_info 7 (at + 4)))
     → earlier best (first (targets_from before at (drop i hs))) ≡ total → earlier (earlier best found) (first (targets_from h.handler (at + 8) (drop (i + 1) hs))) ≡ total
 unfolding targets_from
@@ -41,7 +41,7 @@ targets_more before at i h hs best found total lt is f so_far =
     ∙ ap (earlier best) (sym (first_append one rest))
     ∙ ap (λ (ys : List Handler). earlier best (first (targets_from before at ys))) (sym (at_item i h hs lt is)) ∙ so_far
 
-pub targets_all : (before at i : ℕ) (hs : List Handler) (best total : Option Spot) → length hs ≤ i
+pub targets_all : (before at i : ℕ) (hs : List Handler) (best total : Option ComponentPlace) → length hs ≤ i
     → earlier best (first (targets_from before at (drop i hs))) ≡ total → best ≡ total
 unfolding targets_from
 targets_all before at i hs best total le so_far =

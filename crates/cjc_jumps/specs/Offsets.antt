@@ -6,7 +6,7 @@ use Rattle.cjc_decode.specs.declared.shape.Shape.{Shape}
 use Rattle.cjc_decode.specs.declared.shape.Shape.TheVariants.{Index1, Index2, Typed, Call, ShortTable, IntTable, ShortPairs, IntPairs}
 use Rattle.cjc_decode.specs.declared.table.Matches.{Matches}
 use Rattle.cjc_decode.specs.declared.table.Matches.TheVariants.{Counted, Short, Int}
-use Rattle.cjc_sentences.specs.declared.spot.Spot.{Spot}
+use Rattle.cjc_sentences.specs.declared.spot.ComponentPlace.{ComponentPlace}
 use Rattle.cjc_sentences.specs.Spots.{in_info, unless}
 use Rattle.cjc_sentences.specs.Instructions.{IndexOperand, index_among, is_entry_for, pair_offsets}
 use Rattle.cjc_jumps.specs.declared.indices.IndexAt.{IndexAt}
@@ -71,5 +71,5 @@ abbrev pub AreNear : List IndexAt → Type 0
 AreNear xs = (k : ℕ) (d : IndexAt) → k < length xs → IsNear (get_or xs k d)
 
 -- where an index is broken
-abbrev pub index_spot : List PoolEntry → IndexOperand → List Spot
+abbrev pub index_spot : List PoolEntry → IndexOperand → List ComponentPlace
 index_spot entries i = unless (is_entry_for (slice_get entries i.index) i.opcode) (in_info 7 i.at)

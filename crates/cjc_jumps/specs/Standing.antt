@@ -3,7 +3,7 @@ use Rattle.std.specs.Prelude.{◌≡◌, ℕ, ◌+◌, ◌<◌, ◌≤◌, List,
 use Rattle.std.specs.List.{find}
 use Rattle.cjc_capread.specs.declared.tree.Handler.{Handler}
 use Rattle.cjc_capread.specs.declared.tree.PoolEntry.{PoolEntry}
-use Rattle.cjc_sentences.specs.declared.spot.Spot.{Spot}
+use Rattle.cjc_sentences.specs.declared.spot.ComponentPlace.{ComponentPlace}
 use Rattle.cjc_sentences.specs.Spots.{in_info, unless}
 use Rattle.cjc_sentences.specs.Codes.{Code}
 use Rattle.cjc_sentences.specs.Handlers.{in_code, is_classref}
@@ -14,7 +14,7 @@ abbrev pub range_ends : Code → Handler → Bool
 range_ends code h = has_start code (h.start + h.length) || h.start + h.length == code.end
 
 -- where a handler by itself is broken: its start, length, target or catch index
-abbrev pub handler_stands : List Code → List PoolEntry → (at : ℕ) → Handler → List Spot
+abbrev pub handler_stands : List Code → List PoolEntry → (at : ℕ) → Handler → List ComponentPlace
 handler_stands codes entries at h =
     in_code at h (find (λ code. has_start code h.start) codes)
     ++ unless (h.catch_index == 0 || is_classref (slice_get entries h.catch_index)) (in_info 7 (at + 6))

@@ -13,7 +13,7 @@ ghost use Rattle.cjc_sentences.specs.Spots.{along, first};
 use cjc_capread::{Handler, PoolEntry};
 use cjc_codes::Body;
 use cjc_lookup::{Test, earlier, first_along, is_among, unless};
-use cjc_sentences::Spot;
+use cjc_sentences::ComponentPlace;
 
 /// The tag of Method.
 const METHOD: u8 = 7;
@@ -73,7 +73,7 @@ fn range_ends(body: &Body<'_>, handler: Handler) -> bool
 
 /// The length or the target of a handler that is wrong, the handler beginning at an offset and its range in a method.
 #[tactic(auto, using(cjc_sentences::proofs::Firsts::first_append))]
-fn in_body(at: u32, handler: Handler, body: &Body<'_>) -> Option<Spot>
+fn in_body(at: u32, handler: Handler, body: &Body<'_>) -> Option<ComponentPlace>
     requires ready { IsBody body.now }
     requires small { 11 + at < 2 ^ 32 }
     ensures { result ≡ first (in_code at handler (Some (code_of body.now))) }
@@ -86,7 +86,7 @@ fn in_body(at: u32, handler: Handler, body: &Body<'_>) -> Option<Spot>
 }
 
 /// The start, the length or the target of a handler that is wrong, the handler beginning at an offset.
-fn in_code(at: u32, handler: Handler, bodies: &[Body<'_>]) -> Option<Spot>
+fn in_code(at: u32, handler: Handler, bodies: &[Body<'_>]) -> Option<ComponentPlace>
     requires ready { AreBodies bodies.now }
     requires apart { AreApart 0 (map code_of bodies.now) }
     requires small { 11 + at < 2 ^ 32 }
@@ -94,7 +94,7 @@ fn in_code(at: u32, handler: Handler, bodies: &[Body<'_>]) -> Option<Spot>
 {
     match body_with(bodies, handler.start) {
         Some(body) => in_body(at, handler, body),
-        None => Some(Spot {
+        None => Some(ComponentPlace {
             component: METHOD,
             offset: 3 + at,
         }),
@@ -117,7 +117,7 @@ impl Test<Handler> for Standing<'_, '_> {
     ghost fits = { λ s. AreBodies s.bodies.now × AreApart 0 (map code_of s.bodies.now) };
 
     #[tactic(auto, using(cjc_sentences::proofs::Firsts::first_append))]
-    fn first_in(&self, at: u32, item: &Handler) -> Option<Spot> {
+    fn first_in(&self, at: u32, item: &Handler) -> Option<ComponentPlace> {
         let found = in_code(at, *item, self.bodies);
         let is_caught = is_caught(self.entries, item.catch_index);
         earlier(found, unless(is_caught, METHOD, at + 6))
@@ -126,7 +126,7 @@ impl Test<Handler> for Standing<'_, '_> {
 
 /// The first target that is lower than that of the handler before, the first of which begins at an offset. A
 /// component has at most 255 handlers.
-fn targets_from(before: u64, from: u32, handlers: &[Handler]) -> Option<Spot>
+fn targets_from(before: u64, from: u32, handlers: &[Handler]) -> Option<ComponentPlace>
     requires { 3 + from + 8 * length handlers.now < 2 ^ 32 }
     ensures { result ≡ first (targets_from before from handlers.now) }
 {
@@ -148,7 +148,7 @@ pub fn handler_spot(
     handlers: &[Handler],
     bodies: &[Body<'_>],
     entries: &[PoolEntry],
-) -> Option<Spot>
+) -> Option<ComponentPlace>
     requires ready { AreBodies bodies.now }
     requires apart { AreApart 0 (map code_of bodies.now) }
     requires small { 4 + 8 * length handlers.now < 2 ^ 32 }

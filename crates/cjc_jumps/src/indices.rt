@@ -15,7 +15,7 @@ use cjc_capread::{PoolEntry, card};
 use cjc_codes::{At, Body};
 use cjc_decode::{Operands, Shape};
 use cjc_lookup::{earlier, unless};
-use cjc_sentences::Spot;
+use cjc_sentences::ComponentPlace;
 use std::alloc::Global;
 
 /// The tag of Method.
@@ -219,7 +219,7 @@ fn is_entry_for(entries: &[PoolEntry], index: u32, opcode: u8) -> bool
 }
 
 /// Where 711 is broken first: an index that names no entry of a tag that its opcode needs.
-pub fn index_spot(entries: &[PoolEntry], indices: &[IndexAt]) -> Option<Spot>
+pub fn index_spot(entries: &[PoolEntry], indices: &[IndexAt]) -> Option<ComponentPlace>
     requires { AreNear indices.now }
     ensures { result ≡ first (flat_map (index_spot entries.now) (map operand_at indices.now)) }
 {

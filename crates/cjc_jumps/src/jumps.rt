@@ -13,7 +13,7 @@ use cjc_capread::card;
 use cjc_codes::{At, Body};
 use cjc_decode::{Kind, Operands, Shape, Table, entry_size, operand};
 use cjc_lookup::{earlier, is_among, unless};
-use cjc_sentences::Spot;
+use cjc_sentences::ComponentPlace;
 
 /// The tag of Method.
 const METHOD: u8 = 7;
@@ -135,7 +135,7 @@ fn stays_inside(number: usize, count: usize, opcode: u8) -> bool
 }
 
 /// The place of an instruction that jumps elsewhere, or goes on outside.
-fn in_insn(body: &Body<'_>, placed: &At<'_>, stays: bool) -> Option<Spot>
+fn in_insn(body: &Body<'_>, placed: &At<'_>, stays: bool) -> Option<ComponentPlace>
     requires ready { IsBody body.now }
     requires kept { IsAt placed.now }
     ensures { result ≡ first (unless (jumps_land (code_of body.now) (placed_of placed.now) && stays) (in_info 7 placed.now.at)) }
@@ -144,7 +144,7 @@ fn in_insn(body: &Body<'_>, placed: &At<'_>, stays: bool) -> Option<Spot>
 }
 
 /// The first instruction that jumps elsewhere, or the last one where it falls off.
-fn in_code(body: &Body<'_>) -> Option<Spot>
+fn in_code(body: &Body<'_>) -> Option<ComponentPlace>
     requires { IsBody body.now }
     ensures { result ≡ first (in_code (code_of body.now) (map placed_of body.now.insns)) }
 {
@@ -166,7 +166,7 @@ fn has_code(body: &Body<'_>) -> bool
 
 /// The first place where the code of a method is broken.
 #[tactic(auto, using(cjc_sentences::proofs::Firsts::first_append))]
-fn code_spots(body: &Body<'_>) -> Option<Spot>
+fn code_spots(body: &Body<'_>) -> Option<ComponentPlace>
     requires { IsBody body.now }
     ensures { result ≡ first (code_spots (code_of body.now)) }
 {
@@ -176,7 +176,7 @@ fn code_spots(body: &Body<'_>) -> Option<Spot>
 
 /// Where 710 is broken first: an instruction that jumps elsewhere or falls off, or where the code of a method would
 /// begin.
-pub fn jump_spot(bodies: &[Body<'_>]) -> Option<Spot>
+pub fn jump_spot(bodies: &[Body<'_>]) -> Option<ComponentPlace>
     requires { AreBodies bodies.now }
     ensures { result ≡ first (flat_map code_spots (map code_of bodies.now)) }
 {

@@ -12,7 +12,7 @@ use crate::indices::IndexAt;
 use cjc_bytes::{NoMemory, Row};
 use cjc_capread::{Handler, ReferenceLocation};
 use cjc_lookup::{Comparison, earlier, first_beside, unless};
-use cjc_sentences::Spot;
+use cjc_sentences::ComponentPlace;
 use std::alloc::Global;
 
 /// The tag of ReferenceLocation.
@@ -128,14 +128,14 @@ impl Comparison<u8, u8> for Same {
 
     ghost fits = { λ s. Unit {0} };
 
-    fn first_between(&self, at: u32, item: &u8, other: &u8) -> Option<Spot> {
+    fn first_between(&self, at: u32, item: &u8, other: &u8) -> Option<ComponentPlace> {
         unless(*item == *other, LOCATIONS, at)
     }
 }
 
 /// The first of bytes behind their number that differs from what is wanted, the number standing at an offset.
 #[tactic(auto, using(cjc_sentences::proofs::Firsts::first_append, crate::proofs::Listed::one_each))]
-fn are_listed(at: u32, listed: &[u8], wanted: &[u8]) -> Option<Spot>
+fn are_listed(at: u32, listed: &[u8], wanted: &[u8]) -> Option<ComponentPlace>
     requires { 5 + at + length listed.now < 2 ^ 32 }
     ensures { result ≡ first (are_listed at listed.now wanted.now) }
 {
@@ -149,7 +149,7 @@ pub fn location_spot(
     locations: &ReferenceLocation,
     handlers: &[Handler],
     indices: &[IndexAt],
-) -> Result<Option<Spot>, NoMemory>
+) -> Result<Option<ComponentPlace>, NoMemory>
     requires handlers { 4 + 8 * length handlers.now < 2 ^ 32 }
     requires locations { 3 + locations_size locations.now < 2 ^ 32 }
     ensures { IfOk result (λ s. s ≡ first (are_listed 0 locations.now.one_byte (wanted_ones (map operand_at indices.now)) ++ are_listed (2 + length locations.now.one_byte) locations.now.two_byte (wanted_twos handlers.now (map operand_at indices.now)))) }

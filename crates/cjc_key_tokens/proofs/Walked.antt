@@ -6,12 +6,12 @@ use Rattle.cjc_classfile.specs.declared.tree.ClassTree.{ClassTree}
 use Rattle.cjc_world.specs.Files.{Files}
 use Rattle.cjc_world.specs.Added.{added}
 use Rattle.cjc_world.specs.Classes.{Class, all_classes, class_named, declared}
-use Rattle.cjc_world.specs.Kin.{IsKin, Kin, kin, upwards}
+use Rattle.cjc_world.specs.Supertypes.{AreSupertypes, Supertypes, supertypes, upwards}
 use Rattle.cjc_tokens.specs.Lines.{Declared, Imported, Line, Nowhere, line_at, line_in, line_of}
 use Rattle.cjc_tokens.specs.Members.{Signature}
 use Rattle.cjc_tokens.specs.Slots.{slots, token}
 use Rattle.cjc_tokens.proofs.Supers.{class_at-number, line-known}
-use Rattle.cjc_tokens.proofs.Walks.{kin-unknown}
+use Rattle.cjc_tokens.proofs.Walks.{supertypes-unknown}
 use Rattle.cjc_vtable.specs.Calls.{finds_hidden}
 use Rattle.cjc_key_tokens.specs.Walks.{IsHiddenHere, IsShownHere, TellsHidden}
 use Rattle.cjc_key_tokens.proofs.Lines.{hidden_above, hidden_found, hidden_none, shown_above}
@@ -27,20 +27,20 @@ HiddenSoFar files s n k = (c d : ClassTree) → slice_get files.classes n ≡ So
 abbrev pub ShownSoFar : Files → Signature → (first at : ℕ) → Type 0
 ShownSoFar files s n k = (c d : ClassTree) → slice_get files.classes n ≡ Some c → slice_get files.classes k ≡ Some d → token (slots (line_at (all_classes files) (declared k d))) s ≡ token (slots (line_at (all_classes files) (declared n c))) s
 
-module _ (files : Files) (is_kin : (xs : List (List ℕ)) → IsKin (all_classes files) xs (kin (all_classes files) xs)) (one_kin : (xs : List (List ℕ)) (j k : Kin) → IsKin (all_classes files) xs j → IsKin (all_classes files) xs k → j ≡ k) (s : Signature) where
+module _ (files : Files) (are_supertypes : (xs : List (List ℕ)) → AreSupertypes (all_classes files) xs (supertypes (all_classes files) xs)) (one_supertypes : (xs : List (List ℕ)) (j k : Supertypes) → AreSupertypes (all_classes files) xs j → AreSupertypes (all_classes files) xs k → j ≡ k) (s : Signature) where
   abbrev w : List Class
   w = all_classes files
 
   -- ---- lines
 
   pub unknown_line : (x : List ℕ) → class_named (all_classes files) x ≡ None → line_of (all_classes files) x ≡ Nowhere
-  unknown_line x e = ap (line_in w) (kin-unknown w is_kin one_kin x e)
+  unknown_line x e = ap (line_in w) (supertypes-unknown w are_supertypes one_supertypes x e)
 
   pub known_line : (x : List ℕ) (d : Class) → class_named (all_classes files) x ≡ Some d → line_of (all_classes files) x ≡ line_at (all_classes files) d
-  known_line x d e = line-known files is_kin one_kin x d e
+  known_line x d e = line-known files are_supertypes one_supertypes x d e
 
-  pub imported_line : (d : Class) → d.is_imported ≡ true → line_at (all_classes files) d ≡ Imported (d ∷ upwards (kin (all_classes files) d.supers))
-  imported_line d e = ap (λ b. if b then Imported (d ∷ upwards (kin w d.supers)) else Declared d (added w d) (line_in w (kin w d.supers))) e
+  pub imported_line : (d : Class) → d.is_imported ≡ true → line_at (all_classes files) d ≡ Imported (d ∷ upwards (supertypes (all_classes files) d.supers))
+  imported_line d e = ap (λ b. if b then Imported (d ∷ upwards (supertypes w d.supers)) else Declared d (added w d) (line_in w (supertypes w d.supers))) e
 
   -- a class of the package by its number
   pub by_number : (x : List ℕ) (n : ℕ) (t u : ClassTree) → class_named (all_classes files) x ≡ Some (declared n t) → slice_get files.classes n ≡ Some u → declared n u ≡ declared n t

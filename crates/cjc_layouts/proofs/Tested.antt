@@ -7,7 +7,7 @@ use Rattle.std.proofs.lemmas.List.{take_all}
 use Rattle.std.proofs.lemmas.List.Concat.{flat_map-cons}
 use Rattle.std.proofs.lemmas.Option.{slice_get_read}
 use Rattle.std.proofs.lemmas.List.Elements.{All-head, All-tail}
-use Rattle.cjc_bytes.specs.Breaks.{Break, Spot, at, each_from, list_spot}
+use Rattle.cjc_bytes.specs.Breaks.{Break, RulePlace, at, each_from, list_spot}
 use Rattle.cjc_world.specs.declared.found.Found.{Found}
 use Rattle.cjc_world.specs.Classes.{Class, all_classes, class_at}
 use Rattle.cjc_world.specs.Files.{Files}
@@ -61,11 +61,11 @@ empty_both (x ∷ xs) ys e = cc
 pub empty_left : {A : Type 0} (xs ys : List A) → xs ++ ys ≡ [] → xs ≡ []
 empty_left xs ys e = (empty_both xs ys e).0
 
-not_broken : (b : Bool) (s : Spot) (rule : ℕ) → at b s rule ≡ [] → b ≡ false
+not_broken : (b : Bool) (s : RulePlace) (rule : ℕ) → at b s rule ≡ [] → b ≡ false
 not_broken true s rule e = cc
 not_broken false s rule e = refl
 
-not_overtaken : (place : ℕ → Spot) (o : Option ℕ) → order_breaks place o ≡ [] → o ≡ None
+not_overtaken : (place : ℕ → RulePlace) (o : Option ℕ) → order_breaks place o ≡ [] → o ≡ None
 not_overtaken place None e = refl
 not_overtaken place (Some x) e = cc
 

@@ -10,7 +10,7 @@ ghost use Rattle.cjc_components.specs.Limits.{method_spot, order_breaks};
 ghost use Rattle.cjc_components.specs.Package.{Package};
 ghost use Rattle.cjc_methods.specs.Ready.{IsOwn};
 
-use cjc_bytes::{Break, NoMemory, Spot, broken, first};
+use cjc_bytes::{Break, NoMemory, RulePlace, broken, first};
 use cjc_keys::number;
 use cjc_methods::method_spot;
 use cjc_ncode::NMethod;
@@ -66,5 +66,5 @@ pub(crate) fn count_break<'w>(
 {
     let count = number(alloc, codes)?.keys().items().len();
     let is_broken = count > MOST_ENTRIES || exported > MOST_ENTRIES;
-    Ok(broken(is_broken, Spot::of_list(list), 414))
+    Ok(broken(is_broken, RulePlace::of_list(list), 414))
 }

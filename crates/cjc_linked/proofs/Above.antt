@@ -6,14 +6,14 @@ use Rattle.std.proofs.lemmas.List.{reverse-append, map-append, append-nil}
 use Rattle.std.proofs.lemmas.Grind.{flat_map-append}
 use Rattle.cjc_script.specs.declared.report.FieldValue.{FieldValue}
 use Rattle.cjc_world.specs.Classes.{Class, class_named}
-use Rattle.cjc_world.specs.Kin.{Kin, Known, IsAcyclic, kin, upwards}
+use Rattle.cjc_world.specs.Supertypes.{Supertypes, Known, IsAcyclic, supertypes, upwards}
 use Rattle.cjc_by_name.specs.Effects.{fresh_field}
 use Rattle.cjc_by_name.specs.OnePackage.{declared_fields}
 use Rattle.cjc_linked.specs.Fresh.{fresh_fields}
-use Rattle.cjc_linked.proofs.Heights.{kin_none, kin_unknown, kin_class}
+use Rattle.cjc_linked.proofs.Heights.{supertypes_none, supertypes_unknown, supertypes_class}
 
 -- those of the classes of a tree
-fields_in : Kin → List FieldValue
+fields_in : Supertypes → List FieldValue
 fields_in k = map fresh_field (flat_map declared_fields (reverse (upwards k)))
 
 fields_by : List Class → List FieldValue
@@ -30,7 +30,7 @@ alone c = ap (map fresh_field) (append-nil (declared_fields c))
 turned : (c : Class) (a b : List Class) → reverse (c ∷ (a ++ b)) ≡ reverse b ++ (reverse a ++ c ∷ [])
 turned c a b = reverse-append (c ∷ a) b ∙ ap (λ xs. reverse b ++ xs) (reverse-append (c ∷ []) a)
 
-known_fields : (c : Class) (s i n : Kin) → fields_in (Known c s i n) ≡ fields_in n ++ (fields_in s ++ map fresh_field (declared_fields c))
+known_fields : (c : Class) (s i n : Supertypes) → fields_in (Known c s i n) ≡ fields_in n ++ (fields_in s ++ map fresh_field (declared_fields c))
 unfolding fields_in fields_by
 known_fields c s i n =
     ap fields_by (turned c (upwards s) (upwards n))
@@ -40,15 +40,15 @@ known_fields c s i n =
 module _ (w : List Class) (acyclic : IsAcyclic w) where
   pub fresh_none : fresh_fields w [] ≡ []
   unfolding fields_in
-  fresh_none = ap fields_in (kin_none w acyclic)
+  fresh_none = ap fields_in (supertypes_none w acyclic)
 
   pub fresh_unknown : (x : List ℕ) (xs : List (List ℕ)) → class_named w x ≡ None → fresh_fields w (x ∷ xs) ≡ fresh_fields w xs
   unfolding fields_in
-  fresh_unknown x xs e = ap fields_in (kin_unknown w acyclic x xs e)
+  fresh_unknown x xs e = ap fields_in (supertypes_unknown w acyclic x xs e)
 
   fresh_known : (x : List ℕ) (xs : List (List ℕ)) (c : Class) → class_named w x ≡ Some c → fresh_fields w (x ∷ xs) ≡ fresh_fields w xs ++ (fresh_fields w c.supers ++ map fresh_field (declared_fields c))
   unfolding fields_in
-  fresh_known x xs c e = ap fields_in (kin_class w acyclic x xs c e) ∙ known_fields c (kin w c.supers) (kin w c.interfaces) (kin w xs)
+  fresh_known x xs c e = ap fields_in (supertypes_class w acyclic x xs c e) ∙ known_fields c (supertypes w c.supers) (supertypes w c.interfaces) (supertypes w xs)
 
   pub fresh_class : (x : List ℕ) (c : Class) → class_named w x ≡ Some c → fresh_fields w (x ∷ []) ≡ fresh_fields w c.supers ++ map fresh_field (declared_fields c)
   fresh_class x c e = fresh_known x [] c e ∙ ap (λ xs. xs ++ (fresh_fields w c.supers ++ map fresh_field (declared_fields c))) fresh_none

@@ -9,7 +9,7 @@ use Rattle.cjc_world.specs.Files.{Files}
 use Rattle.cjc_world.specs.Classes.{Member, Class, class_at, is_at}
 use Rattle.cjc_world.specs.Lookup.{own_method, member_at, is_called, find_method}
 use Rattle.cjc_world.specs.Subtype.{is_subtype}
-use Rattle.cjc_by_name.specs.OnePackage.{Hit, method_at, method_hit, entry_in, sent_named, sent_by, select_in, is_sendable}
+use Rattle.cjc_by_name.specs.OnePackage.{ResolvedMember, method_at, method_hit, entry_in, sent_named, sent_by, select_in, is_sendable}
 
 -- ---- what scripts call
 
@@ -22,14 +22,14 @@ at_itself c = by c.is_imported
 
 pub no_entry : (files : Files) (id : MemberId) (c : Class) → position (λ m. is_called id.name id.desc m) c.methods ≡ None → entry_in files id c ≡ None
 unfolding own_method
-no_entry files id c e = ap (λ o. option_and_then (λ f. option_and_then (λ hit. let h : Hit = hit in if is_static h.flags then method_at files f else None) (method_hit (c ∷ []) f)) (option_map (λ i. member_at c (length c.fields + i)) o)) e
+no_entry files id c e = ap (λ o. option_and_then (λ f. option_and_then (λ hit. let h : ResolvedMember = hit in if is_static h.flags then method_at files f else None) (method_hit (c ∷ []) f)) (option_map (λ i. member_at c (length c.fields + i)) o)) e
 
 pub entry_of : (files : Files) (id : MemberId) (c : Class) (place : ℕ) (m : Member) → position (λ m. is_called id.name id.desc m) c.methods ≡ Some place → slice_get c.methods place ≡ Some m
     → entry_in files id c ≡ (if is_static m.flags then method_at files (member_at c (length c.fields + place)) else None)
 unfolding own_method class_at
 entry_of files id c place m e s =
-    ap (λ o. option_and_then (λ f. option_and_then (λ hit. let h : Hit = hit in if is_static h.flags then method_at files f else None) (method_hit (c ∷ []) f)) (option_map (λ i. member_at c (length c.fields + i)) o)) e
-    ∙ ap (λ o. option_and_then (λ hit. let h : Hit = hit in if is_static h.flags then method_at files (member_at c (length c.fields + place)) else None) o) hit
+    ap (λ o. option_and_then (λ f. option_and_then (λ hit. let h : ResolvedMember = hit in if is_static h.flags then method_at files f else None) (method_hit (c ∷ []) f)) (option_map (λ i. member_at c (length c.fields + i)) o)) e
+    ∙ ap (λ o. option_and_then (λ hit. let h : ResolvedMember = hit in if is_static h.flags then method_at files (member_at c (length c.fields + place)) else None) o) hit
   where
     hit : method_hit (c ∷ []) (member_at c (length c.fields + place)) ≡ Some (record { owner = c; flags = m.flags })
     hit = ap (λ t. option_and_then (λ k. option_map (λ x. record { owner = k; flags = x.flags }) (slice_get k.methods ((length c.fields + place) - length k.fields))) (if t then Some c else None)) (at_itself c)
@@ -38,7 +38,7 @@ entry_of files id c place m e s =
 
 -- ---- what scripts send
 
-module _ (files : Files) (w : List Class) (type : List ℕ) (id : MemberId) (f : Found) (hit : Hit) (found : find_method w id.class id.name id.desc ≡ Some f) (is_hit : method_hit w f ≡ Some hit) where
+module _ (files : Files) (w : List Class) (type : List ℕ) (id : MemberId) (f : Found) (hit : ResolvedMember) (found : find_method w id.class id.name id.desc ≡ Some f) (is_hit : method_hit w f ≡ Some hit) where
   sent_is : sent_named files w type id ≡ sent_by files w (select_in w) type id hit
   sent_is = ap (option_and_then (λ f. option_and_then (sent_by files w (select_in w) type id) (method_hit w f))) found ∙ ap (option_and_then (sent_by files w (select_in w) type id)) is_hit
 

@@ -7,7 +7,7 @@ use Rattle.std.proofs.Math.Seq.{drop-cons}
 use Rattle.std.proofs.lemmas.List.{append_assoc}
 use Rattle.cjc_script.specs.declared.report.FieldValue.{FieldValue}
 use Rattle.cjc_world.specs.Classes.{Class, class_named}
-use Rattle.cjc_world.specs.Kin.{IsAcyclic, line}
+use Rattle.cjc_world.specs.Supertypes.{IsAcyclic, line}
 use Rattle.cjc_by_name.specs.Effects.{fresh_field}
 use Rattle.cjc_by_name.specs.OnePackage.{is_made, made_of, object_fields}
 use Rattle.cjc_world.proofs.Settled.{bytes-true, bytes-refl}

@@ -3,13 +3,13 @@ use Rattle.std.specs.Prelude.{List, Bool, Option, if◌then◌else◌}
 use Rattle.cjc_world.specs.declared.found.Found.{Found}
 use Rattle.cjc_world.specs.Classes.{Class}
 use Rattle.cjc_world.specs.Working.Known.{class_of}
-use Rattle.cjc_by_name.specs.OnePackage.{Hit, field_hit, method_hit}
+use Rattle.cjc_by_name.specs.OnePackage.{ResolvedMember, field_hit, method_hit}
 use Rattle.cjc_linked.specs.declared.hits.Owner.{Owner}
 
 -- its class and its flags
-abbrev pub hit_of : Owner → Hit
+abbrev pub hit_of : Owner → ResolvedMember
 hit_of owner = record { owner = class_of owner.class; flags = owner.flags }
 
 -- of a field, or of a method
-abbrev pub hit_at : (field : Bool) → List Class → Found → Option Hit
+abbrev pub hit_at : (field : Bool) → List Class → Found → Option ResolvedMember
 hit_at field w f = if field then field_hit w f else method_hit w f

@@ -6,14 +6,14 @@ use Rattle.std.specs.Str.{bytes_eq}
 use Rattle.cjc_script.specs.declared.report.FieldValue.{FieldValue}
 use Rattle.cjc_classfile.specs.declared.tree.ClassTree.{ClassTree}
 use Rattle.cjc_world.specs.Classes.{Class, class_named, field_of_class}
-use Rattle.cjc_world.specs.Kin.{kin, upwards}
+use Rattle.cjc_world.specs.Supertypes.{supertypes, upwards}
 use Rattle.cjc_by_name.specs.Effects.{fresh_field}
 use Rattle.cjc_by_name.specs.OnePackage.{declared_fields, instance_fields}
 use Rattle.cjc_linked.specs.declared.fresh.Fresh.{Fresh}
 
 -- the fields that some classes and their superclasses declare, a superclass's before its own, with what they hold at first
 abbrev pub fresh_fields : List Class → List (List ℕ) → List FieldValue
-fresh_fields w names = map fresh_field (flat_map declared_fields (reverse (upwards (kin w names))))
+fresh_fields w names = map fresh_field (flat_map declared_fields (reverse (upwards (supertypes w names))))
 
 -- what is kept for a name
 abbrev pub fresh_in : Fresh → List ℕ → Option (List FieldValue)

@@ -4,7 +4,7 @@
 ghost use Rattle.std.specs.Prelude.{◌≡◌, ◌&&◌, ℕ, List, Option, Some, None, not, option_map, option_and_then, MatchOption, if◌then◌else◌};
 ghost use Rattle.cjc_bytes.specs.declared.fault.MemberId.{MemberId as Id};
 ghost use Rattle.cjc_world.specs.Classes.{all_classes, class_named};
-ghost use Rattle.cjc_world.specs.Kin.{line};
+ghost use Rattle.cjc_world.specs.Supertypes.{line};
 ghost use Rattle.cjc_world.specs.Lookup.{is_selectable, receiver, find_method};
 ghost use Rattle.cjc_world.specs.Working.Known.{class_of};
 ghost use Rattle.cjc_by_name.specs.OnePackage.{callee_at, first_imported, first_super, selected_from, select_in, on_class, interface_callee, direct_call, super_call, special_call, static_call, virtual_call, interface_call, call_by, call_named, method_hit, method_at, is_constructor, is_initialiser};

@@ -9,7 +9,7 @@ ghost use Rattle.cjc_world.specs.Classes.{class_named};
 ghost use Rattle.cjc_world.specs.Subtype.{is_subtype};
 ghost use Rattle.cjc_world.specs.Working.Known.{class_of};
 ghost use Rattle.cjc_world.specs.Working.Spots.{IsCounted};
-ghost use Rattle.cjc_by_name.specs.OnePackage.{Hit, method_at, made_of, is_made, is_plain_import, is_sendable, select_in, entry_in, entry_named, sent_named};
+ghost use Rattle.cjc_by_name.specs.OnePackage.{ResolvedMember, method_at, made_of, is_made, is_plain_import, is_sendable, select_in, entry_in, entry_named, sent_named};
 ghost use Rattle.cjc_linked.specs.Linkage.{linked_of};
 ghost use Rattle.cjc_linked.specs.Methods.{AreIndices};
 
@@ -127,7 +127,7 @@ impl<'w, 'a> Links<'w, 'a> {
 
     // Whether a method may be sent to an object of a type.
     fn is_sent(&self, type_name: &[u8], id: &MemberId, flags: u16) -> bool
-        ensures { (hit : Hit) → hit.flags ≡ flags → result ≡ (is_sendable id.now hit && is_subtype (all_classes self.now.files) type_name.now id.now.class) }
+        ensures { (hit : ResolvedMember) → hit.flags ≡ flags → result ≡ (is_sendable id.now hit && is_subtype (all_classes self.now.files) type_name.now id.now.class) }
     {
         is_selectable(flags)
             && !is_constructor(id.name.items())

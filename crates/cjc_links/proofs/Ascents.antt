@@ -5,7 +5,7 @@ use Rattle.std.proofs.lemmas.Option.{slice_get-get_or, slice_get_past}
 use Rattle.cjc_capread.specs.declared.tree.ClassInfo.{ClassInfo}
 use Rattle.cjc_capread.specs.declared.tree.ClassDescriptor.{ClassDescriptor}
 use Rattle.cjc_capread.specs.declared.tree.MethodDescriptor.{MethodDescriptor}
-use Rattle.cjc_sentences.specs.declared.spot.Spot.{Spot}
+use Rattle.cjc_sentences.specs.declared.spot.ComponentPlace.{ComponentPlace}
 use Rattle.cjc_sentences.specs.Spots.{earlier, first, in_info, unless}
 use Rattle.cjc_sentences.specs.Complete.{described_size}
 use Rattle.cjc_sentences.specs.Described.{all_ascend, is_after, last_offset, methods_ascend, methods_in_class, offset_after}
@@ -13,7 +13,7 @@ use Rattle.cjc_sentences.proofs.Firsts.{earlier_none, earlier_assoc, first_appen
 
 -- ---- the methods of one class
 
-pub methods_more : (before : Option ℕ) (at i : ℕ) (d : MethodDescriptor) (ms : List MethodDescriptor) (best found total : Option Spot)
+pub methods_more : (before : Option ℕ) (at i : ℕ) (d : MethodDescriptor) (ms : List MethodDescriptor) (best found total : Option ComponentPlace)
     → i < length ms → found ≡ first (unless (is_after before (get_or ms i d).offset) (in_info 11 (at + 2)))
     → earlier best (first (methods_ascend before at (drop i ms))) ≡ total
     → earlier (earlier best found) (first (methods_ascend (Some (get_or ms i d).offset) (at + 12) (drop (i + 1) ms))) ≡ total
@@ -26,7 +26,7 @@ methods_more before at i d ms best found total lt f so_far =
     ap (λ (ys : List MethodDescriptor). first (methods_ascend before at ys)) (drop_more ms i d lt) ∙ first_append front rest in
     rw f (earlier_assoc best (first front) (first rest) ∙ ap (earlier best) (sym one) ∙ so_far)
 
-pub methods_all : (before : Option ℕ) (at i : ℕ) (ms : List MethodDescriptor) (best total : Option Spot)
+pub methods_all : (before : Option ℕ) (at i : ℕ) (ms : List MethodDescriptor) (best total : Option ComponentPlace)
     → length ms ≤ i → earlier best (first (methods_ascend before at (drop i ms))) ≡ total → best ≡ total
 unfolding methods_ascend first
 methods_all before at i ms best total le so_far =
@@ -41,7 +41,7 @@ last_all before i ms total le so_far = sym (ap (last_offset before) (drop_all i 
 
 -- ---- all classes
 
-pub ascend_more : (info : ClassInfo) (before next : Option ℕ) (at after i : ℕ) (x : ClassDescriptor) (xs : List ClassDescriptor) (best found total : Option Spot)
+pub ascend_more : (info : ClassInfo) (before next : Option ℕ) (at after i : ℕ) (x : ClassDescriptor) (xs : List ClassDescriptor) (best found total : Option ComponentPlace)
     → i < length xs → x ≡ get_or xs i x → after ≡ at + described_size x → next ≡ offset_after info before x → found ≡ first (methods_in_class info before at x)
     → earlier best (first (all_ascend info before at (drop i xs))) ≡ total
     → earlier (earlier best found) (first (all_ascend info next after (drop (i + 1) xs))) ≡ total
@@ -54,7 +54,7 @@ ascend_more info before next at after i x xs best found total lt is n m f so_far
     ap (λ (ys : List ClassDescriptor). first (all_ascend info before at ys)) d ∙ first_append front rest in
     rw (n, m, f) (earlier_assoc best (first front) (first rest) ∙ ap (earlier best) (sym one) ∙ so_far)
 
-pub ascend_all : (info : ClassInfo) (before : Option ℕ) (at i : ℕ) (xs : List ClassDescriptor) (best total : Option Spot)
+pub ascend_all : (info : ClassInfo) (before : Option ℕ) (at i : ℕ) (xs : List ClassDescriptor) (best total : Option ComponentPlace)
     → length xs ≤ i → earlier best (first (all_ascend info before at (drop i xs))) ≡ total → best ≡ total
 unfolding all_ascend first
 ascend_all info before at i xs best total le so_far =

@@ -2,7 +2,7 @@
 use Rattle.std.proofs.Common.{◌≡◌, ℕ, ◌+◌, ◌/◌, ◌<◌, ◌≤◌, Bool, List, [], ◌∷◌, ◌++◌, length, get_or, drop, refl, sym, ap, ◌∙◌, arith, Option, length-drop}
 use Rattle.std.proofs.Math.Seq.{drop-drop}
 use Rattle.cjc_capread.specs.declared.tree.ClassRef.{ClassRef}
-use Rattle.cjc_sentences.specs.declared.spot.Spot.{Spot}
+use Rattle.cjc_sentences.specs.declared.spot.ComponentPlace.{ComponentPlace}
 use Rattle.cjc_sentences.specs.Spots.{earlier, first}
 use Rattle.cjc_sentences.specs.ClassRefs.{in_nibbles}
 use Rattle.cjc_links.specs.Nibbles.{names_class, nibble_width, in_front}
@@ -19,7 +19,7 @@ part test at i (n ∷ a ∷ b ∷ []) le = absurd (omega (arith, le))
 part test at i (n ∷ a ∷ b ∷ c ∷ []) le = absurd (omega (arith, le))
 part test at i (n ∷ a ∷ b ∷ c ∷ d ∷ xs) le = either (names_class n) (λ is. rw is refl) (λ is. rw is refl)
 
-pub nibbles_more : (test : ClassRef → Bool) (at i : ℕ) (xs rest : List ℕ) (next : ℕ) (best found total : Option Spot)
+pub nibbles_more : (test : ClassRef → Bool) (at i : ℕ) (xs rest : List ℕ) (next : ℕ) (best found total : Option ComponentPlace)
     → i + 4 < length xs → rest ≡ drop i xs → next ≡ i + nibble_width (get_or rest 0 0) → found ≡ first (in_front test (at + 1 + (i + 1) / 2) rest)
     → earlier best (first (in_nibbles test at i (drop i xs))) ≡ total
     → earlier (earlier best found) (first (in_nibbles test at next (drop next xs))) ≡ total
@@ -43,12 +43,12 @@ short test at i (n ∷ a ∷ b ∷ []) lt = refl
 short test at i (n ∷ a ∷ b ∷ c ∷ []) lt = refl
 short test at i (n ∷ a ∷ b ∷ c ∷ d ∷ xs) lt = absurd (omega (arith, lt))
 
-pub nibbles_all : (test : ClassRef → Bool) (at i : ℕ) (xs : List ℕ) (best total : Option Spot) → length xs ≤ i + 4
+pub nibbles_all : (test : ClassRef → Bool) (at i : ℕ) (xs : List ℕ) (best total : Option ComponentPlace) → length xs ≤ i + 4
     → earlier best (first (in_nibbles test at i (drop i xs))) ≡ total → best ≡ total
 unfolding first
 nibbles_all test at i xs best total le so_far =
     let e = short test at i (drop i xs) (omega (arith, length-drop i xs, le)) in
-    sym (earlier_none best) ∙ ap (λ (spots : List Spot). earlier best (first spots)) (sym e) ∙ so_far
+    sym (earlier_none best) ∙ ap (λ (spots : List ComponentPlace). earlier best (first spots)) (sym e) ∙ so_far
 
 pub width_le : (nibble : ℕ) → nibble_width nibble ≤ 5
 width_le nibble = either (names_class nibble) (λ is. rw is (omega arith)) (λ is. rw is (omega arith))

@@ -17,7 +17,7 @@ use cjc_lookup::{
     Comparison, Item, Names, Numbered, Test, earlier, first_along, first_beside, first_numbered,
     is_among, is_own_class, pool_count_at, starts, unless,
 };
-use cjc_sentences::Spot;
+use cjc_sentences::ComponentPlace;
 use std::alloc::Global;
 
 /// The tag of Descriptor.
@@ -59,7 +59,12 @@ impl Numbered<ClassDescriptor> for InOrder<'_> {
 
     ghost fits = { λ s. IsIndexed s.names.now };
 
-    fn first_at_number(&self, number: usize, at: u32, item: &ClassDescriptor) -> Option<Spot> {
+    fn first_at_number(
+        &self,
+        number: usize,
+        at: u32,
+        item: &ClassDescriptor,
+    ) -> Option<ComponentPlace> {
         let start = start_at(self.names, number);
         unless(is_start_of(start, item.this_class), DESCRIPTOR, at + 2)
     }
@@ -75,7 +80,7 @@ fn has_all_classes(names: &Names<'_>) -> bool
 }
 
 /// The first class_ref of another class than that of its place in Class, or the number of classes where one is missing.
-fn classes_in_order(names: &Names<'_>) -> Option<Spot>
+fn classes_in_order(names: &Names<'_>) -> Option<ComponentPlace>
     requires ready { IsIndexed names.now }
     requires small { AreSmall (complete_of names.now.parts.now) }
     ensures { result ≡ first (classes_in_order names.now.parts.now.descriptor.now.classes (all_starts names.now.parts.now.class.now)) }
@@ -96,7 +101,11 @@ fn is_after(before: Option<u64>, offset: u64) -> bool
 }
 
 /// The first method whose offset is not after the one before; the methods begin at an offset of Descriptor.
-fn methods_ascend(before: Option<u64>, from: u32, methods: &[MethodDescriptor]) -> Option<Spot>
+fn methods_ascend(
+    before: Option<u64>,
+    from: u32,
+    methods: &[MethodDescriptor],
+) -> Option<ComponentPlace>
     requires { 3 + from + 12 * length methods.now < 2 ^ 32 }
     ensures { result ≡ first (methods_ascend before from methods.now) }
 {
@@ -133,7 +142,7 @@ fn methods_in_class(
     before: Option<u64>,
     at: u32,
     class: &ClassDescriptor,
-) -> Option<Spot>
+) -> Option<ComponentPlace>
     requires ready { IsIndexed names.now }
     requires small { 3 + at + described_size class.now < 2 ^ 32 }
     ensures { result ≡ first (methods_in_class names.now.parts.now.class.now before at class.now) }
@@ -174,7 +183,7 @@ fn offset_after(names: &Names<'_>, before: Option<u64>, class: &ClassDescriptor)
 }
 
 /// The first method of a class whose offset is not after the one before.
-fn all_ascend(names: &Names<'_>, classes: &[ClassDescriptor]) -> Option<Spot>
+fn all_ascend(names: &Names<'_>, classes: &[ClassDescriptor]) -> Option<ComponentPlace>
     requires ready { IsIndexed names.now }
     requires small { 4 + sum_by described_size classes.now < 2 ^ 32 }
     ensures { result ≡ first (all_ascend names.now.parts.now.class.now None 1 classes.now) }
@@ -212,7 +221,7 @@ impl Test<FieldDescriptor> for Types<'_> {
 
     ghost fits = { λ s. s.starts.now ≡ starts type_size (2 + 2 * length s.descriptor.now.pool_types) s.descriptor.now.types };
 
-    fn first_in(&self, at: u32, item: &FieldDescriptor) -> Option<Spot> {
+    fn first_in(&self, at: u32, item: &FieldDescriptor) -> Option<ComponentPlace> {
         let is_there = match item.type_ {
             FieldType::Described(offset) => self.is_type(offset),
             _ => true,
@@ -226,7 +235,7 @@ impl Test<MethodDescriptor> for Types<'_> {
 
     ghost fits = { λ s. s.starts.now ≡ starts type_size (2 + 2 * length s.descriptor.now.pool_types) s.descriptor.now.types };
 
-    fn first_in(&self, at: u32, item: &MethodDescriptor) -> Option<Spot> {
+    fn first_in(&self, at: u32, item: &MethodDescriptor) -> Option<ComponentPlace> {
         unless(self.is_type(item.type_offset), DESCRIPTOR, at + 4)
     }
 }
@@ -237,7 +246,7 @@ impl Test<ClassDescriptor> for Types<'_> {
     ghost fits = { λ s. s.starts.now ≡ starts type_size (2 + 2 * length s.descriptor.now.pool_types) s.descriptor.now.types };
 
     #[tactic(auto, using(cjc_sentences::proofs::Firsts::first_append, cjc_sentences::proofs::Arrays::seven_each, cjc_sentences::proofs::Arrays::twelve_each))]
-    fn first_in(&self, at: u32, item: &ClassDescriptor) -> Option<Spot> {
+    fn first_in(&self, at: u32, item: &ClassDescriptor) -> Option<ComponentPlace> {
         let fields = first_along(self, fields_begin(at, item), item.fields.items());
         let methods = first_along(self, methods_begin(at, item), item.methods.items());
         earlier(fields, methods)
@@ -249,7 +258,7 @@ impl Comparison<u64, PoolEntry> for Types<'_> {
 
     ghost fits = { λ s. s.starts.now ≡ starts type_size (2 + 2 * length s.descriptor.now.pool_types) s.descriptor.now.types };
 
-    fn first_between(&self, at: u32, item: &u64, other: &PoolEntry) -> Option<Spot> {
+    fn first_between(&self, at: u32, item: &u64, other: &PoolEntry) -> Option<ComponentPlace> {
         let has_type = match *other {
             PoolEntry::Classref(_) => *item == 0xFFFF,
             _ => *item != 0xFFFF && self.is_type(*item),
@@ -259,7 +268,7 @@ impl Comparison<u64, PoolEntry> for Types<'_> {
 }
 
 /// The first type of a field or method that is not there.
-fn types_in_classes(types: &Types<'_>) -> Option<Spot>
+fn types_in_classes(types: &Types<'_>) -> Option<ComponentPlace>
     requires ready { types.now.starts.now ≡ starts type_size (2 + 2 * length types.now.descriptor.now.pool_types) types.now.descriptor.now.types }
     requires small { 3 + descriptor_size types.now.descriptor.now < 2 ^ 32 }
     ensures { result ≡ first (along described_size (types_in_class types.now.descriptor.now) 1 types.now.descriptor.now.classes) }
@@ -269,7 +278,7 @@ fn types_in_classes(types: &Types<'_>) -> Option<Spot>
 
 /// The first type of an entry of the constant pool that is not there.
 #[tactic(auto, using(cjc_sentences::proofs::Arrays::two_each))]
-fn types_in_pool(types: &Types<'_>, entries: &[PoolEntry]) -> Option<Spot>
+fn types_in_pool(types: &Types<'_>, entries: &[PoolEntry]) -> Option<ComponentPlace>
     requires ready { types.now.starts.now ≡ starts type_size (2 + 2 * length types.now.descriptor.now.pool_types) types.now.descriptor.now.types }
     requires small { 3 + descriptor_size types.now.descriptor.now < 2 ^ 32 }
     ensures { result ≡ first (types_in_pool types.now.descriptor.now (pool_count_at types.now.descriptor.now + 2) types.now.descriptor.now.pool_types entries.now) }
@@ -279,7 +288,7 @@ fn types_in_pool(types: &Types<'_>, entries: &[PoolEntry]) -> Option<Spot>
 }
 
 /// Whether Descriptor has a type for each entry of the constant pool.
-fn count_spot(descriptor: &Descriptor, entries: &[PoolEntry]) -> Option<Spot>
+fn count_spot(descriptor: &Descriptor, entries: &[PoolEntry]) -> Option<ComponentPlace>
     requires { 3 + descriptor_size descriptor.now < 2 ^ 32 }
     ensures { result ≡ first (unless (length descriptor.now.pool_types == length entries.now) (in_info 11 (pool_count_at descriptor.now))) }
 {
@@ -297,7 +306,7 @@ fn type_starts(alloc: Global, descriptor: &Descriptor) -> Result<Row<u64>, NoMem
 }
 
 /// The first place where 718 is broken, where types begin at these offsets.
-fn described_spot(names: &Names<'_>, offsets: &[u64]) -> Option<Spot>
+fn described_spot(names: &Names<'_>, offsets: &[u64]) -> Option<ComponentPlace>
     requires ready { IsIndexed names.now }
     requires small { AreSmall (complete_of names.now.parts.now) }
     requires typed { offsets.now ≡ starts type_size (2 + 2 * length names.now.parts.now.descriptor.now.pool_types) names.now.parts.now.descriptor.now.types }
@@ -322,7 +331,7 @@ fn described_spot(names: &Names<'_>, offsets: &[u64]) -> Option<Spot>
 
 /// Where 718 is broken first: a class_ref, the number of classes, the offset of a method, the offset of a type,
 /// or the number of pool entries.
-pub fn descriptor_spot(alloc: Global, names: &Names<'_>) -> Result<Option<Spot>, NoMemory>
+pub fn descriptor_spot(alloc: Global, names: &Names<'_>) -> Result<Option<ComponentPlace>, NoMemory>
     requires ready { IsIndexed names.now }
     requires small { AreSmall (complete_of names.now.parts.now) }
     ensures { IfOk result (λ s. s ≡ first (descriptor_spots (complete_of names.now.parts.now))) }

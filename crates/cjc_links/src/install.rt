@@ -10,7 +10,7 @@ ghost use Rattle.cjc_lookup.specs.Parts.{complete_of};
 
 use cjc_capread::AppletEntry;
 use cjc_lookup::{Methods, Test, first_along, unless};
-use cjc_sentences::Spot;
+use cjc_sentences::ComponentPlace;
 
 /// The tag of Applet.
 const APPLET: u8 = 3;
@@ -26,7 +26,7 @@ impl Test<AppletEntry> for Installs<'_> {
 
     ghost fits = { λ s. HasMethods s.methods.now };
 
-    fn first_in(&self, at: u32, item: &AppletEntry) -> Option<Spot> {
+    fn first_in(&self, at: u32, item: &AppletEntry) -> Option<ComponentPlace> {
         let is_start = self.methods.is_static_start(item.install_method);
         unless(is_start, APPLET, at + 1 + item.aid.items().len() as u32)
     }
@@ -34,7 +34,7 @@ impl Test<AppletEntry> for Installs<'_> {
 
 /// Where 715 is broken first: the offset of an install method.
 #[tactic(auto, unfolding(cjc_sentences::specs::Spots::along, cjc_sentences::specs::Spots::first))]
-pub fn install_spot(methods: &Methods<'_>) -> Option<Spot>
+pub fn install_spot(methods: &Methods<'_>) -> Option<ComponentPlace>
     requires ready { HasMethods methods.now }
     requires small { AreSmall (complete_of methods.now.names.now.parts.now) }
     ensures { result ≡ first (install_spots (complete_of methods.now.names.now.parts.now)) }

@@ -15,7 +15,7 @@ use cjc_capread::{
     InterfaceEntry, PoolEntry, TypeDescriptor,
 };
 use cjc_lookup::{Names, Test, Want, earlier, first_along, first_class, types_begin, unless};
-use cjc_sentences::Spot;
+use cjc_sentences::ComponentPlace;
 
 /// The tag of ConstantPool.
 const POOL: u8 = 5;
@@ -42,7 +42,7 @@ struct Row<'a> {
 
 impl Refs<'_> {
     /// The place of a class_ref that does not name what it is to name.
-    pub(crate) fn spot(&self, class: ClassRef, tag: u8, at: u32) -> Option<Spot>
+    pub(crate) fn spot(&self, class: ClassRef, tag: u8, at: u32) -> Option<ComponentPlace>
         requires ready { IsIndexed self.now.names.now }
         requires small { 3 + at < 2 ^ 32 }
         ensures { result ≡ first (one_ref (names_as self.now.want self.now.names.now.parts.now.class.now self.now.names.now.exports.now) tag at class) }
@@ -52,7 +52,7 @@ impl Refs<'_> {
 
     /// The first of several class_refs that does not name what it is to name, the first of which begins at an offset.
     #[tactic(auto, using(cjc_sentences::proofs::Arrays::two_each))]
-    pub(crate) fn each(&self, classes: &[ClassRef], tag: u8, at: u32) -> Option<Spot>
+    pub(crate) fn each(&self, classes: &[ClassRef], tag: u8, at: u32) -> Option<ComponentPlace>
         requires ready { IsIndexed self.now.names.now }
         requires small { 3 + at + 2 * length classes.now < 2 ^ 32 }
         ensures { result ≡ first (each_ref (names_as self.now.want self.now.names.now.parts.now.class.now self.now.names.now.exports.now) tag at classes.now) }
@@ -62,7 +62,7 @@ impl Refs<'_> {
 
     /// The first field of Descriptor whose class is not what it is to be.
     #[tactic(auto, using(cjc_sentences::proofs::Arrays::seven_each))]
-    fn in_fields(&self, fields: &[FieldDescriptor], at: u32) -> Option<Spot>
+    fn in_fields(&self, fields: &[FieldDescriptor], at: u32) -> Option<ComponentPlace>
         requires ready { IsIndexed self.now.names.now }
         requires small { 3 + at + 7 * length fields.now < 2 ^ 32 }
         ensures { result ≡ first (along (λ x. 7) (in_field (names_as self.now.want self.now.names.now.parts.now.class.now self.now.names.now.exports.now)) at fields.now) }
@@ -71,7 +71,7 @@ impl Refs<'_> {
     }
 
     /// The first map of a class, which begins at an offset, whose interface is not what it is to be.
-    pub(crate) fn in_maps(&self, class: &ClassEntry, at: u32) -> Option<Spot>
+    pub(crate) fn in_maps(&self, class: &ClassEntry, at: u32) -> Option<ComponentPlace>
         requires ready { IsIndexed self.now.names.now }
         requires small { 3 + at + class_size class.now < 2 ^ 32 }
         ensures { result ≡ first (in_maps (names_as self.now.want self.now.names.now.parts.now.class.now self.now.names.now.exports.now) at class.now) }
@@ -82,7 +82,7 @@ impl Refs<'_> {
     }
 
     /// The place of the class at the front of nibbles, where there is one that does not name what it is to name.
-    fn in_front(&self, nibbles: &[u8], at: u32) -> Option<Spot>
+    fn in_front(&self, nibbles: &[u8], at: u32) -> Option<ComponentPlace>
         requires ready { IsIndexed self.now.names.now }
         requires small { 3 + at < 2 ^ 32 }
         requires five { 5 ≤ length nibbles.now }
@@ -95,7 +95,7 @@ impl Refs<'_> {
     }
 
     /// The first class in the nibbles of a type that does not name what it is to name, the type beginning at an offset.
-    fn in_nibbles(&self, nibbles: &[u8], at: u32) -> Option<Spot>
+    fn in_nibbles(&self, nibbles: &[u8], at: u32) -> Option<ComponentPlace>
         requires ready { IsIndexed self.now.names.now }
         requires small { 4 + at + length nibbles.now / 2 < 2 ^ 32 }
         ensures { result ≡ first (in_nibbles (names_as self.now.want self.now.names.now.parts.now.class.now self.now.names.now.exports.now) at 0 nibbles.now) }
@@ -130,7 +130,7 @@ impl Test<ClassRef> for Row<'_> {
 
     ghost fits = { λ s. IsIndexed s.refs.now.names.now };
 
-    fn first_in(&self, at: u32, item: &ClassRef) -> Option<Spot> {
+    fn first_in(&self, at: u32, item: &ClassRef) -> Option<ComponentPlace> {
         self.refs.spot(*item, self.tag, at)
     }
 }
@@ -141,7 +141,7 @@ impl Test<PoolEntry> for Refs<'_> {
     ghost fits = { λ s. IsIndexed s.names.now };
 
     #[tactic(auto, unfolding(cjc_sentences::specs::Spots::first))]
-    fn first_in(&self, at: u32, item: &PoolEntry) -> Option<Spot> {
+    fn first_in(&self, at: u32, item: &PoolEntry) -> Option<ComponentPlace> {
         match *item {
             PoolEntry::Classref(class) => self.spot(class, POOL, at + 1),
             PoolEntry::InstanceFieldref { class, .. } => self.spot(class, POOL, at + 1),
@@ -158,7 +158,7 @@ impl Test<InterfaceEntry> for Refs<'_> {
 
     ghost fits = { λ s. IsIndexed s.names.now };
 
-    fn first_in(&self, at: u32, item: &InterfaceEntry) -> Option<Spot> {
+    fn first_in(&self, at: u32, item: &InterfaceEntry) -> Option<ComponentPlace> {
         self.each(item.superinterfaces.items(), CLASS, at + 1)
     }
 }
@@ -168,7 +168,7 @@ impl Test<ImplementedInterface> for Refs<'_> {
 
     ghost fits = { λ s. IsIndexed s.names.now };
 
-    fn first_in(&self, at: u32, item: &ImplementedInterface) -> Option<Spot> {
+    fn first_in(&self, at: u32, item: &ImplementedInterface) -> Option<ComponentPlace> {
         self.spot(item.interface, CLASS, at)
     }
 }
@@ -179,7 +179,7 @@ impl Test<FieldDescriptor> for Refs<'_> {
     ghost fits = { λ s. IsIndexed s.names.now };
 
     #[tactic(auto, unfolding(cjc_sentences::specs::Spots::first))]
-    fn first_in(&self, at: u32, item: &FieldDescriptor) -> Option<Spot> {
+    fn first_in(&self, at: u32, item: &FieldDescriptor) -> Option<ComponentPlace> {
         match item.place {
             FieldPlace::Static(_) => None,
             FieldPlace::Instance { class, .. } => self.spot(class, DESCRIPTOR, at + 2),
@@ -192,7 +192,7 @@ impl Test<TypeDescriptor> for Refs<'_> {
 
     ghost fits = { λ s. IsIndexed s.names.now };
 
-    fn first_in(&self, at: u32, item: &TypeDescriptor) -> Option<Spot> {
+    fn first_in(&self, at: u32, item: &TypeDescriptor) -> Option<ComponentPlace> {
         self.in_nibbles(item.nibbles.items(), at)
     }
 }
@@ -203,7 +203,7 @@ impl Test<ClassEntry> for Refs<'_> {
     ghost fits = { λ s. IsIndexed s.names.now };
 
     #[tactic(auto, using(cjc_sentences::proofs::Firsts::first_append))]
-    fn first_in(&self, at: u32, item: &ClassEntry) -> Option<Spot> {
+    fn first_in(&self, at: u32, item: &ClassEntry) -> Option<ComponentPlace> {
         let superclass = self.spot(item.superclass, CLASS, at + 1);
         earlier(superclass, self.in_maps(item, at))
     }
@@ -215,7 +215,7 @@ impl Test<ClassDescriptor> for Refs<'_> {
     ghost fits = { λ s. IsIndexed s.names.now };
 
     #[tactic(auto, using(cjc_sentences::proofs::Firsts::first_append))]
-    fn first_in(&self, at: u32, item: &ClassDescriptor) -> Option<Spot> {
+    fn first_in(&self, at: u32, item: &ClassDescriptor) -> Option<ComponentPlace> {
         let interfaces = item.interfaces.items();
         let class = self.spot(item.this_class, DESCRIPTOR, at + 2);
         let supers = self.each(interfaces, DESCRIPTOR, at + 9);
@@ -229,7 +229,7 @@ impl Test<ClassDescriptor> for Refs<'_> {
 
 /// The first entry of the constant pool whose class is not what it is to be.
 #[tactic(auto, using(cjc_sentences::proofs::Arrays::four_each))]
-fn pool_refs(refs: &Refs<'_>) -> Option<Spot>
+fn pool_refs(refs: &Refs<'_>) -> Option<ComponentPlace>
     requires ready { IsIndexed refs.now.names.now }
     requires small { AreSmall (complete_of refs.now.names.now.parts.now) }
     ensures { result ≡ first (along (λ x. 4) (in_entry (names_as refs.now.want refs.now.names.now.parts.now.class.now refs.now.names.now.exports.now)) 2 refs.now.names.now.parts.now.pool.now.entries) }
@@ -238,7 +238,7 @@ fn pool_refs(refs: &Refs<'_>) -> Option<Spot>
 }
 
 /// The first superinterface of an interface that is not what it is to be.
-pub(crate) fn interface_refs(refs: &Refs<'_>) -> Option<Spot>
+pub(crate) fn interface_refs(refs: &Refs<'_>) -> Option<ComponentPlace>
     requires ready { IsIndexed refs.now.names.now }
     requires small { AreSmall (complete_of refs.now.names.now.parts.now) }
     ensures { result ≡ first (along interface_size (in_interface (names_as refs.now.want refs.now.names.now.parts.now.class.now refs.now.names.now.exports.now)) first_interface refs.now.names.now.parts.now.class.now.interfaces) }
@@ -247,7 +247,7 @@ pub(crate) fn interface_refs(refs: &Refs<'_>) -> Option<Spot>
 }
 
 /// The first superclass, or interface of a map, that is not what it is to be.
-fn class_refs(refs: &Refs<'_>) -> Option<Spot>
+fn class_refs(refs: &Refs<'_>) -> Option<ComponentPlace>
     requires ready { IsIndexed refs.now.names.now }
     requires small { AreSmall (complete_of refs.now.names.now.parts.now) }
     ensures { result ≡ first (along class_size (in_class (names_as refs.now.want refs.now.names.now.parts.now.class.now refs.now.names.now.exports.now)) (first_class refs.now.names.now.parts.now.class.now) refs.now.names.now.parts.now.class.now.classes) }
@@ -257,7 +257,7 @@ fn class_refs(refs: &Refs<'_>) -> Option<Spot>
 }
 
 /// The first class_ref of a class of Descriptor that is not what it is to be.
-fn described_refs(refs: &Refs<'_>) -> Option<Spot>
+fn described_refs(refs: &Refs<'_>) -> Option<ComponentPlace>
     requires ready { IsIndexed refs.now.names.now }
     requires small { AreSmall (complete_of refs.now.names.now.parts.now) }
     ensures { result ≡ first (along described_size (in_described (names_as refs.now.want refs.now.names.now.parts.now.class.now refs.now.names.now.exports.now)) 1 refs.now.names.now.parts.now.descriptor.now.classes) }
@@ -266,7 +266,7 @@ fn described_refs(refs: &Refs<'_>) -> Option<Spot>
 }
 
 /// The first class_ref of a type of Descriptor that is not what it is to be.
-fn type_refs(refs: &Refs<'_>) -> Option<Spot>
+fn type_refs(refs: &Refs<'_>) -> Option<ComponentPlace>
     requires ready { IsIndexed refs.now.names.now }
     requires small { AreSmall (complete_of refs.now.names.now.parts.now) }
     ensures { result ≡ first (along type_size (in_type (names_as refs.now.want refs.now.names.now.parts.now.class.now refs.now.names.now.exports.now)) (types_begin refs.now.names.now.parts.now.descriptor.now) refs.now.names.now.parts.now.descriptor.now.types) }
@@ -276,7 +276,7 @@ fn type_refs(refs: &Refs<'_>) -> Option<Spot>
 }
 
 /// Where 704 is broken first: a class_ref that names no class and no interface.
-pub fn class_ref_spot(names: &Names<'_>) -> Option<Spot>
+pub fn class_ref_spot(names: &Names<'_>) -> Option<ComponentPlace>
     requires ready { IsIndexed names.now }
     requires small { AreSmall (complete_of names.now.parts.now) }
     ensures { result ≡ first (class_ref_spots (complete_of names.now.parts.now) names.now.exports.now) }

@@ -12,7 +12,7 @@ ghost use Rattle.cjc_lookup.specs.Parts.{complete_of};
 use crate::refs::{Refs, interface_refs};
 use cjc_capread::{ClassDescriptor, ClassEntry, ClassRef};
 use cjc_lookup::{Names, Test, Want, earlier, first_along, first_class, unless};
-use cjc_sentences::Spot;
+use cjc_sentences::ComponentPlace;
 
 /// The tag of Class.
 const CLASS: u8 = 6;
@@ -50,7 +50,7 @@ impl Test<ClassEntry> for Supers<'_> {
     ghost fits = { λ s. IsIndexed s.names.now };
 
     #[tactic(auto, using(cjc_sentences::proofs::Firsts::first_append))]
-    fn first_in(&self, at: u32, item: &ClassEntry) -> Option<Spot> {
+    fn first_in(&self, at: u32, item: &ClassEntry) -> Option<ComponentPlace> {
         let superclass = unless(has_superclass(self.names, at, item), CLASS, at + 1);
         let refs = Refs {
             names: self.names,
@@ -65,7 +65,7 @@ impl Test<ClassDescriptor> for Supers<'_> {
 
     ghost fits = { λ s. IsIndexed s.names.now };
 
-    fn first_in(&self, at: u32, item: &ClassDescriptor) -> Option<Spot> {
+    fn first_in(&self, at: u32, item: &ClassDescriptor) -> Option<ComponentPlace> {
         let refs = Refs {
             names: self.names,
             want: Want::Interface,
@@ -75,7 +75,7 @@ impl Test<ClassDescriptor> for Supers<'_> {
 }
 
 /// The first class whose superclass or interfaces are of the wrong kind.
-fn class_supers(supers: &Supers<'_>) -> Option<Spot>
+fn class_supers(supers: &Supers<'_>) -> Option<ComponentPlace>
     requires ready { IsIndexed supers.now.names.now }
     requires small { AreSmall (complete_of supers.now.names.now.parts.now) }
     ensures { result ≡ first (along class_size (super_in_class supers.now.names.now.parts.now.class.now supers.now.names.now.exports.now) (first_class supers.now.names.now.parts.now.class.now) supers.now.names.now.parts.now.class.now.classes) }
@@ -85,7 +85,7 @@ fn class_supers(supers: &Supers<'_>) -> Option<Spot>
 }
 
 /// The first class of Descriptor whose interfaces are of the wrong kind.
-fn described_supers(supers: &Supers<'_>) -> Option<Spot>
+fn described_supers(supers: &Supers<'_>) -> Option<ComponentPlace>
     requires ready { IsIndexed supers.now.names.now }
     requires small { AreSmall (complete_of supers.now.names.now.parts.now) }
     ensures { result ≡ first (along described_size (interfaces_in_described (names_interface supers.now.names.now.parts.now.class.now supers.now.names.now.exports.now)) 1 supers.now.names.now.parts.now.descriptor.now.classes) }
@@ -94,7 +94,7 @@ fn described_supers(supers: &Supers<'_>) -> Option<Spot>
 }
 
 /// The first superinterface of an interface that is no interface.
-fn interface_supers(names: &Names<'_>) -> Option<Spot>
+fn interface_supers(names: &Names<'_>) -> Option<ComponentPlace>
     requires ready { IsIndexed names.now }
     requires small { AreSmall (complete_of names.now.parts.now) }
     ensures { result ≡ first (along interface_size (in_interface (names_interface names.now.parts.now.class.now names.now.exports.now)) first_interface names.now.parts.now.class.now.interfaces) }
@@ -107,7 +107,7 @@ fn interface_supers(names: &Names<'_>) -> Option<Spot>
 }
 
 /// Where 705 is broken first: a superclass that is no class or does not stand earlier, or an interface that is none.
-pub fn super_spot(names: &Names<'_>) -> Option<Spot>
+pub fn super_spot(names: &Names<'_>) -> Option<ComponentPlace>
     requires ready { IsIndexed names.now }
     requires small { AreSmall (complete_of names.now.parts.now) }
     ensures { result ≡ first (super_spots (complete_of names.now.parts.now) names.now.exports.now) }

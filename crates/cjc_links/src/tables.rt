@@ -14,7 +14,7 @@ ghost use Rattle.cjc_sentences.specs.Tables.{in_tables, leaves, package_spot, pu
 use cjc_bytes::{NoMemory, Row};
 use cjc_capread::{ClassEntry, ClassRef};
 use cjc_lookup::{Methods, Names, Test, earlier, first_along, first_class, unless};
-use cjc_sentences::Spot;
+use cjc_sentences::ComponentPlace;
 use std::alloc::Global;
 
 /// The tag of Class.
@@ -77,7 +77,7 @@ impl Test<u64> for PublicTable<'_> {
 
     ghost fits = { λ s. HasPublicTable s };
 
-    fn first_in(&self, at: u32, item: &u64) -> Option<Spot> {
+    fn first_in(&self, at: u32, item: &u64) -> Option<ComponentPlace> {
         let is_entry = if *item == 0xFFFF {
             self.leaves
         } else {
@@ -98,7 +98,7 @@ impl Test<u64> for PackageTable<'_> {
 
     ghost fits = { λ s. HasMethods s.methods.now };
 
-    fn first_in(&self, at: u32, item: &u64) -> Option<Spot> {
+    fn first_in(&self, at: u32, item: &u64) -> Option<ComponentPlace> {
         let is_entry = *item != 0xFFFF && self.methods.is_method_start(*item);
         unless(is_entry, CLASS, at)
     }
@@ -114,7 +114,7 @@ fn leaves_upwards(tables: &Tables<'_>, class: ClassRef) -> bool
 
 /// The first entry of a class's public table, the class beginning at an offset, that is none.
 #[tactic(auto, using(cjc_sentences::proofs::Arrays::two_each))]
-fn in_public_table(tables: &Tables<'_>, class: &ClassEntry, at: u32) -> Option<Spot>
+fn in_public_table(tables: &Tables<'_>, class: &ClassEntry, at: u32) -> Option<ComponentPlace>
     requires ready { HasTables tables.now }
     requires small { 3 + at + class_size class.now < 2 ^ 32 }
     ensures { result ≡ first (along (λ x. 2) (public_spot (complete_of tables.now.methods.now.names.now.parts.now) class.now) (at + 10) class.now.public_methods) }
@@ -130,7 +130,7 @@ fn in_public_table(tables: &Tables<'_>, class: &ClassEntry, at: u32) -> Option<S
 
 /// The first entry of a class's package table, the class beginning at an offset, that is none.
 #[tactic(auto, using(cjc_sentences::proofs::Arrays::two_each))]
-fn in_package_table(tables: &Tables<'_>, class: &ClassEntry, at: u32) -> Option<Spot>
+fn in_package_table(tables: &Tables<'_>, class: &ClassEntry, at: u32) -> Option<ComponentPlace>
     requires ready { HasTables tables.now }
     requires small { 3 + at + class_size class.now < 2 ^ 32 }
     ensures { result ≡ first (along (λ x. 2) (package_spot (complete_of tables.now.methods.now.names.now.parts.now)) (at + 10 + 2 * length class.now.public_methods) class.now.package_methods) }
@@ -148,14 +148,14 @@ impl Test<ClassEntry> for Tables<'_> {
     ghost fits = { λ s. HasTables s };
 
     #[tactic(auto, using(cjc_sentences::proofs::Firsts::first_append))]
-    fn first_in(&self, at: u32, item: &ClassEntry) -> Option<Spot> {
+    fn first_in(&self, at: u32, item: &ClassEntry) -> Option<ComponentPlace> {
         let public = in_public_table(self, item, at);
         earlier(public, in_package_table(self, item, at))
     }
 }
 
 /// Where 706 is broken first: an entry of a table.
-pub fn table_spot(tables: &Tables<'_>) -> Option<Spot>
+pub fn table_spot(tables: &Tables<'_>) -> Option<ComponentPlace>
     requires ready { HasTables tables.now }
     requires small { AreSmall (complete_of tables.now.methods.now.names.now.parts.now) }
     ensures { result ≡ first (table_spots (complete_of tables.now.methods.now.names.now.parts.now)) }

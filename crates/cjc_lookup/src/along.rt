@@ -5,11 +5,11 @@ ghost use Rattle.std.specs.Prelude.{◌≡◌, ℕ, ◌+◌, ◌<◌, ◌^◌, �
 ghost use Rattle.std.specs.List.{list_any};
 ghost use Rattle.std.specs.List.Sorted.{IsNonDecreasing};
 ghost use Rattle.cjc_sentences.specs.Spots.{along, beside, first, numbered, starts};
-ghost use Rattle.cjc_sentences.specs.declared.spot.Spot.{Spot as Place};
+ghost use Rattle.cjc_sentences.specs.declared.spot.ComponentPlace.{ComponentPlace as Place};
 
 use crate::spot::earlier;
 use cjc_bytes::{NoMemory, Row};
-use cjc_sentences::Spot;
+use cjc_sentences::ComponentPlace;
 use std::alloc::Global;
 
 /// An item of a component.
@@ -29,7 +29,7 @@ pub trait Test<T: Item> {
     ghost fits: { Self → Type 0 };
 
     /// The first place where an item fails that begins at an offset.
-    fn first_in(&self, at: u32, item: &T) -> Option<Spot>
+    fn first_in(&self, at: u32, item: &T) -> Option<ComponentPlace>
         requires ready { fits self.now }
         requires small { 3 + at + T.bytes item.now < 2 ^ 32 }
         ensures { result ≡ first (broken self.now at item.now) };
@@ -48,7 +48,7 @@ pub fn total<T: Item>(items: &[T]) -> u32
 }
 
 /// The first place where one of several items fails, the first of which begins at an offset.
-pub fn first_along<T: Item, C: Test<T>>(test: &C, from: u32, items: &[T]) -> Option<Spot>
+pub fn first_along<T: Item, C: Test<T>>(test: &C, from: u32, items: &[T]) -> Option<ComponentPlace>
     requires ready { C.fits test.now }
     requires small { 3 + from + sum_by T.bytes items.now < 2 ^ 32 }
     ensures { result ≡ first (along T.bytes (C.broken test.now) from items.now) }
@@ -69,7 +69,7 @@ pub trait Comparison<T: Item, U> {
     ghost fits: { Self → Type 0 };
 
     /// The first place where an item that begins at an offset fails beside another.
-    fn first_between(&self, at: u32, item: &T, other: &U) -> Option<Spot>
+    fn first_between(&self, at: u32, item: &T, other: &U) -> Option<ComponentPlace>
         requires ready { fits self.now }
         requires small { 3 + at + T.bytes item.now < 2 ^ 32 }
         ensures { result ≡ first (broken self.now at item.now other.now) };
@@ -81,7 +81,7 @@ pub fn first_beside<T: Item, U, C: Comparison<T, U>>(
     from: u32,
     items: &[T],
     others: &[U],
-) -> Option<Spot>
+) -> Option<ComponentPlace>
     requires ready { C.fits test.now }
     requires small { 3 + from + sum_by T.bytes items.now < 2 ^ 32 }
     ensures { result ≡ first (beside T.bytes (C.broken test.now) from items.now others.now) }
@@ -105,7 +105,7 @@ pub trait Numbered<T: Item> {
     ghost fits: { Self → Type 0 };
 
     /// The first place where the item of a number fails that begins at an offset.
-    fn first_at_number(&self, number: usize, at: u32, item: &T) -> Option<Spot>
+    fn first_at_number(&self, number: usize, at: u32, item: &T) -> Option<ComponentPlace>
         requires ready { fits self.now }
         requires small { 3 + at + T.bytes item.now < 2 ^ 32 }
         ensures { result ≡ first (broken self.now number at item.now) };
@@ -113,7 +113,11 @@ pub trait Numbered<T: Item> {
 
 /// The first place where one of several items fails, which have the numbers from 0 on and the first of which
 /// begins at an offset.
-pub fn first_numbered<T: Item, C: Numbered<T>>(test: &C, from: u32, items: &[T]) -> Option<Spot>
+pub fn first_numbered<T: Item, C: Numbered<T>>(
+    test: &C,
+    from: u32,
+    items: &[T],
+) -> Option<ComponentPlace>
     requires ready { C.fits test.now }
     requires small { 3 + from + sum_by T.bytes items.now < 2 ^ 32 }
     ensures { result ≡ first (numbered T.bytes (C.broken test.now) 0 from items.now) }

@@ -4,10 +4,10 @@ ghost use Rattle.std.specs.Prelude.{◌≡◌, ◌+◌, ◌<◌, ◌^◌};
 ghost use Rattle.cjc_export.specs.Members.{same_bool};
 ghost use Rattle.cjc_sentences.specs.Spots.{in_info, unless, earlier, first, is_up_to};
 
-use cjc_sentences::Spot;
+use cjc_sentences::ComponentPlace;
 
 /// Whether a place does not stand after another: by component, then by offset.
-fn is_up_to(left: Spot, right: Spot) -> bool
+fn is_up_to(left: ComponentPlace, right: ComponentPlace) -> bool
     ensures { result ≡ is_up_to left right }
 {
     left.component < right.component
@@ -15,7 +15,10 @@ fn is_up_to(left: Spot, right: Spot) -> bool
 }
 
 /// The first of two places.
-pub fn earlier(left: Option<Spot>, right: Option<Spot>) -> Option<Spot>
+pub fn earlier(
+    left: Option<ComponentPlace>,
+    right: Option<ComponentPlace>,
+) -> Option<ComponentPlace>
     ensures { result ≡ earlier left right }
 {
     match (left, right) {
@@ -33,14 +36,14 @@ pub fn earlier(left: Option<Spot>, right: Option<Spot>) -> Option<Spot>
 
 /// The place at an offset of a component's info, where the test fails.
 #[tactic(auto, unfolding(cjc_sentences::specs::Spots::first))]
-pub fn unless(passes: bool, component: u8, at: u32) -> Option<Spot>
+pub fn unless(passes: bool, component: u8, at: u32) -> Option<ComponentPlace>
     requires { 3 + at < 2 ^ 32 }
     ensures { result ≡ first (unless passes (in_info component at)) }
 {
     if passes {
         None
     } else {
-        Some(Spot {
+        Some(ComponentPlace {
             component,
             offset: 3 + at,
         })

@@ -4,7 +4,7 @@ use Rattle.std.specs.Str.{bytes_eq}
 use Rattle.cjc_bytes.specs.declared.fault.MemberId.{MemberId}
 use Rattle.cjc_capread.specs.declared.tree.ClassRef.TheVariants.{Inside, Outside}
 use Rattle.cjc_capread.specs.declared.tree.StaticRef.TheVariants as refs
-use Rattle.cjc_card.specs.Classes.{Own, Foreign}
+use Rattle.cjc_card.specs.Classes.{Own, External}
 use Rattle.cjc_card.specs.Dispatch.{Open}
 use Rattle.cjc_card.specs.Operations.{Fixed}
 use Rattle.cjc_card.specs.Worked.{alone, calls, id}
@@ -49,7 +49,7 @@ naming = record {
   virtual_token = by_name 1 2;
   interface_token = λ m. 0;
   method_ref = λ m. refs.Inside 44;
-  class = by_class (Own 0 2) (Own 0 16) (Own 0 30) (Foreign 0 5) (Foreign 0 0);
+  class = by_class (Own 0 2) (Own 0 16) (Own 0 30) (External 0 5) (External 0 0);
   cell = λ f. record { part = 0; offset = 0 };
   dispatch_token = λ m. Open (by_name 1 2 m);
   fixed = λ on m. Fixed on 0 44;

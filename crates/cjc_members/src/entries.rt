@@ -11,7 +11,7 @@ ghost use Rattle.cjc_sentences.specs.Spots.{first};
 use crate::members::Members;
 use cjc_capread::PoolEntry;
 use cjc_lookup::{Test, first_along, unless};
-use cjc_sentences::Spot;
+use cjc_sentences::ComponentPlace;
 
 /// The tag of ConstantPool.
 const POOL: u8 = 5;
@@ -21,14 +21,14 @@ impl Test<PoolEntry> for Members<'_> {
 
     ghost fits = { λ s. HasMembers s };
 
-    fn first_in(&self, at: u32, item: &PoolEntry) -> Option<Spot> {
+    fn first_in(&self, at: u32, item: &PoolEntry) -> Option<ComponentPlace> {
         unless(self.names_member(*item), POOL, at)
     }
 }
 
 /// Where 708 is broken first: an entry that names what is not there.
 #[tactic(auto, using(cjc_sentences::proofs::Arrays::four_each))]
-pub(crate) fn entry_spot(members: &Members<'_>) -> Option<Spot>
+pub(crate) fn entry_spot(members: &Members<'_>) -> Option<ComponentPlace>
     requires ready { HasMembers members.now }
     requires small { AreSmall (complete_of members.now.methods.now.names.now.parts.now) }
     ensures { result ≡ first (pool_spots (complete_of members.now.methods.now.names.now.parts.now) members.now.methods.now.names.now.exports.now) }

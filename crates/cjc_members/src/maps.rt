@@ -11,7 +11,7 @@ ghost use Rattle.cjc_sentences.specs.Tables.{in_all_maps, in_map, map_spots};
 use crate::members::Members;
 use cjc_capread::{ClassEntry, ClassRef, ImplementedInterface};
 use cjc_lookup::{Test, earlier, first_along, first_class, unless};
-use cjc_sentences::Spot;
+use cjc_sentences::ComponentPlace;
 
 /// The tag of Class.
 const CLASS: u8 = 6;
@@ -31,7 +31,7 @@ impl Test<u8> for Indices<'_> {
 
     ghost fits = { λ s. HasMembers s.members.now };
 
-    fn first_in(&self, at: u32, item: &u8) -> Option<Spot> {
+    fn first_in(&self, at: u32, item: &u8) -> Option<ComponentPlace> {
         let class = ClassRef::Inside(u64::from(self.class));
         let is_index = *item != NONE && self.members.has_virtual(class, *item);
         unless(is_index, CLASS, at)
@@ -51,7 +51,7 @@ impl Test<ImplementedInterface> for Maps<'_> {
     ghost fits = { λ s. HasMembers s.members.now };
 
     #[tactic(auto, using(cjc_sentences::proofs::Firsts::first_append, crate::proofs::Sizes::one_each))]
-    fn first_in(&self, at: u32, item: &ImplementedInterface) -> Option<Spot> {
+    fn first_in(&self, at: u32, item: &ImplementedInterface) -> Option<ComponentPlace> {
         let indices = item.index.items();
         let is_long = self.members.is_long_enough(item.interface, indices.len());
         let count = unless(is_long, CLASS, at + 2);
@@ -64,7 +64,7 @@ impl Test<ImplementedInterface> for Maps<'_> {
 }
 
 /// The first place in the maps of a class, which begins at an offset, that is broken.
-fn in_maps(members: &Members<'_>, class: &ClassEntry, at: u32) -> Option<Spot>
+fn in_maps(members: &Members<'_>, class: &ClassEntry, at: u32) -> Option<ComponentPlace>
     requires ready { HasMembers members.now }
     requires small { 3 + at + class_size class.now < 2 ^ 32 }
     ensures { result ≡ first (in_all_maps (complete_of members.now.methods.now.names.now.parts.now) members.now.methods.now.names.now.exports.now at class.now) }
@@ -80,13 +80,13 @@ impl Test<ClassEntry> for Members<'_> {
 
     ghost fits = { λ s. HasMembers s };
 
-    fn first_in(&self, at: u32, item: &ClassEntry) -> Option<Spot> {
+    fn first_in(&self, at: u32, item: &ClassEntry) -> Option<ComponentPlace> {
         in_maps(self, item, at)
     }
 }
 
 /// Where 707 is broken first: the count of a map, or an index.
-pub(crate) fn map_spot(members: &Members<'_>) -> Option<Spot>
+pub(crate) fn map_spot(members: &Members<'_>) -> Option<ComponentPlace>
     requires ready { HasMembers members.now }
     requires small { AreSmall (complete_of members.now.methods.now.names.now.parts.now) }
     ensures { result ≡ first (map_spots (complete_of members.now.methods.now.names.now.parts.now) members.now.methods.now.names.now.exports.now) }

@@ -18,14 +18,14 @@ use crate::virtuals::above_of;
 use cjc_bytes::{NoMemory, Row};
 use cjc_imported::{Tokens, imported_tokens};
 use cjc_lookup::Methods;
-use cjc_sentences::Spot;
+use cjc_sentences::ComponentPlace;
 use std::alloc::Global;
 
 /// Where 707 and 708 are broken first, each by itself.
 #[derive(Clone, Copy)]
 pub struct MemberSpots {
-    pub maps: Option<Spot>,
-    pub entries: Option<Spot>,
+    pub maps: Option<ComponentPlace>,
+    pub entries: Option<ComponentPlace>,
 }
 
 /// The first places, where it is kept what imported classes and superclasses have.

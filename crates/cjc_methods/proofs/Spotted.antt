@@ -6,7 +6,7 @@ use Rattle.std.proofs.lemmas.Bool.{ltb-false, ltb-true}
 use Rattle.std.proofs.lemmas.List.{length-map}
 use Rattle.std.proofs.lemmas.Option.{get_or_from_slice_get, slice_get-get_or}
 use Rattle.std.proofs.lemmas.List.Concat.{flat_map-cons}
-use Rattle.cjc_bytes.specs.Breaks.{Break, Spot, at, class_spot, each_from, member_spot}
+use Rattle.cjc_bytes.specs.Breaks.{Break, RulePlace, at, class_spot, each_from, member_spot}
 use Rattle.cjc_bytes.specs.Order.{FilePlace, file_of}
 use Rattle.cjc_bytes.specs.Refused.{in_class as in_class_place, method_text}
 use Rattle.cjc_classfile.specs.declared.tree.ClassTree.{ClassTree}
@@ -21,9 +21,9 @@ use Rattle.cjc_methods.specs.Working.Spots.{spot_in, word_breaks_in, words_at}
 use Rattle.cjc_methods.proofs.Ownership.{all_cons, all_none}
 
 -- a place at a class, moved to a member
-pub moved : (s : Spot) (fp : FilePlace) (name : List ℕ) → s ≡ class_spot fp 1 name → (member offset : ℕ) (text : List ℕ)
+pub moved : (s : RulePlace) (fp : FilePlace) (name : List ℕ) → s ≡ class_spot fp 1 name → (member offset : ℕ) (text : List ℕ)
     → record { file = s.file; class = s.class; member = member; place = in_class_place s.place.file s.place.class text offset } ≡ member_spot fp 1 name member text offset
-moved s fp name e member offset text = ap (λ (x : Spot). record { file = x.file; class = x.class; member = member; place = in_class_place x.place.file x.place.class text offset }) e
+moved s fp name e member offset text = ap (λ (x : RulePlace). record { file = x.file; class = x.class; member = member; place = in_class_place x.place.file x.place.class text offset }) e
 
 pub inside : {X : Type 0} (a b : ℕ) (x y : X) → a < b → (if nat_lt a b then x else y) ≡ x
 inside a b x y lt = by (nat_lt a b) refl
@@ -60,7 +60,7 @@ empty_both : (xs ys : List Break) → xs ++ ys ≡ [] → (xs ≡ []) × (ys ≡
 empty_both [] ys e = (refl, e)
 empty_both (x ∷ xs) ys e = cc
 
-not_broken : (b : Bool) (s : Spot) (rule : ℕ) → at b s rule ≡ [] → b ≡ false
+not_broken : (b : Bool) (s : RulePlace) (rule : ℕ) → at b s rule ≡ [] → b ≡ false
 not_broken true s rule e = cc
 not_broken false s rule e = refl
 

@@ -14,7 +14,9 @@ ghost use Rattle.cjc_methods.specs.Working.Methods.{IsLike};
 ghost use Rattle.cjc_methods.specs.Working.Spots.{spot_in, word_breaks_in};
 
 use crate::method::{Signature, method_in};
-use cjc_bytes::{Break, Fault, NoMemory, Part, PlaceRef, Spot, answer, broken, file_of, first};
+use cjc_bytes::{
+    Break, Fault, NoMemory, Part, PlaceRef, RulePlace, answer, broken, file_of, first,
+};
 use cjc_select::argument_words;
 use cjc_world::{Found, World};
 use std::alloc::Global;
@@ -23,15 +25,20 @@ use std::alloc::Global;
 const MOST_WORDS: u64 = 255;
 
 /// The place of an offset in the code of a method; one that its class gets stands at the class.
-fn spot_in<'w>(world: &'w World<'_>, member: Found, method: Signature<'w>, offset: u32) -> Spot<'w>
+fn spot_in<'w>(
+    world: &'w World<'_>,
+    member: Found,
+    method: Signature<'w>,
+    offset: u32,
+) -> RulePlace<'w>
     requires { IsOwn world.now member }
     ensures { (c : Class) (m : Member) → class_at (all_classes world.now) member.imported member.class ≡ Some c → IsLike method.entry m → spot_of result ≡ spot_in world.now c member m offset }
 {
     let class = &world.classes().items()[member.class as usize];
     let file = file_of(world.lines().items(), member.class as usize);
-    let spot = Spot::of_class(file, 1, class.name.items());
+    let spot = RulePlace::of_class(file, 1, class.name.items());
     if (member.member as usize) < class.fields.items().len() + class.methods.items().len() {
-        Spot {
+        RulePlace {
             member: u128::from(member.member) + 1,
             place: PlaceRef {
                 part: Part::Method(method.name, method.desc),
@@ -86,7 +93,7 @@ pub fn test_words(alloc: Global, world: &World<'_>, members: &[Found]) -> Result
 
 /// The place of an offset in the code of a method of a package, for whoever tells a rule that it breaks. One that
 /// its class gets has no place of its own, and stands at the class.
-pub fn method_spot<'w>(world: &'w World<'_>, member: Found, offset: u32) -> Spot<'w>
+pub fn method_spot<'w>(world: &'w World<'_>, member: Found, offset: u32) -> RulePlace<'w>
     requires { IsOwn world.now member }
     ensures { (p : Package) (c : Class) → p.files ≡ world.now → class_at (all_classes world.now) member.imported member.class ≡ Some c → spot_of result ≡ method_spot p c member (method_in (all_classes world.now) c member.member) offset }
 {

@@ -11,7 +11,7 @@ use Rattle.cjc_world.specs.Classes.{Class, all_classes}
 use Rattle.cjc_world.specs.Lookup.{find_field}
 use Rattle.cjc_ncode.specs.Written.{words_by}
 use Rattle.cjc_by_name.specs.Linked.{ResolvedField, Constant, Static, Instance}
-use Rattle.cjc_by_name.specs.OnePackage.{Hit, of_class, field_hit, field_by, constant_at}
+use Rattle.cjc_by_name.specs.OnePackage.{ResolvedMember, of_class, field_hit, field_by, constant_at}
 use Rattle.cjc_by_name.specs.ByName.{linked}
 use Rattle.cjc_narrow.specs.Resolved.{by_owner, resolution, parameter_words}
 use Rattle.cjc_narrow.specs.Names.{FieldsAgreeIn, IsCounted}
@@ -39,17 +39,17 @@ module _ (files : Files) (w : List Class) (id : MemberId) where
   no_constant true x z e = cc
   no_constant false x z e = cc
 
-  constant_hit : (hit : Option Hit) (value : Option ℤ) (z : ℤ) → option_map (field_by value id) hit ≡ Some (Constant z) → value ≡ Some z
+  constant_hit : (hit : Option ResolvedMember) (value : Option ℤ) (z : ℤ) → option_map (field_by value id) hit ≡ Some (Constant z) → value ≡ Some z
   constant_hit None value z e = cc
   constant_hit (Some hit) (Some v) z e = cc
   constant_hit (Some hit) None z e = no_constant (is_static hit.flags) (let owner = hit.owner in of_class owner.name id) z e
 
-  static_hit : (hit : Option Hit) (value : Option ℤ) (f : MemberId) → option_map (field_by value id) hit ≡ Some (Static f) → (value ≡ None) × (by_owner id hit ≡ f)
+  static_hit : (hit : Option ResolvedMember) (value : Option ℤ) (f : MemberId) → option_map (field_by value id) hit ≡ Some (Static f) → (value ≡ None) × (by_owner id hit ≡ f)
   static_hit None value f e = cc
   static_hit (Some hit) (Some v) f e = cc
   static_hit (Some hit) None f e = (refl, static_or (is_static hit.flags) (let owner = hit.owner in of_class owner.name id) f e)
 
-  instance_hit : (hit : Option Hit) (value : Option ℤ) (f : MemberId) → option_map (field_by value id) hit ≡ Some (Instance f) → by_owner id hit ≡ f
+  instance_hit : (hit : Option ResolvedMember) (value : Option ℤ) (f : MemberId) → option_map (field_by value id) hit ≡ Some (Instance f) → by_owner id hit ≡ f
   instance_hit None value f e = cc
   instance_hit (Some hit) (Some v) f e = cc
   instance_hit (Some hit) None f e = instance_or (is_static hit.flags) (let owner = hit.owner in of_class owner.name id) f e

@@ -1,8 +1,8 @@
 -- The look-ups of narrow code over the class files and export files of its package.
 use Rattle.std.specs.Prelude.{ℕ, ◌+◌, List, [], map, codes, Option, Some, None, option_map, option_and_then, Bool, true, false, if◌then◌else◌}
 use Rattle.cjc_bytes.specs.declared.fault.MemberId.{MemberId}
-use Rattle.cjc_bytes.specs.declared.names.Kind.{Kind}
-use Rattle.cjc_bytes.specs.declared.names.Kind.TheVariants as kinds
+use Rattle.cjc_bytes.specs.declared.descriptor.Kind.{Kind}
+use Rattle.cjc_bytes.specs.declared.descriptor.Kind.TheVariants as kinds
 use Rattle.cjc_classfile.specs.Code.{CodeTree}
 use Rattle.cjc_script.specs.declared.script.Script.{Script}
 use Rattle.cjc_script.specs.declared.report.FieldValue.{FieldValue}
@@ -23,7 +23,7 @@ use Rattle.cjc_ncode.specs.ByLabel.{Callee, Fixed, OnObject, OnSuper, OnInterfac
 use Rattle.cjc_ncode.specs.ByLabel
 use Rattle.cjc_by_name.specs.Linked.{Method, Inside}
 use Rattle.cjc_by_name.specs.Linked
-use Rattle.cjc_by_name.specs.OnePackage.{Hit, callee_at, selected_from, select_in, first_super, interface_callee, made_of, entry_named, sent_named, is_plain_import, cells}
+use Rattle.cjc_by_name.specs.OnePackage.{ResolvedMember, callee_at, selected_from, select_in, first_super, interface_callee, made_of, entry_named, sent_named, is_plain_import, cells}
 use Rattle.cjc_narrow.specs.Resolved.{method_found, parameter_words, resolution, argument_words}
 
 -- ---- methods
@@ -39,7 +39,7 @@ reached_by code (Some (Inside m)) = Within (start_of code m)
 reached_by code (Some (Linked.Abroad event)) = Abroad event
 
 -- the flags of a method that is found
-abbrev pub flags_of : Option Hit → ℕ
+abbrev pub flags_of : Option ResolvedMember → ℕ
 flags_of None = 0
 flags_of (Some hit) = hit.flags
 

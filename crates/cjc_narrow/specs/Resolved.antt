@@ -12,20 +12,20 @@ use Rattle.cjc_ncode.specs.declared.narrow.PoolKey.{PoolKey}
 use Rattle.cjc_ncode.specs.declared.narrow.PoolKey.TheVariants as keys
 use Rattle.cjc_ncode.specs.PoolOrder.{same_member}
 use Rattle.cjc_ncode.specs.Written.{Resolution}
-use Rattle.cjc_by_name.specs.OnePackage.{Hit, of_class, method_hit, field_hit, constant_at, is_constructor}
+use Rattle.cjc_by_name.specs.OnePackage.{ResolvedMember, of_class, method_hit, field_hit, constant_at, is_constructor}
 
 -- ---- what a look-up finds
 
 -- the field that is found from the named class
-abbrev pub field_found : List Class → MemberId → Option Hit
+abbrev pub field_found : List Class → MemberId → Option ResolvedMember
 field_found w id = option_and_then (field_hit w) (find_field w id.class id.name id.desc)
 
 -- the method that is found from the named class
-abbrev pub method_found : List Class → MemberId → Option Hit
+abbrev pub method_found : List Class → MemberId → Option ResolvedMember
 method_found w id = option_and_then (method_hit w) (find_method w id.class id.name id.desc)
 
 -- the member with the class that declares it; one that is nowhere as it is named
-abbrev pub by_owner : MemberId → Option Hit → MemberId
+abbrev pub by_owner : MemberId → Option ResolvedMember → MemberId
 by_owner id None = id
 by_owner id (Some hit) = let owner = hit.owner in of_class owner.name id
 
@@ -49,7 +49,7 @@ virtual_by w id None = resolved_method w id
 virtual_by w id (Some c) = if c.is_imported then resolved_method w id else id
 
 -- a constructor or private method by the class in which it is found; any other is sought above the class that holds the code
-abbrev pub special_by : (holder : List ℕ) → MemberId → Option Hit → PoolKey
+abbrev pub special_by : (holder : List ℕ) → MemberId → Option ResolvedMember → PoolKey
 special_by holder id None = keys.StaticMethod id
 special_by holder id (Some hit) =
     if is_constructor id.name || is_private hit.flags then keys.StaticMethod (by_owner id (Some hit)) else keys.Super (of_class holder id)

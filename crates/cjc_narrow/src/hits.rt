@@ -13,26 +13,29 @@ use cjc_world::{Known, World};
 
 /// A field or method that is found.
 #[derive(Clone, Copy)]
-pub(crate) struct Hit<'w, 'a> {
+pub(crate) struct ResolvedMember<'w, 'a> {
     /// The class that declares it.
     pub owner: Known<'w, 'a>,
     pub flags: u16,
 }
 
 /// The field or method at a place of its class.
-fn hit_at<'w, 'a>(owner: Known<'w, 'a>, field: bool, place: usize) -> Option<Hit<'w, 'a>>
+fn hit_at<'w, 'a>(owner: Known<'w, 'a>, field: bool, place: usize) -> Option<ResolvedMember<'w, 'a>>
     ensures { option_map hit_of result ≡ option_map (λ m. record { owner = class_of owner.entry; flags = m.flags }) (slice_get (members field (class_of owner.entry)) place) }
 {
     if place < owner.member_count(field) {
         let flags = owner.member_flags(field, place);
-        Some(Hit { owner, flags })
+        Some(ResolvedMember { owner, flags })
     } else {
         None
     }
 }
 
 /// The field that is found from the named class.
-pub(crate) fn field_found<'w, 'a>(world: &'w World<'a>, id: &MemberId) -> Option<Hit<'w, 'a>>
+pub(crate) fn field_found<'w, 'a>(
+    world: &'w World<'a>,
+    id: &MemberId,
+) -> Option<ResolvedMember<'w, 'a>>
     ensures { option_map hit_of result ≡ field_found (all_classes world.now) id.now }
 {
     let found = world.find_field(id)?;
@@ -41,7 +44,10 @@ pub(crate) fn field_found<'w, 'a>(world: &'w World<'a>, id: &MemberId) -> Option
 }
 
 /// The method that is found from the named class.
-pub(crate) fn method_found<'w, 'a>(world: &'w World<'a>, id: &MemberId) -> Option<Hit<'w, 'a>>
+pub(crate) fn method_found<'w, 'a>(
+    world: &'w World<'a>,
+    id: &MemberId,
+) -> Option<ResolvedMember<'w, 'a>>
     ensures { option_map hit_of result ≡ method_found (all_classes world.now) id.now }
 {
     let found = world.find_method(id)?;

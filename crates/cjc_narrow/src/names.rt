@@ -6,7 +6,7 @@ ghost use Rattle.cjc_by_name.specs.OnePackage.{of_class};
 ghost use Rattle.cjc_narrow.specs.Resolved.{by_owner, method_found, resolved_field, resolved_method, special_by, virtual_by};
 ghost use Rattle.cjc_narrow.specs.Working.Hits.{hit_of};
 
-use crate::hits::{self, Hit};
+use crate::hits::{self, ResolvedMember};
 use cjc_bytes::{Bytes, MemberId, NoMemory, is_private};
 use cjc_ncode::PoolKey;
 use cjc_world::World;
@@ -26,7 +26,11 @@ fn of_class(alloc: Global, class: &[u8], id: &MemberId) -> Result<MemberId, NoMe
 }
 
 /// A member with the class that declares it; one that is nowhere as it is named.
-fn by_owner(alloc: Global, id: &MemberId, hit: Option<Hit<'_, '_>>) -> Result<MemberId, NoMemory>
+fn by_owner(
+    alloc: Global,
+    id: &MemberId,
+    hit: Option<ResolvedMember<'_, '_>>,
+) -> Result<MemberId, NoMemory>
     ensures { IfOk result (λ member. member ≡ by_owner id.now (option_map hit_of hit.entry)) }
 {
     match hit {

@@ -5,8 +5,8 @@ use Rattle.std.specs.List.{AllByRecursion, list_any}
 use Rattle.std.proofs.lemmas.Bool.{lt-ltb}
 use Rattle.cjc_bytes.specs.Descriptor.{Part, Parts, base_kind, plain}
 use Rattle.cjc_bytes.specs.Spots.{desc_of, part_of}
-use Rattle.cjc_bytes.specs.declared.names.Kind.{Kind}
-use Rattle.cjc_bytes.specs.declared.names.Kind.TheVariants as kinds
+use Rattle.cjc_bytes.specs.declared.descriptor.Kind.{Kind}
+use Rattle.cjc_bytes.specs.declared.descriptor.Kind.TheVariants as kinds
 use Rattle.cjc_script.specs.Sorts.{OfClass, OfReferences, Reference, Shape, array_by, array_of, reference_to, result_by, shape_named, sort_by, sort_of}
 use Rattle.cjc_table_rules.specs.Calls.{types_of}
 use Rattle.cjc_types.specs.Types.{parts}

@@ -8,7 +8,7 @@ use Rattle.cjc_bytes.specs.Descriptor.{Parts}
 use Rattle.cjc_bytes.specs.Spots.{desc_of}
 use Rattle.cjc_bytes.specs.declared.fault.MemberId.{MemberId}
 use Rattle.cjc_bytes.specs.declared.settings.Settings.{Settings}
-use Rattle.cjc_by_name.specs.OnePackage.{Hit, callee_at, interface_callee, is_constructor, is_initialiser, method_hit, first_super, select_in, selected_from}
+use Rattle.cjc_by_name.specs.OnePackage.{ResolvedMember, callee_at, interface_callee, is_constructor, is_initialiser, method_hit, first_super, select_in, selected_from}
 use Rattle.cjc_call_laws.specs.Solid.{HasCode, IsSolid}
 use Rattle.cjc_call_laws.specs.Targets.{IsReceiver}
 use Rattle.cjc_call_laws.proofs.Own.{IsAt, hit_is, own_at}
@@ -49,7 +49,7 @@ use Rattle.cjc_world.specs.declared.image.StaticImage.{StaticImage}
 use Rattle.cjc_world.specs.Classes.{Class, Member, all_classes, class_at, class_named, declared}
 use Rattle.cjc_world.specs.Files.{Files}
 use Rattle.cjc_world.specs.Lookup.{find_method, is_selectable, member_at, object, receiver, selected}
-use Rattle.cjc_world.specs.Kin.{is_below}
+use Rattle.cjc_world.specs.Supertypes.{is_below}
 use Rattle.cjc_world.specs.Rules.{is_class_of, is_desc_missing, is_missing, lists_missing}
 use Rattle.cjc_world.specs.Subtype.{is_subtype}
 
@@ -74,13 +74,13 @@ true_or_false : (b : Bool) → (b ≡ true) ⊎ (b ≡ false)
 true_or_false true = inl refl
 true_or_false false = inr refl
 
-abbrev named_hit : Class → Member → Hit
+abbrev named_hit : Class → Member → ResolvedMember
 named_hit c m = record { owner = c; flags = m.flags }
 
-abbrev tested_hit : Class → Member → subset.Hit
+abbrev tested_hit : Class → Member → subset.ResolvedMember
 tested_hit c m = record { owner = c; flags = m.flags }
 
-abbrev as_tested : Hit → subset.Hit
+abbrev as_tested : ResolvedMember → subset.ResolvedMember
 as_tested h = record { owner = h.owner; flags = h.flags }
 
 -- what a look-up tells, on both sides
@@ -320,14 +320,14 @@ module _ (list : List ℕ) (files : Files) (codes : List MethodCode) (settings :
         method = k;
         class = id.class;
         choice = λ type. (let h = k.hit in let owner = h.owner in callee_at files owner.name id k.place);
-        form = itself (ap (λ (h : Hit). is_static h.flags) same ∙ static) (ap (λ (h : Hit). is_constructor id.name || is_private h.flags) same ∙ special);
+        form = itself (ap (λ (h : ResolvedMember). is_static h.flags) same ∙ static) (ap (λ (h : ResolvedMember). is_constructor id.name || is_private h.flags) same ∙ special);
         choices = λ names on kind one made.
             (let sub = known_below id.class there.0 there.1 names kind (ap (λ cls. list_all (λ name. is_subtype w name cls) names) (sym rc) ∙ accepts_one names on) one in
             let below = below_on w (receiver (shape_name kind)) id.class d.name sub.1 c.below in
             record {
               is_of = sub.0;
               callee = to.0;
-              chooses = ap (λ (h : Hit). let owner = h.owner in callee_at files owner.name id k.place) same ∙ ap (callee_at files d.name id) c.place_is ∙ to.1;
+              chooses = ap (λ (h : ResolvedMember). let owner = h.owner in callee_at files owner.name id k.place) same ∙ ap (callee_at files d.name id) c.place_is ∙ to.1;
               is_chosen = chosen list files codes settings is spelt tables tabled solid.plain id f.no_initialiser (shape_name kind) _ to.0 (λ t q h. (h.0 ∙ static, subst (λ n. Below w (receiver (shape_name kind)) n) (sym h.1) below)) to.2;
             });
       }
@@ -381,7 +381,7 @@ module _ (list : List ℕ) (files : Files) (codes : List MethodCode) (settings :
         method = k;
         class = class.name;
         choice = λ type. option_and_then (λ super. selected_from files w (select_in w) super id) (first_super (class_named w class.name));
-        form = above_holder to.0 (ap (λ (h : Hit). is_static h.flags) same ∙ static) (ap (λ (h : Hit). is_constructor id.name || is_private h.flags) same ∙ plain) to.1;
+        form = above_holder to.0 (ap (λ (h : ResolvedMember). is_static h.flags) same ∙ static) (ap (λ (h : ResolvedMember). is_constructor id.name || is_private h.flags) same ∙ plain) to.1;
         choices = λ names on kind one made.
             (let sub = known_below class.name (declared n class) holder names kind (ap (λ cls. list_all (λ name. is_subtype w name cls) names) (sym rc) ∙ accepts_one names on) one in
             record {

@@ -45,7 +45,7 @@ use Rattle.cjc_subset.specs.Checks.{is_imported_variable, names_variable}
 use Rattle.cjc_subset.specs.Members.{imported_field, imports, is_imported_constant}
 use Rattle.cjc_subset.specs.Members as subset
 use Rattle.cjc_subset.specs.Names.{is_constant_found, is_hidden, is_other_kind, is_unfit_field, names_unfit}
-use Rattle.cjc_subset.specs.Types.{is_any_foreign, is_any_int, is_foreign_desc, is_foreign_name, is_foreign_part, is_int_desc, is_int_name, is_int_part, names_foreign, names_int}
+use Rattle.cjc_subset.specs.Types.{is_any_unsupported, is_any_int, is_unsupported_desc, is_unsupported_name, is_unsupported_part, is_int_desc, is_int_name, is_int_part, names_unsupported, names_int}
 use Rattle.cjc_types.specs.declared.cell.Cell.{Cell}
 use Rattle.cjc_types.specs.declared.cell.Cell.TheVariants.{Refs}
 use Rattle.cjc_types.specs.Types.{no_parts, parts, parts_or_none}
@@ -109,20 +109,20 @@ lists_has f _ (upward.after {y = g} {xs = xs} h) = by (same_member g f) (lists x
     by false b e = e
 
 -- a field's descriptor that names none of the types which a package may not use is of one word
-pub word_field : (desc : List ℕ) (d : Parts) → length desc < 2 ^ 32 → desc_of desc ≡ Some d → d.is_method ≡ false → is_foreign_desc desc ≡ false → is_int_desc desc ≡ false → IsWordField desc
-unfolding parts is_foreign_desc is_int_desc
-word_field desc d short is is_field no_foreign no_int =
+pub word_field : (desc : List ℕ) (d : Parts) → length desc < 2 ^ 32 → desc_of desc ≡ Some d → d.is_method ≡ false → is_unsupported_desc desc ≡ false → is_int_desc desc ≡ false → IsWordField desc
+unfolding parts is_unsupported_desc is_int_desc
+word_field desc d short is is_field no_unsupported no_int =
     let fits : nat_lt (length desc) (2 ^ 32) ≡ true = lt-ltb (length desc) (2 ^ 32) short in
     let parts_are : parts desc ≡ d = ap (λ b. if b then parts_or_none (desc_of desc) else no_parts) fits ∙ ap parts_or_none is in
-    let f : is_any_foreign (Some d) ≡ false = ap is_any_foreign (sym is) ∙ ap (λ b. b && is_any_foreign (desc_of desc)) (sym fits) ∙ no_foreign in
+    let f : is_any_unsupported (Some d) ≡ false = ap is_any_unsupported (sym is) ∙ ap (λ b. b && is_any_unsupported (desc_of desc)) (sym fits) ∙ no_unsupported in
     let g : is_any_int (Some d) ≡ false = ap is_any_int (sym is) ∙ ap (λ b. b && is_any_int (desc_of desc)) (sym fits) ∙ no_int in
     record { is_desc = is ∙ ap Some (sym parts_are); one_word = ap (λ o. is_word_sort (sort_or_none o)) is ∙ by (desc_spelt d desc is) is_field f g }
   where
-    by : {d : Parts} {bytes : List ℕ} → IsDescriptor d bytes → d.is_method ≡ false → is_any_foreign (Some d) ≡ false → is_any_int (Some d) ≡ false → is_word_sort (sort_of d.result) ≡ true
-    by (field {p = p} t) m f g = type_word t (or_left (is_foreign_part p) false f) (or_left (is_int_part p) false g)
+    by : {d : Parts} {bytes : List ℕ} → IsDescriptor d bytes → d.is_method ≡ false → is_any_unsupported (Some d) ≡ false → is_any_int (Some d) ≡ false → is_word_sort (sort_of d.result) ≡ true
+    by (field {p = p} t) m f g = type_word t (or_left (is_unsupported_part p) false f) (or_left (is_int_part p) false g)
     by (method ts t) m f g = absurd cc
 
-abbrev pub tested : Class → Member → subset.Hit
+abbrev pub tested : Class → Member → subset.ResolvedMember
 tested d m = record { owner = d; flags = m.flags }
 
 -- what the tests know of a field that is found
@@ -257,7 +257,7 @@ module _ (list : List ℕ) (files : Files) (codes : List MethodCode) (settings :
 
   pub field_is : (class : ClassTree) (put : Bool) (id : MemberId) → IsInsnOf files codes class (jop.Field put id) → (cell : Cell) → ((names : List (List ℕ)) → cell ≡ Refs names → list_all (λ name. is_subtype w name id.class) names ≡ true)
       → (m : Method) → (f : MemberId) × IsFieldOf files image near tables m id f cell
-  unfolding names_foreign names_int
+  unfolding names_unsupported names_int
   field_is class put id at cell accepts_one m =
       let k = known_field class put id at in
       let d = k.owner in
@@ -272,13 +272,13 @@ module _ (list : List ℕ) (files : Files) (codes : List MethodCode) (settings :
       let one = all_at fits.FieldFits u.fields p.place x few.fields c.1 in
       let short : length x.desc < 2 ^ 32 = (let s = one.desc in omega (arith, s)) in
       let parsed = (let r = read_of files read d.number u t.1 in r.fields) p.place x c.1 in
-      let foreign = (op_fit list files codes settings is class (jop.Field put id) at).0 in
+      let unsupported = (op_fit list files codes settings is class (jop.Field put id) at).0 in
       let int = insn_fine list files codes settings is.checks at.code class at.method at.tree at.of_package is.no_int at.listed at.place at.insn at.is_insn in
-      let no_foreign : is_foreign_desc id.desc ≡ false = or_right (is_foreign_name id.class) (is_foreign_desc id.desc) foreign in
+      let no_unsupported : is_unsupported_desc id.desc ≡ false = or_right (is_unsupported_name id.class) (is_unsupported_desc id.desc) unsupported in
       let no_int : is_int_desc id.desc ≡ false = or_right (is_int_name id.class) (is_int_desc id.desc) (ap names_int (sym at.is_op) ∙ int) in (
         of_class d.name id,
         record {
-          desc = word_field id.desc parsed.0 (subst (λ v. length v < 2 ^ 32) desc_is short) (ap desc_of (sym desc_is) ∙ parsed.1) parsed.2 no_foreign no_int;
+          desc = word_field id.desc parsed.0 (subst (λ v. length v < 2 ^ 32) desc_is short) (ap desc_of (sym desc_is) ∙ parsed.1) parsed.2 no_unsupported no_int;
           found = named_is id k;
           has = λ names on kind some one.
               (let sub = named_of files image near tables solid root id.class names kind (accepts_one names on) some in

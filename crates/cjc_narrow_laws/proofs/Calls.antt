@@ -7,7 +7,7 @@ use Rattle.cjc_bytes.specs.declared.settings.Settings.{Settings}
 use Rattle.cjc_classfile.specs.declared.tree.ClassTree.{ClassTree}
 use Rattle.cjc_code.specs.declared.insn.JOp.TheVariants as jop
 use Rattle.cjc_code.specs.declared.method_code.MethodCode.{MethodCode}
-use Rattle.cjc_by_name.specs.OnePackage.{Hit, method_hit}
+use Rattle.cjc_by_name.specs.OnePackage.{ResolvedMember, method_hit}
 use Rattle.cjc_narrow_laws.specs.Calls.{CallFits}
 use Rattle.cjc_narrow_laws.specs.Unbroken.{IsInsnOf, IsUnbroken}
 use Rattle.cjc_narrow_laws.proofs.Instructions.{op_there}
@@ -20,11 +20,11 @@ use Rattle.cjc_world.specs.declared.found.Found.{Found}
 use Rattle.cjc_world.specs.Classes.{Class, Member, all_classes, class_at, class_named}
 use Rattle.cjc_world.specs.Files.{Files}
 use Rattle.cjc_world.specs.Interfaces.{gathered, known}
-use Rattle.cjc_world.specs.Kin.{kin, line, upwards}
+use Rattle.cjc_world.specs.Supertypes.{supertypes, line, upwards}
 use Rattle.cjc_world.specs.Lookup.{find_method, first, is_called, is_wanted, member_at, or_else, own_method}
 use Rattle.cjc_world.proofs.Adding.{named-known, named-upwards}
 use Rattle.cjc_world.proofs.ByPlace.{AreNamed}
-use Rattle.cjc_world.proofs.Settled.{kin-IsKin}
+use Rattle.cjc_world.proofs.Settled.{supertypes-AreSupertypes}
 use Rattle.cjc_world.proofs.Unbroken.{unbroken_is_acyclic}
 
 -- ---- what is found is there
@@ -39,13 +39,13 @@ first_found w own (c ∷ cs) f named e = by (own c) refl e (first_found w own cs
     by None h e rest = rest e
 
 -- a method of a class with its flags, as the two sides say it
-abbrev hit_in : Class → Member → Hit
+abbrev hit_in : Class → Member → ResolvedMember
 hit_in c m = record { owner = c; flags = m.flags }
 
-abbrev tested_in : Class → Member → subset.Hit
+abbrev tested_in : Class → Member → subset.ResolvedMember
 tested_in c m = record { owner = c; flags = m.flags }
 
-abbrev tested_as : Hit → subset.Hit
+abbrev tested_as : ResolvedMember → subset.ResolvedMember
 tested_as h = record { owner = h.owner; flags = h.flags }
 
 hit_at_place : (w : List Class) (c : Class) (i : ℕ) (m : Member) → class_at w c.is_imported c.number ≡ Some c → slice_get c.methods i ≡ Some m → method_hit w (member_at c (length c.fields + i)) ≡ Some (record { owner = c; flags = m.flags })
@@ -55,23 +55,23 @@ hit_at_place w c i m there e =
     ∙ ap (λ k. option_map (λ m. record { owner = c; flags = m.flags }) (slice_get c.methods k)) at
     ∙ ap (option_map (λ m. record { owner = c; flags = m.flags })) e
 
-own_hit : (w : List Class) (name desc : List ℕ) (c : Class) (f : Found) → class_at w c.is_imported c.number ≡ Some c → own_method false name desc c ≡ Some f → (h : Hit) × (method_hit w f ≡ Some h)
+own_hit : (w : List Class) (name desc : List ℕ) (c : Class) (f : Found) → class_at w c.is_imported c.number ≡ Some c → own_method false name desc c ≡ Some f → (h : ResolvedMember) × (method_hit w f ≡ Some h)
 unfolding own_method
 own_hit w name desc c f there e = by (position P c.methods) refl e
   where
     P : Member → Bool
     P m = is_wanted false m.flags && is_called name desc m
 
-    by : (o : Option ℕ) → position P c.methods ≡ o → option_map (λ i. member_at c (length c.fields + i)) o ≡ Some f → (h : Hit) × (method_hit w f ≡ Some h)
+    by : (o : Option ℕ) → position P c.methods ≡ o → option_map (λ i. member_at c (length c.fields + i)) o ≡ Some f → (h : ResolvedMember) × (method_hit w f ≡ Some h)
     by None g e = absurd cc
     by (Some i) g e =
         let m = position-at P c.methods i g in
         let is : member_at c (length c.fields + i) ≡ f = cc in
         (record { owner = c; flags = (let n = m.0 in n.flags) }, ap (method_hit w) (sym is) ∙ hit_at_place w c i m.0 there m.1)
 
-pub found_hit : (list : List ℕ) (files : Files) (codes : List MethodCode) (settings : Settings) → IsUnbroken list files codes settings → (class name desc : List ℕ) (f : Found) → find_method (all_classes files) class name desc ≡ Some f → (h : Hit) × (method_hit (all_classes files) f ≡ Some h)
+pub found_hit : (list : List ℕ) (files : Files) (codes : List MethodCode) (settings : Settings) → IsUnbroken list files codes settings → (class name desc : List ℕ) (f : Found) → find_method (all_classes files) class name desc ≡ Some f → (h : ResolvedMember) × (method_hit (all_classes files) f ≡ Some h)
 unfolding find_method line
-found_hit list files codes settings is class name desc f e = by (first own (upwards (kin w names))) refl e
+found_hit list files codes settings is class name desc f e = by (first own (upwards (supertypes w names))) refl e
   where
     w : List Class
     w = all_classes files
@@ -82,16 +82,16 @@ found_hit list files codes settings is class name desc f e = by (first own (upwa
     own : Class → Option Found
     own = own_method false name desc
 
-    at : (cs : List Class) → AreNamed w cs → first own cs ≡ Some f → (h : Hit) × (method_hit w f ≡ Some h)
+    at : (cs : List Class) → AreNamed w cs → first own cs ≡ Some f → (h : ResolvedMember) × (method_hit w f ≡ Some h)
     at cs named e = let r = first_found w own cs f named e in own_hit w name desc r.0 f (at-number files (let c = r.0 in c.name) r.0 r.1) r.2
 
-    by : (o : Option Found) → first own (upwards (kin w names)) ≡ o → or_else o (first own (known (gathered false (kin w names)))) ≡ Some f → (h : Hit) × (method_hit w f ≡ Some h)
-    by (Some g) h e = at (upwards (kin w names)) (named-upwards w names (kin w names) (kin-IsKin w (unbroken_is_acyclic list files is.world) names)) (h ∙ e)
-    by None h e = at (known (gathered false (kin w names))) (named-known w false names (kin w names) (kin-IsKin w (unbroken_is_acyclic list files is.world) names)) e
+    by : (o : Option Found) → first own (upwards (supertypes w names)) ≡ o → or_else o (first own (known (gathered false (supertypes w names)))) ≡ Some f → (h : ResolvedMember) × (method_hit w f ≡ Some h)
+    by (Some g) h e = at (upwards (supertypes w names)) (named-upwards w names (supertypes w names) (supertypes-AreSupertypes w (unbroken_is_acyclic list files is.world) names)) (h ∙ e)
+    by None h e = at (known (gathered false (supertypes w names))) (named-known w false names (supertypes w names) (supertypes-AreSupertypes w (unbroken_is_acyclic list files is.world) names)) e
 
 -- ---- 206 of calls
 
-same_hit : (w : List Class) (f : Found) (h : Hit) → method_hit w f ≡ Some h → hit w false (Some f) ≡ Some (tested_as h)
+same_hit : (w : List Class) (f : Found) (h : ResolvedMember) → method_hit w f ≡ Some h → hit w false (Some f) ≡ Some (tested_as h)
 unfolding hit
 same_hit w f h e = by (class_at w f.imported f.class) e
   where
@@ -150,7 +150,7 @@ call_fits op name flags e =
     open_one false true f g = absurd cc
 
 pub called_fits : (list : List ℕ) (files : Files) (codes : List MethodCode) (settings : Settings) → IsUnbroken list files codes settings → (class : ClassTree) (op : ℕ) (id : MemberId) → IsInsnOf files codes class (jop.Call op id)
-    → (f : Found) (h : Hit) → find_method (all_classes files) id.class id.name id.desc ≡ Some f → method_hit (all_classes files) f ≡ Some h → CallFits op id.name h.flags
+    → (f : Found) (h : ResolvedMember) → find_method (all_classes files) id.class id.name id.desc ≡ Some f → method_hit (all_classes files) f ≡ Some h → CallFits op id.name h.flags
 unfolding names_unfit
 called_fits list files codes settings is class op id at f h found e =
     let w = all_classes files in

@@ -18,7 +18,7 @@ use Rattle.cjc_narrow_runs.specs.Types.{IsThere, of_class, of_numbers, of_refere
 use Rattle.cjc_script.specs.Sorts.{Booleans, Bytes, Ints, OfClass, OfNumbers, OfReferences, Shape, Shorts, array_by, shape_named}
 use Rattle.cjc_subset.specs.Members.{is_descriptor}
 use Rattle.cjc_subset.specs.Names.{is_name_missing, names_missing}
-use Rattle.cjc_subset.specs.Types.{is_foreign_element, is_foreign_name, names_foreign}
+use Rattle.cjc_subset.specs.Types.{is_unsupported_element, is_unsupported_name, names_unsupported}
 use Rattle.cjc_table_rules.proofs.Spelt.{all_but_last, class_read}
 use Rattle.cjc_world.specs.Classes.{Class, all_classes}
 use Rattle.cjc_world.specs.Files.{Files}
@@ -37,12 +37,12 @@ or_right true b e = cc
 or_right false b e = e
 
 module _ (w : List Class) where
-  element_there : {p : _} (bytes : List ℕ) → IsType p bytes → is_foreign_element bytes ≡ false → is_element_missing w bytes ≡ false → IsReadType w (91 ∷ bytes)
+  element_there : {p : _} (bytes : List ℕ) → IsType p bytes → is_unsupported_element bytes ≡ false → is_element_missing w bytes ≡ false → IsReadType w (91 ∷ bytes)
   unfolding is_element_missing
   element_there _ (base {b = b} {kind = kind} e) f g =
       let described = desc_read _ (91 ∷ b ∷ []) (field (array (base e))) in
       let element = by_letter (λ c k. (shape : Shape (List ℕ)) × (array_by (part_of (c ∷ [])) ≡ Some shape) × IsThere w shape)
-      (OfNumbers Bytes, refl, of_numbers) (OfNumbers Ints, refl, of_numbers) (OfNumbers Shorts, refl, of_numbers) (OfNumbers Booleans, refl, of_numbers) b kind e (λ foreign. (let clash = sym foreign ∙ f in absurd cc)) in
+      (OfNumbers Bytes, refl, of_numbers) (OfNumbers Ints, refl, of_numbers) (OfNumbers Shorts, refl, of_numbers) (OfNumbers Booleans, refl, of_numbers) b kind e (λ unsupported. (let clash = sym unsupported ∙ f in absurd cc)) in
       (element.0, ap (option_and_then (λ d. array_by (part_of (b ∷ [])))) described ∙ element.1, element.2)
   element_there _ (object {name = name} spelt) f g =
       let c = class_there w name (ap (is_missing w) (sym (all_but_last name)) ∙ g) in
@@ -55,13 +55,13 @@ module _ (w : List Class) where
   rest_same : {x y : ℕ} {xs ys : List ℕ} → x ∷ xs ≡ y ∷ ys → xs ≡ ys
   rest_same e = cc
 
-  array_there : (bs : List ℕ) (d : Parts) → desc_of (91 ∷ bs) ≡ Some d → is_foreign_element bs ≡ false → is_element_missing w bs ≡ false → IsReadType w (91 ∷ bs)
+  array_there : (bs : List ℕ) (d : Parts) → desc_of (91 ∷ bs) ≡ Some d → is_unsupported_element bs ≡ false → is_element_missing w bs ≡ false → IsReadType w (91 ∷ bs)
   array_there bs d e f g = of_descriptor (91 ∷ bs) (desc_spelt d (91 ∷ bs) e) refl
     where
       of_type : {p : _} (bytes : List ℕ) → IsType p bytes → bytes ≡ 91 ∷ bs → IsReadType w (91 ∷ bs)
       of_type _ (base {b = b} {kind = kind} e) same = (let h : b ≡ 91 = first_same same in let no : None ≡ Some kind = ap base_kind (sym h) ∙ e in cc)
       of_type _ (object {name = name} h) same = (let clash : 76 ≡ 91 = first_same same in absurd (omega (arith, clash)))
-      of_type _ (array {bytes = bytes} t) same = (let h : bytes ≡ bs = rest_same same in subst (λ x. IsReadType w (91 ∷ x)) h (element_there bytes t (ap is_foreign_element h ∙ f) (ap (is_element_missing w) h ∙ g)))
+      of_type _ (array {bytes = bytes} t) same = (let h : bytes ≡ bs = rest_same same in subst (λ x. IsReadType w (91 ∷ x)) h (element_there bytes t (ap is_unsupported_element h ∙ f) (ap (is_element_missing w) h ∙ g)))
 
       of_descriptor : {d : Parts} (bytes : List ℕ) → IsDescriptor d bytes → bytes ≡ 91 ∷ bs → IsReadType w (91 ∷ bs)
       of_descriptor bytes (field t) same = of_type bytes t same
@@ -73,7 +73,7 @@ module _ (w : List Class) where
   described None true e = absurd cc
   described None false e = absurd cc
 
-  array_by_name : (bs : List ℕ) → (not (is_descriptor (91 ∷ bs)) || is_type_missing w (91 ∷ bs)) ≡ false → is_foreign_element bs ≡ false → IsReadType w (91 ∷ bs)
+  array_by_name : (bs : List ℕ) → (not (is_descriptor (91 ∷ bs)) || is_type_missing w (91 ∷ bs)) ≡ false → is_unsupported_element bs ≡ false → IsReadType w (91 ∷ bs)
   unfolding is_type_missing
   array_by_name bs there fit =
       let d = described (desc_of (91 ∷ bs)) (nat_lt (length (91 ∷ bs)) (2 ^ 32)) (or_left (not (is_descriptor (91 ∷ bs))) (is_type_missing w (91 ∷ bs)) there) in
@@ -84,11 +84,11 @@ module _ (w : List Class) where
       let c = class_there w (b ∷ bs) there in
       (OfClass (b ∷ bs), ap (λ x. if x then option_and_then (λ d. array_by (part_of bs)) (desc_of (b ∷ bs)) else Some (OfClass (b ∷ bs))) plain, of_class c.0 c.1)
 
-  pub type_there : (b : ℕ) (bs : List ℕ) → is_name_missing w (b ∷ bs) ≡ false → is_foreign_name (b ∷ bs) ≡ false → IsReadType w (b ∷ bs)
+  pub type_there : (b : ℕ) (bs : List ℕ) → is_name_missing w (b ∷ bs) ≡ false → is_unsupported_name (b ∷ bs) ≡ false → IsReadType w (b ∷ bs)
   unfolding is_name_missing
   type_there b bs there fit = by (b == 91) refl there fit
     where
-      by : (x : Bool) → (b == 91) ≡ x → (if x then not (is_descriptor (b ∷ bs)) || is_type_missing w (b ∷ bs) else is_missing w (b ∷ bs)) ≡ false → (x && is_foreign_element bs) ≡ false → IsReadType w (b ∷ bs)
+      by : (x : Bool) → (b == 91) ≡ x → (if x then not (is_descriptor (b ∷ bs)) || is_type_missing w (b ∷ bs) else is_missing w (b ∷ bs)) ≡ false → (x && is_unsupported_element bs) ≡ false → IsReadType w (b ∷ bs)
       by false g there fit = class_by_name b bs g there
       by true g there fit =
           let letter = eqb-true b 91 g in
@@ -96,7 +96,7 @@ module _ (w : List Class) where
 
 module _ (list : List ℕ) (files : Files) (codes : List MethodCode) (settings : Settings) (is : IsUnbroken list files codes settings) (spelt : AreSpelt files) (class : ClassTree) where
   -- no class has the empty name
-  name_there : (name : List ℕ) → is_name_missing (all_classes files) name ≡ false → is_foreign_name name ≡ false → IsReadType (all_classes files) name
+  name_there : (name : List ℕ) → is_name_missing (all_classes files) name ≡ false → is_unsupported_name name ≡ false → IsReadType (all_classes files) name
   unfolding is_name_missing
   name_there [] there fit =
       let c = class_there (all_classes files) [] there in
@@ -105,9 +105,9 @@ module _ (list : List ℕ) (files : Files) (codes : List MethodCode) (settings :
   name_there (b ∷ bs) there fit = type_there (all_classes files) b bs there fit
 
   pub cast_there : (name : List ℕ) → IsInsnOf files codes class (jop.CheckCast name) → IsReadType (all_classes files) name
-  unfolding names_missing names_foreign
+  unfolding names_missing names_unsupported
   cast_there name at = name_there name (op_there list files codes settings is class (jop.CheckCast name) at).0 (op_fit list files codes settings is class (jop.CheckCast name) at).0
 
   pub test_there : (name : List ℕ) → IsInsnOf files codes class (jop.InstanceOf name) → IsReadType (all_classes files) name
-  unfolding names_missing names_foreign
+  unfolding names_missing names_unsupported
   test_there name at = name_there name (op_there list files codes settings is class (jop.InstanceOf name) at).0 (op_fit list files codes settings is class (jop.InstanceOf name) at).0

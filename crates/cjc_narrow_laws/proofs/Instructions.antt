@@ -23,7 +23,7 @@ use Rattle.cjc_subset.specs.Checks.{check_breaks, class_breaks, code_breaks, ins
 use Rattle.cjc_subset.specs.Members.{is_array, is_descriptor}
 use Rattle.cjc_subset.specs.Names.{is_abstract_of, is_member_missing, is_name_missing, is_not_found, is_unfound, is_unfit_new, names_missing, names_unfit, names_unfound}
 use Rattle.cjc_subset.specs.Places.{at_method, of_class, of_method}
-use Rattle.cjc_subset.specs.Types.{names_foreign, names_int}
+use Rattle.cjc_subset.specs.Types.{names_unsupported, names_int}
 use Rattle.cjc_types.specs.Tables.{IsMethodOf}
 use Rattle.cjc_world.specs.declared.found.Found.{Found}
 use Rattle.cjc_world.specs.Classes.{Class, all_classes, class_named}
@@ -48,7 +48,7 @@ module _ (list : List ℕ) (files : Files) (codes : List MethodCode) (settings :
   abbrev by_insn : FilePlace → ClassTree → MethodTree → List Break
   by_insn g c m = each_from (λ _ insn. insn_breaks files settings g c code.method m insn) 0 code.insns
 
-  pub types_fit : (k : ℕ) (i : JInsn) → slice_get code.insns k ≡ Some i → (names_foreign i.op ≡ false) × (names_variable files i.op ≡ false)
+  pub types_fit : (k : ℕ) (i : JInsn) → slice_get code.insns k ≡ Some i → (names_unsupported i.op ≡ false) × (names_variable files i.op ≡ false)
   unfolding check_breaks code_breaks insn_breaks
   types_fit k i e =
       let front = list_breaks list files settings ++ each_from (λ n c. class_breaks files settings (file_of files.lines n) n c) 0 files.classes in
@@ -58,10 +58,10 @@ module _ (list : List ℕ) (files : Files) (codes : List MethodCode) (settings :
       let mine : by_insn f class method ≡ [] = sym (ap (of_method by_insn f class) is.is_method) ∙ sym (ap (of_class by_insn f code.method) is.is_class) ∙ here in
       let own = each_at (λ _ insn. insn_breaks files settings f class code.method method insn) k code.insns i mine e in
       let spot = at_method f class code.method method i.at in
-      let A = at (names_foreign i.op) spot 301 in
+      let A = at (names_unsupported i.op) spot 301 in
       let B = at (not settings.ints && names_int i.op) spot 302 in
       let C = at (names_variable files i.op) spot 310 in
-      (not_broken (names_foreign i.op) spot 301 (none_left A B (none_left (A ++ B) C own)), not_broken (names_variable files i.op) spot 310 (none_right (A ++ B) C own))
+      (not_broken (names_unsupported i.op) spot 301 (none_left A B (none_left (A ++ B) C own)), not_broken (names_variable files i.op) spot 310 (none_right (A ++ B) C own))
 
 -- ---- names of classes
 
@@ -75,8 +75,8 @@ module _ (w : List Class) where
       by true f g = absurd cc
       by false f g = g
 
-  pub array_of_class : (name : List ℕ) → names_missing w (jop.ANewArray name) ≡ false → names_foreign (jop.ANewArray name) ≡ false → (c : Class) × (class_named w name ≡ Some c)
-  unfolding names_missing names_foreign
+  pub array_of_class : (name : List ℕ) → names_missing w (jop.ANewArray name) ≡ false → names_unsupported (jop.ANewArray name) ≡ false → (c : Class) × (class_named w name ≡ Some c)
+  unfolding names_missing names_unsupported
   array_of_class name there fit = plain_there name fit there
 
   pub new_is_made : (name : List ℕ) → is_name_missing w name ≡ false → is_unfit_new w name ≡ false → made_of w name ≡ Some (object_fields w name)
@@ -135,7 +135,7 @@ module _ (list : List ℕ) (files : Files) (codes : List MethodCode) (settings :
       let clean = insn_clean files codes is.names at.code class at.method at.tree at.of_package at.listed at.place at.insn at.is_insn in
       (ap (names_missing (all_classes files)) (sym at.is_op) ∙ clean.0, ap (names_unfound (all_classes files)) (sym at.is_op) ∙ clean.1, ap (names_unfit files class) (sym at.is_op) ∙ clean.2)
 
-  pub op_fit : (names_foreign op ≡ false) × (names_variable files op ≡ false)
+  pub op_fit : (names_unsupported op ≡ false) × (names_variable files op ≡ false)
   op_fit =
       let fit = types_fit list files codes settings is.checks at.code class at.method at.tree at.of_package at.listed at.place at.insn at.is_insn in
-      (ap names_foreign (sym at.is_op) ∙ fit.0, ap (names_variable files) (sym at.is_op) ∙ fit.1)
+      (ap names_unsupported (sym at.is_op) ∙ fit.0, ap (names_variable files) (sym at.is_op) ∙ fit.1)

@@ -21,7 +21,7 @@ use Rattle.cjc_vtable.proofs.Numbers.{class_count-cons, own_listed}
 use Rattle.cjc_world.specs.declared.found.Found.{Found}
 use Rattle.cjc_world.specs.Classes.{Class, Member, all_classes, class_at, class_named, declared, is_at, method_of_class, size}
 use Rattle.cjc_world.specs.Files.{Files}
-use Rattle.cjc_world.specs.Kin.{kin, line}
+use Rattle.cjc_world.specs.Supertypes.{supertypes, line}
 use Rattle.cjc_world.specs.Interfaces.{gathered, known}
 use Rattle.cjc_world.specs.Lookup.{find_method, first, is_called, member_at, or_else, own_method}
 use Rattle.cjc_world.specs.Rules.{at_class, at_member, breaks, breaks_from, class_breaks, class_file_breaks, class_rules, export_file_breaks, gets_missing, has_language, is_desc_missing, is_earlier, is_of_package, is_other, is_own_super, is_second, is_twice, lists_missing, lists_wrong, member_rules, members, members_before, members_from, same_place, told, when}
@@ -227,7 +227,7 @@ module _ (files : Files) (list : List ℕ) (listed : length files.classes ≤ cl
     pub found_by_name : find_method w c.name m.name m.desc ≡ Some place
     unfolding find_method first
     found_by_name =
-        let back = first own (known (gathered false (kin w (c.name ∷ [])))) in
+        let back = first own (known (gathered false (supertypes w (c.name ∷ [])))) in
         let rest = first own (line w c.superclass) in
         ap (λ cs. or_else (first own cs) back) (line_goes_up w (unbroken_is_acyclic list files unbroken) c.name c.superclass d class_by_name refl) ∙ ap (λ o. or_else (or_else o rest) back) own_here
 

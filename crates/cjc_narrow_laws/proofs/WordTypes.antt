@@ -5,12 +5,12 @@ use Rattle.std.specs.List.{AllByRecursion, list_any}
 use Rattle.std.proofs.lemmas.Bool.{eqb-true, lt-ltb}
 use Rattle.cjc_bytes.specs.Descriptor.{AreTypes, IsDescriptor, IsResult, IsType, Part, Parts, array, base, base_kind, field, method, next, none, nothing, object, value}
 use Rattle.cjc_bytes.specs.Spots.{desc_of, part_of}
-use Rattle.cjc_bytes.specs.declared.names.Kind.{Kind}
-use Rattle.cjc_bytes.specs.declared.names.Kind.TheVariants as kinds
+use Rattle.cjc_bytes.specs.declared.descriptor.Kind.{Kind}
+use Rattle.cjc_bytes.specs.declared.descriptor.Kind.TheVariants as kinds
 use Rattle.cjc_bytes.proofs.DescriptorTypes.{desc_read, desc_spelt}
 use Rattle.cjc_script.specs.Sorts.{array_by, reference_to, shape_named, sort_by, sort_of}
 use Rattle.cjc_shrink.specs.Rows.{is_word_sort}
-use Rattle.cjc_subset.specs.Types.{is_any_foreign, is_any_int, is_foreign_desc, is_foreign_element, is_foreign_name, is_foreign_part, is_int, is_int_desc, is_int_name, is_int_part, is_other}
+use Rattle.cjc_subset.specs.Types.{is_any_unsupported, is_any_int, is_unsupported_desc, is_unsupported_element, is_unsupported_name, is_unsupported_part, is_int, is_int_desc, is_int_name, is_int_part, is_other}
 use Rattle.cjc_table_rules.specs.Calls.{IsWordDesc, is_word_result}
 use Rattle.cjc_table_rules.proofs.Spelt.{class_read}
 use Rattle.cjc_types.specs.Types.{no_parts, parts, parts_or_none}
@@ -25,9 +25,9 @@ or_right false b e = e
 
 -- ---- by the letter of a type
 
--- what holds of the four letters of types that are not foreign holds of each letter whose kind is not foreign
-pub by_letter : (P : ℕ → Kind → Type 0) → P 66 kinds.Byte → P 73 kinds.Int → P 83 kinds.Short → P 90 kinds.Bool → (b : ℕ) (kind : Kind) → base_kind b ≡ Some kind → (is_foreign_element (b ∷ []) ≡ true → P b kind) → P b kind
-by_letter P byte int short bool b kind e foreign = go (b == 66) (b == 67) (b == 68) (b == 70) (b == 73) (b == 74) (b == 83) (b == 90) refl refl refl refl refl refl refl refl e
+-- what holds of the four letters of types that are not unsupported holds of each letter whose kind is not unsupported
+pub by_letter : (P : ℕ → Kind → Type 0) → P 66 kinds.Byte → P 73 kinds.Int → P 83 kinds.Short → P 90 kinds.Bool → (b : ℕ) (kind : Kind) → base_kind b ≡ Some kind → (is_unsupported_element (b ∷ []) ≡ true → P b kind) → P b kind
+by_letter P byte int short bool b kind e unsupported = go (b == 66) (b == 67) (b == 68) (b == 70) (b == 73) (b == 74) (b == 83) (b == 90) refl refl refl refl refl refl refl refl e
   where
     is : (c : ℕ) {k : Kind} → (b == c) ≡ true → Some k ≡ Some kind → P c k → P b kind
     is c {k = k} same one h = (let letter : c ≡ b = sym (eqb-true b c same) in let kind_is : k ≡ kind = some_is one in subst (λ x. P x kind) letter (subst (P c) kind_is h))
@@ -35,8 +35,8 @@ by_letter P byte int short bool b kind e foreign = go (b == 66) (b == 67) (b == 
         some_is : Some k ≡ Some kind → k ≡ kind
         some_is same = cc
 
-    other : (c : ℕ) → (b == c) ≡ true → is_foreign_element (c ∷ []) ≡ true → P b kind
-    other c same h = foreign (ap (λ x. is_foreign_element (x ∷ [])) (eqb-true b c same) ∙ h)
+    other : (c : ℕ) → (b == c) ≡ true → is_unsupported_element (c ∷ []) ≡ true → P b kind
+    other c same h = unsupported (ap (λ x. is_unsupported_element (x ∷ [])) (eqb-true b c same) ∙ h)
 
     go : (x1 x2 x3 x4 x5 x6 x7 x8 : Bool) → (b == 66) ≡ x1 → (b == 67) ≡ x2 → (b == 68) ≡ x3 → (b == 70) ≡ x4 → (b == 73) ≡ x5 → (b == 74) ≡ x6 → (b == 83) ≡ x7 → (b == 90) ≡ x8
         → (if x1 then Some kinds.Byte else if x2 then Some kinds.Other else if x3 then Some kinds.Other else if x4 then Some kinds.Other else if x5 then Some kinds.Int else if x6 then Some kinds.Other else if x7 then Some kinds.Short else if x8 then Some kinds.Bool else None) ≡ Some kind
@@ -51,8 +51,8 @@ by_letter P byte int short bool b kind e foreign = go (b == 66) (b == 67) (b == 
     go false false false false false false false true p1 p2 p3 p4 p5 p6 p7 p8 e = is 90 p8 e bool
     go false false false false false false false false p1 p2 p3 p4 p5 p6 p7 p8 e = cc
 
--- a letter of a foreign type has the kind of these
-other_kind : (b : ℕ) (kind : Kind) → base_kind b ≡ Some kind → is_foreign_element (b ∷ []) ≡ true → is_other kind ≡ true
+-- a letter of an unsupported type has the kind of these
+other_kind : (b : ℕ) (kind : Kind) → base_kind b ≡ Some kind → is_unsupported_element (b ∷ []) ≡ true → is_other kind ≡ true
 other_kind b kind e f = go (b == 91) (b == 67) (b == 68) (b == 70) (b == 74) refl refl refl refl refl f
   where
     at : (c : ℕ) (k : Kind) → base_kind c ≡ Some k → is_other k ≡ true → (b == c) ≡ true → is_other kind ≡ true
@@ -70,29 +70,29 @@ other_kind b kind e f = go (b == 91) (b == 67) (b == 68) (b == 70) (b == 74) ref
 
 number_word : (b : ℕ) (kind : Kind) → base_kind b ≡ Some kind → is_other kind ≡ false → is_int kind ≡ false → is_word_sort (sort_by kind []) ≡ true
 number_word b kind e = by_letter (λ c k. is_other k ≡ false → is_int k ≡ false → is_word_sort (sort_by k []) ≡ true)
-    (λ f g. refl) (λ f g. absurd cc) (λ f g. refl) (λ f g. refl) b kind e (λ foreign f g. (let clash = sym (other_kind b kind e foreign) ∙ f in absurd cc))
+    (λ f g. refl) (λ f g. absurd cc) (λ f g. refl) (λ f g. refl) b kind e (λ unsupported f g. (let clash = sym (other_kind b kind e unsupported) ∙ f in absurd cc))
 
 -- an array by its elements
-element_word : {p : Part} (bytes : List ℕ) → IsType p bytes → is_foreign_element bytes ≡ false → is_word_sort (reference_to (shape_named (91 ∷ bytes))) ≡ true
+element_word : {p : Part} (bytes : List ℕ) → IsType p bytes → is_unsupported_element bytes ≡ false → is_word_sort (reference_to (shape_named (91 ∷ bytes))) ≡ true
 element_word _ (base {b = b} {kind = kind} e) f =
     let described = desc_read _ (91 ∷ b ∷ []) (field (array (base e))) in
     ap (λ o. is_word_sort (reference_to (option_and_then (λ d. array_by (part_of (b ∷ []))) o))) described
-    ∙ by_letter (λ c k. is_word_sort (reference_to (array_by (part_of (c ∷ [])))) ≡ true) refl refl refl refl b kind e (λ foreign. (let clash = sym foreign ∙ f in absurd cc))
+    ∙ by_letter (λ c k. is_word_sort (reference_to (array_by (part_of (c ∷ [])))) ≡ true) refl refl refl refl b kind e (λ unsupported. (let clash = sym unsupported ∙ f in absurd cc))
 element_word _ (object {name = name} spelt) f = ap (λ o. is_word_sort (reference_to o)) (class_read name spelt).array
 element_word _ (array t) f = absurd cc
 
-pub type_word : {p : Part} {bytes : List ℕ} → IsType p bytes → is_foreign_part p ≡ false → is_int_part p ≡ false → is_word_sort (sort_of p) ≡ true
-type_word (base {b = b} {kind = kind} e) f g = number_word b kind e (or_left (is_other kind) (is_foreign_name []) f) (or_left (is_int kind) (is_int_name []) g)
+pub type_word : {p : Part} {bytes : List ℕ} → IsType p bytes → is_unsupported_part p ≡ false → is_int_part p ≡ false → is_word_sort (sort_of p) ≡ true
+type_word (base {b = b} {kind = kind} e) f g = number_word b kind e (or_left (is_other kind) (is_unsupported_name []) f) (or_left (is_int kind) (is_int_name []) g)
 type_word (object {name = name} spelt) f g = ap (λ o. is_word_sort (reference_to o)) (class_read name spelt).class
 type_word (array {bytes = bytes} t) f g = element_word bytes t f
 
 -- ---- a descriptor
 
-types_word : {ps : List Part} {bytes : List ℕ} → AreTypes ps bytes → (more : List Part) → list_any is_foreign_part (ps ++ more) ≡ false → list_any is_int_part (ps ++ more) ≡ false → AllByRecursion (λ p. is_word_sort (sort_of p) ≡ true) ps
+types_word : {ps : List Part} {bytes : List ℕ} → AreTypes ps bytes → (more : List Part) → list_any is_unsupported_part (ps ++ more) ≡ false → list_any is_int_part (ps ++ more) ≡ false → AllByRecursion (λ p. is_word_sort (sort_of p) ≡ true) ps
 types_word none more f g = tt
 types_word (next {p = p} {ps = ps} t ts) more f g = (
-  type_word t (or_left (is_foreign_part p) (list_any is_foreign_part (ps ++ more)) f) (or_left (is_int_part p) (list_any is_int_part (ps ++ more)) g),
-  types_word ts more (or_right (is_foreign_part p) (list_any is_foreign_part (ps ++ more)) f) (or_right (is_int_part p) (list_any is_int_part (ps ++ more)) g),
+  type_word t (or_left (is_unsupported_part p) (list_any is_unsupported_part (ps ++ more)) f) (or_left (is_int_part p) (list_any is_int_part (ps ++ more)) g),
+  types_word ts more (or_right (is_unsupported_part p) (list_any is_unsupported_part (ps ++ more)) f) (or_right (is_int_part p) (list_any is_int_part (ps ++ more)) g),
 )
 
 last_false : (P : Part → Bool) (ps : List Part) (r : Part) → list_any P (ps ++ r ∷ []) ≡ false → P r ≡ false
@@ -108,18 +108,18 @@ word_so kinds.Int r h = h
 word_so kinds.Other r h = h
 word_so kinds.Ref r h = h
 
-result_word : {r : Part} {bytes : List ℕ} → IsResult r bytes → is_foreign_part r ≡ false → is_int_part r ≡ false → is_word_result r.kind (sort_of r) ≡ true
+result_word : {r : Part} {bytes : List ℕ} → IsResult r bytes → is_unsupported_part r ≡ false → is_int_part r ≡ false → is_word_result r.kind (sort_of r) ≡ true
 result_word (value {p = p} t) f g = word_so p.kind p (type_word t f g)
 result_word nothing f g = refl
 
-module _ (desc : List ℕ) (d : Parts) (short : length desc < 2 ^ 32) (is : desc_of desc ≡ Some d) (is_method : d.is_method ≡ true) (no_foreign : is_foreign_desc desc ≡ false) (no_int : is_int_desc desc ≡ false) where
+module _ (desc : List ℕ) (d : Parts) (short : length desc < 2 ^ 32) (is : desc_of desc ≡ Some d) (is_method : d.is_method ≡ true) (no_unsupported : is_unsupported_desc desc ≡ false) (no_int : is_int_desc desc ≡ false) where
   parts_are : parts desc ≡ d
   unfolding parts
   parts_are = ap (λ b. if b then parts_or_none (desc_of desc) else no_parts) (lt-ltb (length desc) (2 ^ 32) short) ∙ ap parts_or_none is
 
-  foreign_parts : is_any_foreign (Some d) ≡ false
-  unfolding is_foreign_desc
-  foreign_parts = ap is_any_foreign (sym is) ∙ ap (λ b. b && is_any_foreign (desc_of desc)) (sym (lt-ltb (length desc) (2 ^ 32) short)) ∙ no_foreign
+  unsupported_parts : is_any_unsupported (Some d) ≡ false
+  unfolding is_unsupported_desc
+  unsupported_parts = ap is_any_unsupported (sym is) ∙ ap (λ b. b && is_any_unsupported (desc_of desc)) (sym (lt-ltb (length desc) (2 ^ 32) short)) ∙ no_unsupported
 
   int_parts : is_any_int (Some d) ≡ false
   unfolding is_int_desc
@@ -128,7 +128,7 @@ module _ (desc : List ℕ) (d : Parts) (short : length desc < 2 ^ 32) (is : desc
   -- 301 and 302
   pub word_desc : IsWordDesc desc
   word_desc =
-      let both = by (desc_spelt d desc is) is_method foreign_parts int_parts in
+      let both = by (desc_spelt d desc is) is_method unsupported_parts int_parts in
       record {
         is_desc = is ∙ ap Some (sym parts_are);
         is_method = ap (λ (p : Parts). p.is_method) parts_are ∙ is_method;
@@ -136,7 +136,7 @@ module _ (desc : List ℕ) (d : Parts) (short : length desc < 2 ^ 32) (is : desc
         result = ap (λ (p : Parts). let r = p.result in is_word_result r.kind (sort_of r)) parts_are ∙ both.1;
       }
     where
-      by : {d : Parts} {bytes : List ℕ} → IsDescriptor d bytes → d.is_method ≡ true → is_any_foreign (Some d) ≡ false → is_any_int (Some d) ≡ false
+      by : {d : Parts} {bytes : List ℕ} → IsDescriptor d bytes → d.is_method ≡ true → is_any_unsupported (Some d) ≡ false → is_any_int (Some d) ≡ false
           → AllByRecursion (λ p. is_word_sort (sort_of p) ≡ true) d.params × ((let r = d.result in is_word_result r.kind (sort_of r)) ≡ true)
       by (field t) m f g = absurd cc
-      by (method {ps = ps} {r = r} ts t) m f g = (types_word ts (r ∷ []) f g, result_word t (last_false is_foreign_part ps r f) (last_false is_int_part ps r g))
+      by (method {ps = ps} {r = r} ts t) m f g = (types_word ts (r ∷ []) f g, result_word t (last_false is_unsupported_part ps r f) (last_false is_int_part ps r g))

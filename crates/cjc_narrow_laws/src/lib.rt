@@ -13,7 +13,7 @@ ghost use Rattle.cjc_classfile.specs.Code.{CodeTree};
 ghost use Rattle.cjc_classfile.specs.declared.tree.Catch.{Catch};
 ghost use Rattle.cjc_classfile.specs.declared.tree.ClassTree.{ClassTree};
 ghost use Rattle.cjc_classfile.specs.declared.tree.MethodTree.{MethodTree};
-ghost use Rattle.cjc_by_name.specs.OnePackage.{Hit, made_of, method_hit, object_fields};
+ghost use Rattle.cjc_by_name.specs.OnePackage.{ResolvedMember, made_of, method_hit, object_fields};
 ghost use Rattle.cjc_by_name.specs.Linked.{Method};
 ghost use Rattle.cjc_code.specs.declared.insn.JOp.TheVariants as jop;
 ghost use Rattle.cjc_code.specs.declared.method_code.MethodCode.{MethodCode};
@@ -98,9 +98,9 @@ pub fn unbroken_packages_are_converted()
 /// A method that a look-up finds is a class's, and a call fits the method that it names: by its name, and by
 /// whether that is static and can be selected.
 pub fn calls_fit_their_methods()
-    ensures found { (list : List ℕ) (files : Files) (codes : List MethodCode) (settings : Settings) → IsUnbroken list files codes settings → (class name desc : List ℕ) (f : Found) → find_method (all_classes files) class name desc ≡ Some f → (h : Hit) × (method_hit (all_classes files) f ≡ Some h) }
+    ensures found { (list : List ℕ) (files : Files) (codes : List MethodCode) (settings : Settings) → IsUnbroken list files codes settings → (class name desc : List ℕ) (f : Found) → find_method (all_classes files) class name desc ≡ Some f → (h : ResolvedMember) × (method_hit (all_classes files) f ≡ Some h) }
     ensures calls { (list : List ℕ) (files : Files) (codes : List MethodCode) (settings : Settings) → IsUnbroken list files codes settings → (class : ClassTree) (op : ℕ) (id : Member) → IsInsnOf files codes class (jop.Call op id)
-        → (f : Found) (h : Hit) → find_method (all_classes files) id.class id.name id.desc ≡ Some f → method_hit (all_classes files) f ≡ Some h → CallFits op id.name h.flags }
+        → (f : Found) (h : ResolvedMember) → find_method (all_classes files) id.class id.name id.desc ≡ Some f → method_hit (all_classes files) f ≡ Some h → CallFits op id.name h.flags }
 {}
 
 /// What a checkcast or an instanceof names is a class or an array of one dimension, and the class that it names

@@ -23,7 +23,7 @@ use Rattle.cjc_ncode.specs.Written.{nargs_of, words_by}
 use Rattle.cjc_ncode.specs.ByLabel.{by_label, Callee, Fixed, OnObject, OnSuper, OnInterface, Named, on_object}
 use Rattle.cjc_by_name.specs.Linked.{Method, Linked, OnClass, Inside}
 use Rattle.cjc_by_name.specs.Linked as linked_by
-use Rattle.cjc_by_name.specs.OnePackage.{Hit, method_hit, of_class, is_constructor, callee_at, selected_from, select_in, interface_callee, first_super, on_class, call_named, call_by}
+use Rattle.cjc_by_name.specs.OnePackage.{ResolvedMember, method_hit, of_class, is_constructor, callee_at, selected_from, select_in, interface_callee, first_super, on_class, call_named, call_by}
 use Rattle.cjc_by_name.specs.ByName.{linked}
 use Rattle.cjc_shrink.specs.Callees.{Names, a_static, a_direct, a_super, a_virtual, an_interface}
 use Rattle.cjc_shrink.specs.Replies.{is_of_some, AsksAlike}
@@ -112,7 +112,7 @@ module _ (files : Files) (image : StaticImage) (near : List MemberId) (tables : 
         ∙ ap (option_and_then (λ f. option_and_then (call_by files w (select_in w) holder op id f) (method_hit w f))) c.found
         ∙ ap (option_and_then (call_by files w (select_in w) holder op id c.place)) c.is_hit
 
-    counted : (on : Bool) (other : MemberId) (found : Option Hit) → other.desc ≡ id.desc → found ≡ Some c.hit → words_where on other found ≡ Some ((if on then 1 else 0) + count_of id.desc)
+    counted : (on : Bool) (other : MemberId) (found : Option ResolvedMember) → other.desc ≡ id.desc → found ≡ Some c.hit → words_where on other found ≡ Some ((if on then 1 else 0) + count_of id.desc)
     counted on other found desc is = ap (words_where on other) is ∙ ap (λ n. Some ((if on then 1 else 0) + n)) (ap (λ d. parameter_words (signature_of d)) desc ∙ parameters id.desc c.desc)
 
     -- ---- static

@@ -20,7 +20,7 @@ use Rattle.cjc_types.specs.Steps.{operand}
 use Rattle.cjc_ncode.specs.ByLabel.{Named}
 use Rattle.cjc_by_name.specs.Linked.{Method, Linked, Constant, Static, Instance}
 use Rattle.cjc_by_name.specs.Effects.{Store, is_type}
-use Rattle.cjc_by_name.specs.OnePackage.{Hit, field_named, is_made, object_fields, made_of, cells}
+use Rattle.cjc_by_name.specs.OnePackage.{ResolvedMember, field_named, is_made, object_fields, made_of, cells}
 use Rattle.cjc_by_name.specs.ByName.{linked}
 use Rattle.cjc_shrink.specs.Rows.{lists, HasField, FieldIsThere}
 use Rattle.cjc_shrink.specs.Objects.{is_field, IsMade, IsClassThere, IsTypeThere}
@@ -48,7 +48,7 @@ made_is_there w name fields e = go (class_named w name) refl e
     go (Some c) is e = (c, is)
 
 -- a field has the descriptor that names it, wherever it is found
-same_desc : (id : MemberId) (o : Option Hit) → (let f = by_owner id o in f.desc) ≡ id.desc
+same_desc : (id : MemberId) (o : Option ResolvedMember) → (let f = by_owner id o in f.desc) ≡ id.desc
 same_desc id None = refl
 same_desc id (Some hit) = refl
 

@@ -13,7 +13,7 @@ use Rattle.cjc_types.specs.declared.cell.Cell.TheVariants.{Refs}
 use Rattle.cjc_types.specs.Steps.{operand}
 use Rattle.cjc_ncode.specs.ByLabel.{Named}
 use Rattle.cjc_by_name.specs.Linked.{Callee, Inside, Abroad}
-use Rattle.cjc_by_name.specs.OnePackage.{Hit, method_hit, is_constructor, is_initialiser, callee_at, selected_from, select_in, interface_callee, first_super}
+use Rattle.cjc_by_name.specs.OnePackage.{ResolvedMember, method_hit, is_constructor, is_initialiser, callee_at, selected_from, select_in, interface_callee, first_super}
 use Rattle.cjc_shrink.specs.Relation.{IsMadeOf}
 use Rattle.cjc_table_rules.specs.Kinds.{is_one_of}
 use Rattle.cjc_table_rules.specs.Calls.{IsWordDesc, types_of, count_of}
@@ -26,7 +26,7 @@ use Rattle.cjc_narrow_runs.specs.Begun.{IsBegun}
 -- types are one word each (301, 302), and the class of its result is there (203).
 pub record IsCallee (files : Files) (id : MemberId) : Type 0 where
   pub place : Found
-  pub hit : Hit
+  pub hit : ResolvedMember
   pub found : find_method (all_classes files) id.class id.name id.desc ≡ Some place
   pub is_hit : method_hit (all_classes files) place ≡ Some hit
   pub again : (let owner = hit.owner in find_method (all_classes files) owner.name id.name id.desc) ≡ Some place
@@ -47,7 +47,7 @@ pub data IsChosen (files : Files) (tables : Tables) (id : MemberId) (type : List
   abroad : {event : MemberId} → event.desc ≡ id.desc → IsChosen files tables id type (Abroad event)
 
 -- How a call on a receiver chooses: of which class receivers are, and what is chosen by the type of one.
-pub data Chooses (files : Files) (holder : List ℕ) (id : MemberId) (place : Found) (hit : Hit) : (op : ℕ) → (class : List ℕ) → (choice : List ℕ → Option Callee) → Type 0 where
+pub data Chooses (files : Files) (holder : List ℕ) (id : MemberId) (place : Found) (hit : ResolvedMember) : (op : ℕ) → (class : List ℕ) → (choice : List ℕ → Option Callee) → Type 0 where
   -- invokevirtual: what is selected on it
   on_class : is_constructor id.name ≡ false → is_selectable hit.flags ≡ true → Chooses files holder id place hit jvm.invokevirtual id.class (λ type. selected_from files (all_classes files) (select_in (all_classes files)) type id)
   -- invokespecial: a constructor or private method itself

@@ -9,7 +9,7 @@ use Rattle.cjc_capread.specs.declared.tree.StaticField.{StaticField}
 use Rattle.cjc_components.specs.Statics.{size_of_field}
 use Rattle.cjc_sentences.specs.Complete.{Complete, described_size}
 use Rattle.cjc_sentences.specs.Consistent.{break_at}
-use Rattle.cjc_sentences.specs.declared.spot.Spot.{Spot}
+use Rattle.cjc_sentences.specs.declared.spot.ComponentPlace.{ComponentPlace}
 use Rattle.cjc_sentences.specs.Spots.{in_info, unless, beside}
 use Rattle.cjc_world.specs.declared.image.StaticImage.{StaticImage}
 use Rattle.cjc_world.specs.Classes.{Class, all_classes}
@@ -21,15 +21,15 @@ abbrev pub info_count : ClassInfo → ℕ
 info_count c = length c.interfaces + length c.classes
 
 -- As many infos as the package has classes and interfaces. Broken is the number of classes in Descriptor.
-abbrev pub count_spots : List Class → ClassInfo → List Spot
+abbrev pub count_spots : List Class → ClassInfo → List ComponentPlace
 count_spots w c = unless (info_count c == length (class_order w)) (in_info 11 0)
 
 -- a class with the methods that its class file gives it, those that are added to it counted; broken is the number of its methods
-abbrev pub methods_spots : List Class → (at : ℕ) → ClassDescriptor → Class → List Spot
+abbrev pub methods_spots : List Class → (at : ℕ) → ClassDescriptor → Class → List ComponentPlace
 methods_spots w at d c = unless (length d.methods == length (methods_of_class w c)) (in_info 11 (at + 7))
 
 -- Each class has as many methods as the package gives it, in the order of classes. They stand behind their number, of one byte.
-abbrev pub method_spots : List Class → Descriptor → List Spot
+abbrev pub method_spots : List Class → Descriptor → List ComponentPlace
 method_spots w d = beside described_size (methods_spots w) 1 d.classes (class_order w)
 
 -- the bytes of all cells of numbers
@@ -42,16 +42,16 @@ has_cells image s =
     (s.reference_count == length image.arrays + length image.nulls) && (s.default_value_count + length s.values == number_bytes image)
 
 -- The static cells have the package's sizes. Broken is the size of the image.
-abbrev pub cell_spots : StaticImage → StaticField → List Spot
+abbrev pub cell_spots : StaticImage → StaticField → List ComponentPlace
 cell_spots image s = unless (has_cells image s) (in_info 8 0)
 
 -- the first of several
-abbrev pub head_of : List Spot → List Spot
+abbrev pub head_of : List ComponentPlace → List ComponentPlace
 head_of [] = []
 head_of (s ∷ spots) = s ∷ []
 
 -- Where components are not of the package: the first of these, in this order, whatever the order of components says.
-abbrev pub pair_spots : Files → StaticImage → Complete → List Spot
+abbrev pub pair_spots : Files → StaticImage → Complete → List ComponentPlace
 pair_spots files image c =
     head_of (count_spots (all_classes files) c.class ++ (method_spots (all_classes files) c.descriptor ++ cell_spots image c.statics))
 

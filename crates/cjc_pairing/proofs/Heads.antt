@@ -9,7 +9,7 @@ use Rattle.cjc_capread.specs.declared.tree.ClassDescriptor.{ClassDescriptor}
 use Rattle.cjc_paired.specs.Pairs.{head_of, methods_spots}
 use Rattle.cjc_sentences.specs.Complete.{described_size}
 use Rattle.cjc_sentences.specs.Consistent.{break_at}
-use Rattle.cjc_sentences.specs.declared.spot.Spot.{Spot}
+use Rattle.cjc_sentences.specs.declared.spot.ComponentPlace.{ComponentPlace}
 use Rattle.cjc_sentences.specs.Spots.{beside, in_info, unless}
 use Rattle.cjc_world.specs.Classes.{Class}
 use Rattle.cjc_world.specs.Order.{methods_of_class}
@@ -17,7 +17,7 @@ use Rattle.cjc_pairing.specs.Working.Heads.{count_spots_at}
 
 -- ---- classes beside numbers
 
-abbrev pub spots_from : (at : ℕ) → List ClassDescriptor → List ℕ → List Spot
+abbrev pub spots_from : (at : ℕ) → List ClassDescriptor → List ℕ → List ComponentPlace
 spots_from at ds counts = beside described_size count_spots_at at ds counts
 
 no_count : (at : ℕ) (ds : List ClassDescriptor) → spots_from at ds [] ≡ []
@@ -39,7 +39,7 @@ step at i e x ds counts ld lc is =
     ∙ ap (λ (zs : List ℕ). spots_from at (x ∷ drop (i + 1) ds) zs) (drop_more counts i e lc)
 
 -- it has so many methods
-pub passed : (at next i e : ℕ) (x : ClassDescriptor) (ds : List ClassDescriptor) (counts : List ℕ) (total : List Spot) → i < length ds → i < length counts → x ≡ get_or ds i x
+pub passed : (at next i e : ℕ) (x : ClassDescriptor) (ds : List ClassDescriptor) (counts : List ℕ) (total : List ComponentPlace) → i < length ds → i < length counts → x ≡ get_or ds i x
     → length x.methods ≡ get_or counts i e → next ≡ at + described_size x
     → head_of (spots_from at (drop i ds) (drop i counts)) ≡ total → head_of (spots_from next (drop (i + 1) ds) (drop (i + 1) counts)) ≡ total
 passed at next i e x ds counts total ld lc is same n so_far =
@@ -51,7 +51,7 @@ passed at next i e x ds counts total ld lc is same n so_far =
     ∙ so_far
 
 -- it has another number of methods
-pub stopped : (at i e : ℕ) (x : ClassDescriptor) (ds : List ClassDescriptor) (counts : List ℕ) (total : List Spot) → i < length ds → i < length counts → x ≡ get_or ds i x
+pub stopped : (at i e : ℕ) (x : ClassDescriptor) (ds : List ClassDescriptor) (counts : List ℕ) (total : List ComponentPlace) → i < length ds → i < length counts → x ≡ get_or ds i x
     → (length x.methods ≡ get_or counts i e → ⊥)
     → head_of (spots_from at (drop i ds) (drop i counts)) ≡ total → in_info 11 (at + 7) ∷ [] ≡ total
 stopped at i e x ds counts total ld lc is other so_far =
@@ -61,13 +61,13 @@ stopped at i e x ds counts total ld lc is other so_far =
     ∙ ap head_of (sym (step at i e x ds counts ld lc is))
     ∙ so_far
 
-pub short : (at i : ℕ) (ds : List ClassDescriptor) (counts : List ℕ) (total : List Spot) → length counts ≤ i → head_of (spots_from at (drop i ds) (drop i counts)) ≡ total → [] ≡ total
+pub short : (at i : ℕ) (ds : List ClassDescriptor) (counts : List ℕ) (total : List ComponentPlace) → length counts ≤ i → head_of (spots_from at (drop i ds) (drop i counts)) ≡ total → [] ≡ total
 short at i ds counts total le so_far =
     ap head_of (sym (no_count at (drop i ds)))
     ∙ ap (λ (zs : List ℕ). head_of (spots_from at (drop i ds) zs)) (sym (drop_all i counts le))
     ∙ so_far
 
-pub all : (at i : ℕ) (ds : List ClassDescriptor) (counts : List ℕ) (total : List Spot) → length ds ≤ i → head_of (spots_from at (drop i ds) (drop i counts)) ≡ total → [] ≡ total
+pub all : (at i : ℕ) (ds : List ClassDescriptor) (counts : List ℕ) (total : List ComponentPlace) → length ds ≤ i → head_of (spots_from at (drop i ds) (drop i counts)) ≡ total → [] ≡ total
 all at i ds counts total le so_far =
     ap head_of (sym (no_class at (drop i counts)))
     ∙ ap (λ (zs : List ClassDescriptor). head_of (spots_from at zs (drop i counts))) (sym (drop_all i ds le))
@@ -87,6 +87,6 @@ pub first_alone : (bs : List Break) (o : Option Break) → option_to_list o ≡ 
 first_alone bs None e = sym e
 first_alone bs (Some b) e = subst (IsFirst b) e (first_of_one b)
 
-pub none_told : (spots : List Spot) → map (break_at 719) spots ≡ [] → spots ≡ []
+pub none_told : (spots : List ComponentPlace) → map (break_at 719) spots ≡ [] → spots ≡ []
 none_told [] e = refl
 none_told (s ∷ spots) e = absurd cc

@@ -5,11 +5,11 @@ ghost use Rattle.std.specs.Prelude.{◌≡◌, ◌+◌, ◌++◌, ◌<◌, ◌^�
 ghost use Rattle.cjc_bytes.specs.Breaks.{broken_at};
 ghost use Rattle.cjc_bytes.specs.Told.{break_of};
 ghost use Rattle.cjc_sentences.specs.Consistent.{break_at};
-ghost use Rattle.cjc_sentences.specs.declared.spot.Spot.{Spot as Place};
+ghost use Rattle.cjc_sentences.specs.declared.spot.ComponentPlace.{ComponentPlace as Place};
 ghost use Rattle.cjc_sentences.specs.Spots.{in_info, unless};
 ghost use Rattle.cjc_pairing.specs.Working.Heads.{IsHead, place_in};
 
-use cjc_bytes::{Break, FileKey, Part, PlaceRef, Spot};
+use cjc_bytes::{Break, FileKey, Part, PlaceRef, RulePlace};
 
 /// The number of the sentence.
 const SENTENCE: u16 = 719;
@@ -21,7 +21,7 @@ fn broken(component: u8, file: &'static [u8], at: u32) -> Break<'static>
 {
     Break {
         rule: SENTENCE,
-        spot: Spot {
+        spot: RulePlace {
             file: FileKey::Component(component),
             class: 0,
             member: 0,

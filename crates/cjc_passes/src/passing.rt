@@ -11,7 +11,7 @@ ghost use Rattle.cjc_types.specs.Tables.{IsMethodOf, IsOfPackage, IsTypeTable, r
 ghost use Rattle.cjc_flow.specs.Constants.{AreNumbers, values_of};
 ghost use Rattle.cjc_flow.specs.Tables.{IsRangeTable, ranges_of};
 ghost use Rattle.cjc_passes.specs.Answers.{IsFound};
-ghost use Rattle.cjc_passes.specs.Working.Search.{first_from, row_rule as row_rule_of};
+ghost use Rattle.cjc_passes.specs.Working.Search.{first_from, row_rule};
 
 use crate::rules::lowest_rule;
 use cjc_bytes::{BrokenAt, NoMemory};
@@ -32,7 +32,7 @@ struct Found {
 
 /// The lowest rule that an instruction breaks, where both tables reach it.
 fn row_rule(desc: &[u8], insn: &JInsn, frame: &Option<Frame>, row: &Option<Ranges>) -> Option<u16>
-    ensures { (b : Body) → b.desc ≡ desc.now → result ≡ row_rule_of b insn.now (option_map state_of frame.now) row.now }
+    ensures { (b : Body) → b.desc ≡ desc.now → result ≡ row_rule b insn.now (option_map state_of frame.now) row.now }
 {
     match (frame, row) {
         (Some(frame), Some(before)) => lowest_rule(desc, &insn.op, &frame.stack, before),

@@ -4,14 +4,14 @@ ghost use Rattle.std.specs.Prelude.{◌≡◌, if◌then◌else◌, length, None
 ghost use Rattle.std.specs.List.{list_any};
 ghost use Rattle.cjc_range.specs.Span.{span, short_range};
 ghost use Rattle.cjc_types.specs.Flow.{Body};
-ghost use Rattle.cjc_types.specs.Rules.{tests_references as tests_references_by};
-ghost use Rattle.cjc_types.specs.Steps.{compares as compares_by, operand as typed_operand};
+ghost use Rattle.cjc_types.specs.Rules.{tests_references};
+ghost use Rattle.cjc_types.specs.Steps.{compares, operand as typed_operand};
 ghost use Rattle.cjc_types.specs.Types.{parts};
-ghost use Rattle.cjc_range_flow.specs.Bounds.{divides as divides_by, index_range, may_hold_booleans as may_hold_booleans_of, shifts_right as shifts_right_by};
+ghost use Rattle.cjc_range_flow.specs.Bounds.{divides, index_range, may_hold_booleans, shifts_right};
 ghost use Rattle.cjc_range_flow.specs.Frames.{spans_of};
 ghost use Rattle.cjc_range_flow.specs.Steps.{operand};
 ghost use Rattle.cjc_range_flow.specs.Values.{is_boolean_array};
-ghost use Rattle.cjc_passes.specs.Working.Search.{arguments_rule as arguments_rule_of, arithmetic_rule as arithmetic_rule_of, comparison_rule as comparison_rule_of, element_rule as element_rule_of, kind_rule as kind_rule_of, lower as lower_of, lowest_rule as lowest_rule_of, part_rule, put_rule as put_rule_of, tested as tested_by};
+ghost use Rattle.cjc_passes.specs.Working.Search.{arguments_rule, arithmetic_rule, comparison_rule, element_rule, kind_rule, lower, lowest_rule, part_rule, put_rule, tested};
 
 use cjc_bytes::{Kind, MemberId};
 use cjc_code::{JOp, jvm};
@@ -21,7 +21,7 @@ use cjc_types::{Cell, Name, Operands, parsed};
 
 /// The rule, where the interval does not lie from `low` to `high`.
 fn tested(rule: u16, low: i32, high: i32, interval: Interval) -> Option<u16>
-    ensures { result ≡ tested_by rule (span low high) interval }
+    ensures { result ≡ tested rule (span low high) interval }
 {
     if low <= interval.low && interval.high <= high {
         None
@@ -31,20 +31,20 @@ fn tested(rule: u16, low: i32, high: i32, interval: Interval) -> Option<u16>
 }
 
 fn short_tested(rule: u16, interval: Interval) -> Option<u16>
-    ensures { result ≡ tested_by rule short_range interval }
+    ensures { result ≡ tested rule short_range interval }
 {
     tested(rule, -32768, 32767, interval)
 }
 
 fn index_tested(interval: Interval) -> Option<u16>
-    ensures { result ≡ tested_by 606 index_range interval }
+    ensures { result ≡ tested 606 index_range interval }
 {
     tested(606, -32769, 65535, interval)
 }
 
 /// The lower of two rules.
 fn lower(left: Option<u16>, right: Option<u16>) -> Option<u16>
-    ensures { result ≡ lower_of left right }
+    ensures { result ≡ lower left right }
 {
     match (left, right) {
         (None, other) => other,
@@ -61,7 +61,7 @@ fn lower(left: Option<u16>, right: Option<u16>) -> Option<u16>
 
 /// Of a number that is put, passed or returned as a value of a type.
 fn kind_rule(kind: Kind, interval: Interval) -> Option<u16>
-    ensures { result ≡ kind_rule_of kind interval }
+    ensures { result ≡ kind_rule kind interval }
 {
     match kind {
         Kind::Short => short_tested(607, interval),
@@ -83,7 +83,7 @@ fn result_rule(desc: &[u8], interval: Interval) -> Option<u16>
 
 /// Of the arguments of a call.
 fn arguments_rule(method: &MemberId, before: &Ranges) -> Option<u16>
-    ensures { result ≡ arguments_rule_of method.now (length (parts method.now.desc).params) (spans_of before.now.stack) }
+    ensures { result ≡ arguments_rule method.now (length (parts method.now.desc).params) (spans_of before.now.stack) }
 {
     let mut rule = None;
     if let Some(parts) = parsed(method.desc.items()) {
@@ -97,7 +97,7 @@ fn arguments_rule(method: &MemberId, before: &Ranges) -> Option<u16>
 }
 
 fn tests_references(opcode: u8) -> bool
-    ensures { result ≡ tests_references_by opcode }
+    ensures { result ≡ tests_references opcode }
 {
     match opcode {
         jvm::IF_ACMPEQ | jvm::IF_ACMPNE | jvm::IFNULL | jvm::IFNONNULL => true,
@@ -106,14 +106,14 @@ fn tests_references(opcode: u8) -> bool
 }
 
 fn compares(opcode: u8) -> bool
-    ensures { result ≡ compares_by opcode }
+    ensures { result ≡ compares opcode }
 {
     jvm::IF_ICMPEQ <= opcode && opcode <= jvm::IF_ACMPNE
 }
 
 /// 601: a comparison of numbers.
 fn comparison_rule(opcode: u8, before: &Ranges) -> Option<u16>
-    ensures { result ≡ comparison_rule_of opcode (spans_of before.now.stack) }
+    ensures { result ≡ comparison_rule opcode (spans_of before.now.stack) }
 {
     if tests_references(opcode) {
         return None;
@@ -127,19 +127,19 @@ fn comparison_rule(opcode: u8, before: &Ranges) -> Option<u16>
 }
 
 fn divides(opcode: u8) -> bool
-    ensures { result ≡ divides_by opcode }
+    ensures { result ≡ divides opcode }
 {
     opcode == jvm::IDIV || opcode == jvm::IREM
 }
 
 fn shifts_right(opcode: u8) -> bool
-    ensures { result ≡ shifts_right_by opcode }
+    ensures { result ≡ shifts_right opcode }
 {
     opcode == jvm::ISHR || opcode == jvm::IUSHR
 }
 
 fn division_rule(opcode: u8, before: &Ranges) -> Option<u16>
-    ensures { result ≡ (if divides_by opcode then lower_of (tested_by 602 short_range (operand (spans_of before.now.stack) 0)) (tested_by 602 short_range (operand (spans_of before.now.stack) 1)) else None) }
+    ensures { result ≡ (if divides opcode then lower (tested 602 short_range (operand (spans_of before.now.stack) 0)) (tested 602 short_range (operand (spans_of before.now.stack) 1)) else None) }
 {
     if divides(opcode) {
         lower(
@@ -152,7 +152,7 @@ fn division_rule(opcode: u8, before: &Ranges) -> Option<u16>
 }
 
 fn shift_rule(opcode: u8, before: &Ranges) -> Option<u16>
-    ensures { result ≡ (if shifts_right_by opcode then tested_by 603 short_range (operand (spans_of before.now.stack) 1) else None) }
+    ensures { result ≡ (if shifts_right opcode then tested 603 short_range (operand (spans_of before.now.stack) 1) else None) }
 {
     if shifts_right(opcode) {
         short_tested(603, before.operand(1))
@@ -163,7 +163,7 @@ fn shift_rule(opcode: u8, before: &Ranges) -> Option<u16>
 
 /// 602 and 603: a division, and a shift to the right.
 fn arithmetic_rule(opcode: u8, before: &Ranges) -> Option<u16>
-    ensures { result ≡ arithmetic_rule_of opcode (spans_of before.now.stack) }
+    ensures { result ≡ arithmetic_rule opcode (spans_of before.now.stack) }
 {
     lower(division_rule(opcode, before), shift_rule(opcode, before))
 }
@@ -189,7 +189,7 @@ fn has_booleans(types: &[Name]) -> bool
 }
 
 fn may_hold_booleans(array: &Cell) -> bool
-    ensures { result ≡ may_hold_booleans_of array.now }
+    ensures { result ≡ may_hold_booleans array.now }
 {
     match array {
         Cell::Refs(types) => has_booleans(types.items()),
@@ -199,7 +199,7 @@ fn may_hold_booleans(array: &Cell) -> bool
 
 /// 609 of a byte that is stored into what may be an array of booleans.
 fn element_rule(opcode: u8, types: &Operands, interval: Interval) -> Option<u16>
-    ensures { result ≡ element_rule_of opcode (typed_operand types.now 2) interval }
+    ensures { result ≡ element_rule opcode (typed_operand types.now 2) interval }
 {
     match types.get(2) {
         Some(array) if opcode == jvm::BASTORE && may_hold_booleans(array) => tested(
@@ -210,7 +210,7 @@ fn element_rule(opcode: u8, types: &Operands, interval: Interval) -> Option<u16>
 }
 
 fn store_rule(opcode: u8, types: &Operands, before: &Ranges) -> Option<u16>
-    ensures { result ≡ lower_of (tested_by 606 index_range (operand (spans_of before.now.stack) 1)) (element_rule_of opcode (typed_operand types.now 2) (operand (spans_of before.now.stack) 0)) }
+    ensures { result ≡ lower (tested 606 index_range (operand (spans_of before.now.stack) 1)) (element_rule opcode (typed_operand types.now 2) (operand (spans_of before.now.stack) 0)) }
 {
     lower(
         index_tested(before.operand(1)),
@@ -220,7 +220,7 @@ fn store_rule(opcode: u8, types: &Operands, before: &Ranges) -> Option<u16>
 
 /// 607 to 609 of a number that is put into a field.
 fn put_rule(put: bool, field: &MemberId, before: &Ranges) -> Option<u16>
-    ensures { result ≡ put_rule_of put field.now (spans_of before.now.stack) }
+    ensures { result ≡ put_rule put field.now (spans_of before.now.stack) }
 {
     if put {
         result_rule(field.desc.items(), before.operand(0))
@@ -231,7 +231,7 @@ fn put_rule(put: bool, field: &MemberId, before: &Ranges) -> Option<u16>
 
 /// The lowest rule that an instruction of a method with this descriptor breaks.
 pub(crate) fn lowest_rule(desc: &[u8], op: &JOp, types: &Operands, before: &Ranges) -> Option<u16>
-    ensures { (b : Body) → b.desc ≡ desc.now → result ≡ lowest_rule_of b op.now types.now (spans_of before.now.stack) }
+    ensures { (b : Body) → b.desc ≡ desc.now → result ≡ lowest_rule b op.now types.now (spans_of before.now.stack) }
 {
     match op {
         JOp::If { op: opcode, .. } => comparison_rule(*opcode, before),

@@ -7,7 +7,7 @@ use Rattle.std.proofs.lemmas.List.Folds.{list_any-append}
 use Rattle.indexmap.specs.IndexSet.{insert_all}
 use Rattle.cjc_bytes.specs.declared.fault.MemberId.{MemberId}
 use Rattle.cjc_bytes.specs.declared.fault.Fault.{Fault}
-use Rattle.cjc_bytes.specs.Breaks.{Spot, at}
+use Rattle.cjc_bytes.specs.Breaks.{RulePlace, at}
 use Rattle.cjc_world.specs.Files.{Files}
 use Rattle.cjc_tokens.specs.Tokens.{Assigned, joined}
 use Rattle.cjc_tokens.proofs.Facts.{position-cons}
@@ -80,11 +80,11 @@ token_found files tokens methods all ks row is_ks is_row id =
     (ap (list_any (same_key (keys.Virtual id))) is_ks ∙ each_once (keys.Virtual id) (flat_map method_calls methods) ∙ of_methods id methods)
 
 -- what breaks nothing is not broken
-pub unbroken : (b : Bool) (s : Spot) (rule : ℕ) → at b s rule ≡ [] → b ≡ false
+pub unbroken : (b : Bool) (s : RulePlace) (rule : ℕ) → at b s rule ≡ [] → b ≡ false
 unbroken true s rule e = cc
 unbroken false s rule e = refl
 
 -- few entries, where more would break the rule
-pub few_where : (count : ℕ) (result : Result (Unit {0}) Fault) (s : Spot) → OnOk result (at (nat_lt most_entries count) s 414 ≡ []) → OnOk result (count ≤ most_entries)
+pub few_where : (count : ℕ) (result : Result (Unit {0}) Fault) (s : RulePlace) → OnOk result (at (nat_lt most_entries count) s 414 ≡ []) → OnOk result (count ≤ most_entries)
 few_where count (Ok u) s h = let e = unbroken (nat_lt most_entries count) s 414 h in grind arith
 few_where count (Err fault) s h = tt

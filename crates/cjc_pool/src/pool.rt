@@ -5,7 +5,7 @@ ghost use Rattle.cjc_bytes.specs.Breaks.{IsFirstRefusal, at, list_spot};
 ghost use Rattle.cjc_pool.specs.Pool.{IsPool, most_entries, pool_breaks};
 
 use crate::calls::{called, tokens_of};
-use cjc_bytes::{Fault, Row, Spot, answer, broken};
+use cjc_bytes::{Fault, Row, RulePlace, answer, broken};
 use cjc_keys::{Numbers, number};
 use cjc_ncode::{NMethod, PoolKey};
 use cjc_tokens::Tokens;
@@ -62,7 +62,7 @@ fn test_count(alloc: Global, list: &[u8], count: usize) -> Result<(), Fault>
     ensures unbroken { OnOk result (at (nat_lt most_entries count) (list_spot list.now) 414 ≡ []) }
     ensures refused { IfErr result (IsFirstRefusal (at (nat_lt most_entries count) (list_spot list.now) 414)) }
 {
-    let spot = Spot::of_list(list);
+    let spot = RulePlace::of_list(list);
     answer(alloc, broken(count > MOST_ENTRIES, spot, 414))
 }
 

@@ -12,7 +12,7 @@ use Rattle.cjc_code.specs.Decoded.{decoding, decoding_at, of_code, of_method}
 use Rattle.cjc_code.specs.PackageCodes.{of_classes, where_code}
 use Rattle.cjc_code.specs.PackageCodes as package_codes
 use Rattle.cjc_code.specs.declared.insn.JInsn.{JInsn}
-use Rattle.cjc_judge.specs.Codes.{all_foreigns, foreign_with}
+use Rattle.cjc_judge.specs.Codes.{all_unsupported_insns, unsupported_with}
 use Rattle.cjc_judge.specs.Spelt.{FileTree, classes_of, of_class, of_export}
 use Rattle.cjc_judge.specs.Trees.{AllSpelt, AreInstructions}
 use Rattle.cjc_judge.proofs.Decoding.{method_rule}
@@ -78,13 +78,13 @@ module _ {A : Type 0} (f : ℕ → ℕ → Result (List JInsn) BrokenAt → List
       in_right x (package_codes.of_methods f first 0 t t.methods) (of_classes f (first + 1) trees) (in_classes (first + 1) n i x at trees tree m e g h)
 
 -- a method that breaks 303 is among all that do
-pub foreign_listed : (offset n i : ℕ) (trees : List ClassTree) (tree : ClassTree) (m : MethodTree) → slice_get trees n ≡ Some tree → slice_get tree.methods i ≡ Some m → of_code tree m m.code ≡ Err (record { rule = 303; offset = offset })
-    → (p : ℕ) × (slice_get (all_foreigns trees) p ≡ Some (record { class = n; method = i; offset = offset }))
+pub unsupported_listed : (offset n i : ℕ) (trees : List ClassTree) (tree : ClassTree) (m : MethodTree) → slice_get trees n ≡ Some tree → slice_get tree.methods i ≡ Some m → of_code tree m m.code ≡ Err (record { rule = 303; offset = offset })
+    → (p : ℕ) × (slice_get (all_unsupported_insns trees) p ≡ Some (record { class = n; method = i; offset = offset }))
 unfolding In
-foreign_listed offset n i trees tree m e f g =
+unsupported_listed offset n i trees tree m e f g =
     let zero_more : n ≡ 0 + n = omega arith in
-    in_classes foreign_with (record { rule = 303; offset = offset }) 0 n i (record { class = n; method = i; offset = offset })
-    (subst (λ c. In (record { class = n; method = i; offset = offset }) (foreign_with c i (Err (record { rule = 303; offset = offset })))) zero_more (0, refl))
+    in_classes unsupported_with (record { rule = 303; offset = offset }) 0 n i (record { class = n; method = i; offset = offset })
+    (subst (λ c. In (record { class = n; method = i; offset = offset }) (unsupported_with c i (Err (record { rule = 303; offset = offset })))) zero_more (0, refl))
     trees tree m e f g
 
 -- ---- what was read
@@ -111,7 +111,7 @@ code_bytes class i method tree fits e f =
 -- An answer that is neither of these breaks is a run of instructions.
 pub decoded_unless : (class : ClassTree) (i : ℕ) (method : MethodTree) (tree : CodeTree) → slice_get class.methods i ≡ Some method → method.code ≡ Some tree → AreInstructions class
     → ((offset : ℕ) → of_code class method method.code ≡ Err (record { rule = 303; offset = offset }) → ⊥) → (insns : List JInsn) × (decoding class method tree ≡ Ok insns)
-decoded_unless class i method tree e f unfit foreign = by (decoding class method tree) refl
+decoded_unless class i method tree e f unfit unsupported = by (decoding class method tree) refl
   where
     at : decoding_at class i ≡ decoding class method tree
     at = ap (of_method class) e ∙ ap (of_code class method) f
@@ -126,5 +126,5 @@ decoded_unless class i method tree e f unfit foreign = by (decoding class method
     by (Ok insns) g = (insns, refl)
     by (Err b) g = absurd (⊎_elim
         (λ rule. unfit i b.offset (at ∙ g ∙ ap (λ x. Err x) (whole b 103 rule)))
-        (λ rule. foreign b.offset (own ∙ g ∙ ap (λ x. Err x) (whole b 303 rule)))
+        (λ rule. unsupported b.offset (own ∙ g ∙ ap (λ x. Err x) (whole b 303 rule)))
         (method_rule class (slice_get class.methods i) b (at ∙ g)))

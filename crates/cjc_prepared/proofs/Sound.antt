@@ -14,8 +14,8 @@ use Rattle.cjc_code.specs.PackageCodes.{all_codes}
 use Rattle.cjc_code.specs.declared.method_code.MethodCode.{MethodCode}
 use Rattle.cjc_judge.specs.declared.groups.Group.TheVariants as groups
 use Rattle.cjc_judge.specs.declared.judged.Judged.{Judged}
-use Rattle.cjc_judge.specs.Codes.{all_foreigns}
-use Rattle.cjc_judge.specs.Rules.{files_spelt, foreign_break, foreign_breaks, has_applets, settings_of, of_group}
+use Rattle.cjc_judge.specs.Codes.{all_unsupported_insns}
+use Rattle.cjc_judge.specs.Rules.{files_spelt, unsupported_break, unsupported_breaks, has_applets, settings_of, of_group}
 use Rattle.cjc_judge.specs.Spelt.{FileTree, classes_of}
 use Rattle.cjc_judge.specs.Spelt as spelt_files
 use Rattle.cjc_judge.specs.Trees.{AllSpelt}
@@ -35,7 +35,7 @@ use Rattle.cjc_world.specs.Files.{Files}
 use Rattle.cjc_world.specs.Rules.{breaks}
 use Rattle.cjc_prepared.specs.Prepared.{IsSound, tested}
 use Rattle.cjc_prepared.proofs.Limited as limited
-use Rattle.cjc_prepared.proofs.Decoded.{class_read, code_bytes, decoded_unless, foreign_listed}
+use Rattle.cjc_prepared.proofs.Decoded.{class_read, code_bytes, decoded_unless, unsupported_listed}
 
 -- ---- the lines
 
@@ -126,18 +126,18 @@ module _ (list : ListTree) (files : List (List ℕ)) (judged : Judged) (is : IsS
 
   -- ---- the methods
 
-  not_foreign : (n i : ℕ) (class : ClassTree) (method : MethodTree) (offset : ℕ) → slice_get (classes_of trees) n ≡ Some class → slice_get class.methods i ≡ Some method
+  not_unsupported : (n i : ℕ) (class : ClassTree) (method : MethodTree) (offset : ℕ) → slice_get (classes_of trees) n ≡ Some class → slice_get class.methods i ≡ Some method
       → of_code class method method.code ≡ Err (record { rule = 303; offset = offset }) → ⊥
-  unfolding foreign_breaks foreign_break
-  not_foreign n i class method offset e f g =
-      let listed = foreign_listed offset n i (classes_of trees) class method e f g in
+  unfolding unsupported_breaks unsupported_break
+  not_unsupported n i class method offset e f g =
+      let listed = unsupported_listed offset n i (classes_of trees) class method e f g in
       let spelt = spells list.lines files trees is.judged_by.read.spelt in
-      let none : foreign_breaks (files_spelt list trees) (all_foreigns (classes_of trees)) ≡ [] = none_among (foreign_breaks (files_spelt list trees) (all_foreigns (classes_of trees)))
+      let none : unsupported_breaks (files_spelt list trees) (all_unsupported_insns (classes_of trees)) ≡ [] = none_among (unsupported_breaks (files_spelt list trees) (all_unsupported_insns (classes_of trees)))
       (λ b among. is.judged_by.unbroken b (of_group (0, groups.Unsupported, refl, (trees, spelt, among)))) in
-      let here = each_at (λ _ x. foreign_break (files_spelt list trees) x) listed.0 (all_foreigns (classes_of trees)) (record { class = n; method = i; offset = offset }) none listed.1 in
+      let here = each_at (λ _ x. unsupported_break (files_spelt list trees) x) listed.0 (all_unsupported_insns (classes_of trees)) (record { class = n; method = i; offset = offset }) none listed.1 in
       let breaks : FilePlace → ClassTree → MethodTree → List Break = λ g c m. broken_at (at_method g c i m offset) 303 ∷ [] in
       let place : FilePlace = file_of list.lines n in
-      let told : foreign_break (files_spelt list trees) (record { class = n; method = i; offset = offset }) ≡ broken_at (at_method place class i method offset) 303 ∷ [] =
+      let told : unsupported_break (files_spelt list trees) (record { class = n; method = i; offset = offset }) ≡ broken_at (at_method place class i method offset) 303 ∷ [] =
       ap (of_class breaks place i) e ∙ ap (of_method breaks place class) f in
       no_break (broken_at (at_method place class i method offset) 303) (sym told ∙ here)
 
@@ -145,7 +145,7 @@ module _ (list : ListTree) (files : List (List ℕ)) (judged : Judged) (is : IsS
   decoded n i class method tree e f g =
       let there : slice_get (classes_of trees) n ≡ Some class = sym (ap (λ cs. slice_get cs n) is.judged_by.read.classes) ∙ e in
       let read = class_read list.lines files trees n class is.judged_by.read.spelt there in
-      let d = decoded_unless class i method tree f g read.0 (λ offset broken. not_foreign n i class method offset there f broken) in
+      let d = decoded_unless class i method tree f g read.0 (λ offset broken. not_unsupported n i class method offset there f broken) in
       record { bytes = code_bytes class i method tree read.1 f g; insns = d.0; decodes = d.1 }
 
   pub are_ready : AreReady judged.world judged.codes judged.types

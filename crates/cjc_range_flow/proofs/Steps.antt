@@ -7,8 +7,8 @@ use Rattle.std.proofs.lemmas.List.{length-set}
 use Rattle.std.proofs.lemmas.List.Elements.{All-nil, All-append, All-drop, All-set}
 use Rattle.cjc_bytes.specs.Descriptor.{Part}
 use Rattle.cjc_bytes.specs.declared.fault.MemberId.{MemberId}
-use Rattle.cjc_bytes.specs.declared.names.Kind.{Kind}
-use Rattle.cjc_bytes.specs.declared.names.Kind.TheVariants as kinds
+use Rattle.cjc_bytes.specs.declared.descriptor.Kind.{Kind}
+use Rattle.cjc_bytes.specs.declared.descriptor.Kind.TheVariants as kinds
 use Rattle.cjc_range.specs.Span.{Span, span, IsWord, Within, full, byte_range, short_range}
 use Rattle.cjc_range.proofs.Spans.{clip_cases}
 use Rattle.cjc_range.proofs.Order.{within_refl, word_full, add_monotone, sub_monotone, mul_monotone, div_monotone, rem_monotone, neg_monotone, shl_monotone, shr_monotone, to_byte_monotone, to_short_monotone, add_word, sub_word, mul_word, div_word, rem_word, neg_word, shl_word, shr_word, to_byte_word, to_short_word}

@@ -2,8 +2,8 @@
 use Rattle.std.specs.Prelude.{ℕ, Bool, ◌==◌, if◌then◌else◌, List, [], ◌∷◌, ℤ, pos}
 use Rattle.std.specs.List.{list_all}
 use Rattle.cjc_bytes.specs.Descriptor.{Part}
-use Rattle.cjc_bytes.specs.declared.names.Kind.{Kind}
-use Rattle.cjc_bytes.specs.declared.names.Kind.TheVariants as kinds
+use Rattle.cjc_bytes.specs.declared.descriptor.Kind.{Kind}
+use Rattle.cjc_bytes.specs.declared.descriptor.Kind.TheVariants as kinds
 use Rattle.cjc_range.specs.Span.{Span, span, byte_range, short_range, full}
 use Rattle.cjc_range.specs.Rows.{clip}
 use Rattle.cjc_types.specs.declared.cell.Cell.{Cell}

@@ -22,7 +22,7 @@ use Rattle.cjc_types.specs.Types.{parts, value_of}
 use Rattle.cjc_vtable.proofs.Filed.{IsFiled, in_class_file, in_export_file, filed}
 use Rattle.cjc_world.specs.Classes.{Class, Member, all_classes, class_named, field_of_class, field_of_export}
 use Rattle.cjc_world.specs.Files.{Files}
-use Rattle.cjc_world.specs.Kin.{Kin, known_as, in_a_row, grown, kin}
+use Rattle.cjc_world.specs.Supertypes.{Supertypes, known_as, in_a_row, supertypes_within, supertypes}
 use Rattle.cjc_world.specs.Lookup.{or_else, is_called, member_at, own_field, field_in, find_field}
 use Rattle.cjc_world.specs.declared.found.Found.{Found}
 use Rattle.cjc_range_rules.specs.OutOfRange.{constants_of}
@@ -44,24 +44,24 @@ module _ (w : List Class) (own : Class → Option Found) (f : Found) where
   one_of None None (Some s) n p q r t e = r e
   one_of None None None n p q r t e = t e
 
-  known_in : (above : List (List ℕ) → Kin) → ((xs : List (List ℕ)) → field_in own (above xs) ≡ Some f → FoundIn w own f) → (x : List ℕ) (o : Option Class) → class_named w x ≡ o
-      → (next : Kin) → (field_in own next ≡ Some f → FoundIn w own f) → field_in own (known_as above x o next) ≡ Some f → FoundIn w own f
+  known_in : (above : List (List ℕ) → Supertypes) → ((xs : List (List ℕ)) → field_in own (above xs) ≡ Some f → FoundIn w own f) → (x : List ℕ) (o : Option Class) → class_named w x ≡ o
+      → (next : Supertypes) → (field_in own next ≡ Some f → FoundIn w own f) → field_in own (known_as above x o next) ≡ Some f → FoundIn w own f
   known_in above up x None is next go e = go e
   known_in above up x (Some c) is next go e =
       one_of (own c) (field_in own (above c.interfaces)) (field_in own (above c.supers)) (field_in own next)
       (λ a. record { name = x; class = c; is_class = is; is_own = a }) (up c.interfaces) (up c.supers) go e
 
-  row_in : (above : List (List ℕ) → Kin) → ((xs : List (List ℕ)) → field_in own (above xs) ≡ Some f → FoundIn w own f) → (xs : List (List ℕ)) → field_in own (in_a_row w above xs) ≡ Some f → FoundIn w own f
+  row_in : (above : List (List ℕ) → Supertypes) → ((xs : List (List ℕ)) → field_in own (above xs) ≡ Some f → FoundIn w own f) → (xs : List (List ℕ)) → field_in own (in_a_row w above xs) ≡ Some f → FoundIn w own f
   row_in above up [] e = absurd cc
   row_in above up (x ∷ xs) e = known_in above up x (class_named w x) refl (in_a_row w above xs) (row_in above up xs) e
 
-  grown_in : (n : ℕ) (xs : List (List ℕ)) → field_in own (grown w n xs) ≡ Some f → FoundIn w own f
-  unfolding grown
+  grown_in : (n : ℕ) (xs : List (List ℕ)) → field_in own (supertypes_within w n xs) ≡ Some f → FoundIn w own f
+  unfolding supertypes_within
   grown_in zero xs e = absurd cc
-  grown_in (suc n) xs e = row_in (grown w n) (grown_in n) xs e
+  grown_in (suc n) xs e = row_in (supertypes_within w n) (grown_in n) xs e
 
-  found_in : (xs : List (List ℕ)) → field_in own (kin w xs) ≡ Some f → FoundIn w own f
-  unfolding kin
+  found_in : (xs : List (List ℕ)) → field_in own (supertypes w xs) ≡ Some f → FoundIn w own f
+  unfolding supertypes
   found_in xs e = grown_in (suc (length w)) xs e
 
 -- ---- a class's own field

@@ -14,9 +14,9 @@ abbrev pub line_feed : List ℕ
 line_feed = 10 ∷ []
 
 -- a part of a place, or a dash where it is empty
-abbrev pub shown_lem : List ℕ → List ℕ
-shown_lem [] = codes "-"
-shown_lem (c ∷ part) = c ∷ part
+abbrev pub shown_part : List ℕ → List ℕ
+shown_part [] = codes "-"
+shown_part (c ∷ part) = c ∷ part
 
 -- the forms of the words
 abbrev pub usage_line : List ℕ
@@ -25,7 +25,7 @@ usage_line = codes "usage: jcconv convert LIST DIR, check LIST DIR, jvm LIST SCR
 -- which rule is broken, and where
 abbrev pub refusal_line : Refusal → List ℕ
 refusal_line r =
-    concat (codes "refused " ∷ decimal r.rule.0 ∷ blank ∷ shown_lem r.place.file ∷ blank ∷ shown_lem r.place.class ∷ blank ∷ shown_lem r.place.member
+    concat (codes "refused " ∷ decimal r.rule.0 ∷ blank ∷ shown_part r.place.file ∷ blank ∷ shown_part r.place.class ∷ blank ∷ shown_part r.place.member
     ∷ blank ∷ decimal r.place.offset ∷ line_feed ∷ [])
 
 -- the line of each answer; none for a run that is done

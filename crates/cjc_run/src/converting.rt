@@ -5,7 +5,7 @@ ghost use Rattle.std.specs.Prelude.{◌≡◌, ◌<◌, IfOk, length};
 ghost use Rattle.cjc_command.specs.Gather.{AreShort};
 ghost use Rattle.cjc_judge.specs.Spelt.{IsRead};
 ghost use Rattle.cjc_command.specs.Gather.{Gathers, Judged};
-ghost use Rattle.cjc_run.specs.Convert.{plan_of_convert, plan_of_list, plan_of_files, names_of as names_lem, Makes};
+ghost use Rattle.cjc_run.specs.Convert.{plan_of_convert, plan_of_list, plan_of_files, names_of, Makes};
 
 use cjc_bytes::{Bytes, Fault, NoMemory, Row};
 use cjc_command::{Status, Todo, fetch, fetch_each};
@@ -63,7 +63,7 @@ fn gather_files<S: Shelf>(
 }
 
 fn names_of(alloc: Global, list: &List) -> Result<Row<Bytes>, NoMemory>
-    ensures { IfOk result (λ names. names ≡ names_lem list.now) }
+    ensures { IfOk result (λ names. names ≡ names_of list.now) }
 {
     let mut names = Row::new(alloc);
     for line in list.lines.items() {

@@ -3,7 +3,7 @@
 ghost use Rattle.std.specs.Prelude.{◌≡◌, ◌∷◌, []};
 ghost use Rattle.std.specs.List.{concat};
 ghost use Rattle.cjc_shelf.specs.Sink.{Puts};
-ghost use Rattle.cjc_run.specs.Text.{shown_lem, refusal_line, status_lines};
+ghost use Rattle.cjc_run.specs.Text.{shown_part, refusal_line, status_lines};
 
 use cjc_bytes::{Bytes, Refusal};
 use cjc_command::{Status, put_pieces};
@@ -70,7 +70,7 @@ pub fn line<O: Sink>(refusal: &Refusal, out: &mut O) -> Result<(), SinkFailed>
 
 // The part, or a dash where it is empty.
 fn shown(part: &Bytes) -> &[u8]
-    ensures { result.now ≡ shown_lem part.now }
+    ensures { result.now ≡ shown_part part.now }
 {
     let bytes = part.items();
     if bytes.is_empty() { b"-" } else { bytes }

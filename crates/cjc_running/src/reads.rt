@@ -3,7 +3,7 @@
 ghost use Rattle.std.specs.Prelude.{◌≡◌, ◌<◌, IfOk, length};
 ghost use Rattle.cjc_command.specs.Gather.{Gathers, IsSame};
 ghost use Rattle.cjc_judge.specs.Spelt.{IsRead};
-ghost use Rattle.cjc_running.specs.Reads.{IsInput, names_of as names_lem, plan_behind_list, plan_behind_text, plan_of_run};
+ghost use Rattle.cjc_running.specs.Reads.{IsInput, names_of, plan_behind_list, plan_behind_text, plan_of_run};
 
 use crate::input::Input;
 use cjc_bytes::{Bytes, Fault, FileLine, NoMemory, Row};
@@ -14,7 +14,7 @@ use std::alloc::Global;
 
 /// The names of the files of a list.
 pub fn names_of(alloc: Global, lines: &[FileLine]) -> Result<Row<Bytes>, NoMemory>
-    ensures { IfOk result (λ names. names ≡ names_lem lines.now) }
+    ensures { IfOk result (λ names. names ≡ names_of lines.now) }
 {
     let mut names = Row::new(alloc);
     for line in lines {

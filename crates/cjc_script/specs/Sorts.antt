@@ -1,8 +1,8 @@
 -- The types of values as descriptors say them (Java Virtual Machine Specification, section 4.3), and which values fit them.
 use Rattle.std.specs.Prelude.{ℕ, List, [], ◌∷◌, ◌++◌, map, codes, Option, Some, None, option_and_then, Bool, true, false, ◌==◌, ◌&&◌, if◌then◌else◌, ℤ, pos, negsuc}
 use Rattle.std.specs.Int.RustNames.{int_le}
-use Rattle.cjc_bytes.specs.declared.names.Kind.{Kind}
-use Rattle.cjc_bytes.specs.declared.names.Kind.TheVariants as kinds
+use Rattle.cjc_bytes.specs.declared.descriptor.Kind.{Kind}
+use Rattle.cjc_bytes.specs.declared.descriptor.Kind.TheVariants as kinds
 use Rattle.cjc_bytes.specs.Descriptor.{Part, Parts}
 use Rattle.cjc_bytes.specs.Spots.{part_of, desc_of}
 use Rattle.cjc_script.specs.declared.value.Value.{Value}

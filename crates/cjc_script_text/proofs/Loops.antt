@@ -8,7 +8,7 @@ use Rattle.cjc_bytes.specs.Found.{◌>>=◌}
 use Rattle.cjc_bytes.specs.Text.{TextLine}
 use Rattle.cjc_script.specs.declared.value.Value.{Value}
 use Rattle.cjc_script.specs.declared.report.Thing.{Thing}
-use Rattle.cjc_script_text.specs.declared.draft.Draft.{Draft}
+use Rattle.cjc_script_text.specs.declared.partial_script.PartialScript.{PartialScript}
 use Rattle.cjc_script_text.specs.declared.item.Item.{Item}
 use Rattle.cjc_script_text.specs.declared.item.Item.TheVariants as items
 use Rattle.cjc_script_text.specs.Grammar.{said}
@@ -92,21 +92,21 @@ unfolding values_from
 values_end values ws i total le so_far = sym so_far ∙ rw (drop_all i ws le) refl
 
 -- lines of a script
-pub lines_next : (d more : Draft) (lines : List TextLine) (i : ℕ) (l : TextLine) (total : Result Draft ℕ) → i < length lines → with_line d (get_or lines i l) ≡ Ok more
+pub lines_next : (d more : PartialScript) (lines : List TextLine) (i : ℕ) (l : TextLine) (total : Result PartialScript ℕ) → i < length lines → with_line d (get_or lines i l) ≡ Ok more
     → with_lines d (drop i lines) ≡ total → with_lines more (drop (i + 1) lines) ≡ total
 unfolding with_lines
 lines_next d more lines i l total lt one so_far =
     let step : with_lines d (drop i lines) ≡ with_lines more (drop (i + 1) lines) = rw (add-one, drop-cons lines i l lt, one) refl in
     sym step ∙ so_far
 
-pub lines_break : (d : Draft) (lines : List TextLine) (i : ℕ) (l : TextLine) (k : ℕ) (total : Result Draft ℕ) → i < length lines → with_line d (get_or lines i l) ≡ Err k
+pub lines_break : (d : PartialScript) (lines : List TextLine) (i : ℕ) (l : TextLine) (k : ℕ) (total : Result PartialScript ℕ) → i < length lines → with_line d (get_or lines i l) ≡ Err k
     → with_lines d (drop i lines) ≡ total → total ≡ Err k
 unfolding with_lines
 lines_break d lines i l k total lt one so_far =
     let step : with_lines d (drop i lines) ≡ Err k = rw (drop-cons lines i l lt, one) refl in
     sym so_far ∙ step
 
-pub lines_end : (d : Draft) (lines : List TextLine) (i : ℕ) (total : Result Draft ℕ) → length lines ≤ i → with_lines d (drop i lines) ≡ total → total ≡ Ok d
+pub lines_end : (d : PartialScript) (lines : List TextLine) (i : ℕ) (total : Result PartialScript ℕ) → length lines ≤ i → with_lines d (drop i lines) ≡ total → total ≡ Ok d
 unfolding with_lines
 lines_end d lines i total le so_far = sym so_far ∙ rw (drop_all i lines le) refl
 
@@ -114,16 +114,16 @@ pub line_is_short : (lines : List TextLine) (i : ℕ) (l : TextLine) → i < len
 line_is_short lines i l lt h = All-get_or (λ l. length l.text < 2 ^ 32) lines i l lt h
 
 -- a line adds one entry or answer at most
-turns_with : (at : ℕ) (i : Item) (d : Draft) → turns (with_item at i d) ≤ turns d + 1
+turns_with : (at : ℕ) (i : Item) (d : PartialScript) → turns (with_item at i d) ≤ turns d + 1
 turns_with at (items.Act a) d = omega arith
 turns_with at (items.Call v m args) d = omega (arith, length-append d.script.entries (record { number = turns d; acts = d.acts; virtual_call = v; method = m; args = args } ∷ []))
 turns_with at (items.Reply r) d = omega (arith, length-append d.script.answers (record { number = turns d; acts = d.acts; reply = r } ∷ []))
 
-turns_read : (d more : Draft) (at : ℕ) (r : Result Item ℕ) → (r >>= λ i. Ok (with_item at i d)) ≡ Ok more → turns more ≤ turns d + 1
+turns_read : (d more : PartialScript) (at : ℕ) (r : Result Item ℕ) → (r >>= λ i. Ok (with_item at i d)) ≡ Ok more → turns more ≤ turns d + 1
 turns_read d more at (Ok i) e =
     let is : with_item at i d ≡ more = cc in
     rw (← is) (turns_with at i d)
 turns_read d more at (Err k) e = absurd cc
 
-pub one_turn : (d more : Draft) (l : TextLine) (i : ℕ) → with_line d l ≡ Ok more → turns d ≤ i → turns more ≤ i + 1
+pub one_turn : (d more : PartialScript) (l : TextLine) (i : ℕ) → with_line d l ≡ Ok more → turns d ≤ i → turns more ≤ i + 1
 one_turn d more l i e le = let more_by : turns more ≤ turns d + 1 = turns_read d more l.at (said l) e in omega arith

@@ -8,7 +8,7 @@ use Rattle.cjc_script.specs.declared.script.Act.{Act}
 use Rattle.cjc_script.specs.declared.script.Answer.{Answer}
 use Rattle.cjc_script.specs.declared.script.Entry.{Entry}
 use Rattle.cjc_script.specs.declared.script.Script.{Script}
-use Rattle.cjc_script_text.specs.declared.draft.Draft.{Draft}
+use Rattle.cjc_script_text.specs.declared.partial_script.PartialScript.{PartialScript}
 use Rattle.cjc_script_text.specs.declared.item.Item.{Item}
 use Rattle.cjc_script_text.specs.declared.item.Item.TheVariants as items
 use Rattle.cjc_script_text.specs.Grammar.{item_of, said}
@@ -46,7 +46,7 @@ says_or_not l = elim (kept_either (option_and_then item_of (words l.text)) l.at)
 ]
 
 -- a line that says nothing is refused
-refused_line : (d : Draft) (l : TextLine) (more : List TextLine) → ((i : Item) → ¬ LineSays i l) → with_lines d (l ∷ more) ≡ Err l.at
+refused_line : (d : PartialScript) (l : TextLine) (more : List TextLine) → ((i : Item) → ¬ LineSays i l) → with_lines d (l ∷ more) ≡ Err l.at
 unfolding with_lines
 refused_line d l more h = elim (kept_either (option_and_then item_of (words l.text)) l.at) [
   | inl ok ↦ absurd (h ok.0 (said_says l ok.0 ok.1))
@@ -54,14 +54,14 @@ refused_line d l more h = elim (kept_either (option_and_then item_of (words l.te
 ]
 
 -- a line that says something
-next_line : (d : Draft) (l : TextLine) (i : Item) (more : List TextLine) → LineSays i l → with_lines d (l ∷ more) ≡ with_lines (with_item l.at i d) more
+next_line : (d : PartialScript) (l : TextLine) (i : Item) (more : List TextLine) → LineSays i l → with_lines d (l ∷ more) ≡ with_lines (with_item l.at i d) more
 unfolding with_lines
 next_line d l i more h = rw (says_said l i h) refl
 
 -- ---- lines
 
--- lines that say something lead to some draft
-read_on : (d : Draft) (is : List Item) (ls more : List TextLine) → AllSay is ls → (e : Draft) × (with_lines d (ls ++ more) ≡ with_lines e more)
+-- lines that say something lead to some partial script
+read_on : (d : PartialScript) (is : List Item) (ls more : List TextLine) → AllSay is ls → (e : PartialScript) × (with_lines d (ls ++ more) ≡ with_lines e more)
 read_on d [] [] more h = (d, refl)
 read_on d [] (l ∷ ls) more h = absurd h
 read_on d (i ∷ is) [] more h = absurd h
@@ -75,7 +75,7 @@ begins [] k [] = k
 begins [] k (l ∷ ls) = l.at
 begins (a ∷ acts) k ls = k
 
-drafted : Script → List Act → ℕ → Draft
+drafted : Script → List Act → ℕ → PartialScript
 drafted s acts k = record { script = s; acts = acts; since = k }
 
 begun_at : (acts : List Act) (k : ℕ) (l : TextLine) (ls : List TextLine) → begins acts k (l ∷ ls) ≡ since_with acts k l.at
@@ -96,7 +96,7 @@ none_begin (a ∷ acts) k = refl
 acts_read : (s : Script) (held : List Act) (k : ℕ) (acts : List Act) (ls more : List TextLine) → AllSay (act_items acts) ls
     → with_lines (drafted s held k) (ls ++ more) ≡ with_lines (drafted s (held ++ acts) (begins held k ls)) more
 unfolding drafted
-acts_read s held k [] [] more h = ap (λ (d : Draft). with_lines d more) (ap (λ (xs : List Act). drafted s xs k) (sym (append-nil held)) ∙ ap (λ (n : ℕ). drafted s (held ++ []) n) (sym (none_begin held k)))
+acts_read s held k [] [] more h = ap (λ (d : PartialScript). with_lines d more) (ap (λ (xs : List Act). drafted s xs k) (sym (append-nil held)) ∙ ap (λ (n : ℕ). drafted s (held ++ []) n) (sym (none_begin held k)))
 acts_read s held k [] (l ∷ ls) more h = absurd h
 acts_read s held k (a ∷ acts) [] more h = absurd h
 acts_read s held k (a ∷ acts) (l ∷ ls) more h =
@@ -106,7 +106,7 @@ acts_read s held k (a ∷ acts) (l ∷ ls) more h =
     let place : begins (held ++ a ∷ []) since ls ≡ begins held k (l ∷ ls) = still held a since ls ∙ sym (begun_at held k l ls) in
     let same : drafted s ((held ++ a ∷ []) ++ acts) (begins (held ++ a ∷ []) since ls) ≡ drafted s (held ++ a ∷ acts) (begins held k (l ∷ ls)) =
     ap (λ (xs : List Act). drafted s xs (begins (held ++ a ∷ []) since ls)) (append_assoc held (a ∷ []) acts) ∙ ap (λ (n : ℕ). drafted s (held ++ a ∷ acts) n) place in
-    first ∙ (rest ∙ ap (λ (d : Draft). with_lines d more) same)
+    first ∙ (rest ∙ ap (λ (d : PartialScript). with_lines d more) same)
 
 -- ---- steps
 
@@ -171,7 +171,7 @@ turn_on : (s : Script) (acts : List Act) (k : ℕ) (t : Turn) (is : List Item) (
     → (rest : List TextLine) × AllSay is rest × (with_lines (drafted s acts k) (ls ++ more) ≡ with_lines (drafted (stepped s acts t) [] 0) (rest ++ more))
 turn_on s acts k t is [] more h = absurd h
 turn_on s acts k t is (l ∷ ls) more h =
-    (ls, h.1, next_line (drafted s acts k) l (turn_item t) (ls ++ more) h.0 ∙ ap (λ (d : Draft). with_lines d (ls ++ more)) (turn_read s acts k t l))
+    (ls, h.1, next_line (drafted s acts k) l (turn_item t) (ls ++ more) h.0 ∙ ap (λ (d : PartialScript). with_lines d (ls ++ more)) (turn_read s acts k t l))
 
 steps_read : (s : Script) (steps : List Step) (ls more : List TextLine) → AllSay (step_items steps) ls
     → with_lines (drafted s [] 0) (ls ++ more) ≡ with_lines (drafted (grown s steps) [] 0) more
@@ -201,9 +201,9 @@ fresh_is = refl
 
 steps_from_fresh : (steps : List Step) (ls more : List TextLine) → AllSay (step_items steps) ls → with_lines fresh (ls ++ more) ≡ with_lines (drafted (script_of steps) [] 0) more
 steps_from_fresh steps ls more h =
-    ap (λ (d : Draft). with_lines d (ls ++ more)) (sym fresh_is) ∙ (steps_read none steps ls more h ∙ ap (λ (t : Script). with_lines (drafted t [] 0) more) (from_none steps))
+    ap (λ (d : PartialScript). with_lines d (ls ++ more)) (sym fresh_is) ∙ (steps_read none steps ls more h ∙ ap (λ (t : Script). with_lines (drafted t [] 0) more) (from_none steps))
 
-no_more : (d : Draft) → with_lines d [] ≡ Ok d
+no_more : (d : PartialScript) → with_lines d [] ≡ Ok d
 unfolding with_lines
 no_more d = refl
 
@@ -219,7 +219,7 @@ unfolding of_lines
 nothing_breaks ls k h =
     let on = read_on fresh h.3 h.0 (h.2 ∷ h.1) h.5 in
     let read : with_lines fresh ls ≡ Err k =
-    ap (λ (xs : List TextLine). with_lines fresh xs) h.4 ∙ (on.1 ∙ (refused_line on.0 h.2 h.1 h.6 ∙ ap (λ (n : ℕ). let r : Result Draft ℕ = Err n in r) (sym h.7))) in
+    ap (λ (xs : List TextLine). with_lines fresh xs) h.4 ∙ (on.1 ∙ (refused_line on.0 h.2 h.1 h.6 ∙ ap (λ (n : ℕ). let r : Result PartialScript ℕ = Err n in r) (sym h.7))) in
     rw read refl
 
 pub idle_acts_break : (ls : List TextLine) (k : ℕ) → HasIdleActsAt ls k → of_lines ls ≡ Err k

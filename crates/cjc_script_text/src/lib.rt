@@ -2,8 +2,8 @@
 //! machine, and of files no name but the script's own in a refusal.
 #![tactic(auto)]
 
-mod draft;
 mod item;
+mod partial_script;
 mod printing;
 mod reading;
 mod word;

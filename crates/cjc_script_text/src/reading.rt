@@ -1,5 +1,5 @@
 //! From the text of a script to a `Script`, or rule 105 at the first line that says nothing there. What the
-//! lines add up to is kept in a `Draft`.
+//! lines add up to is kept in a `PartialScript`.
 
 ghost use Rattle.std.specs.Prelude.{◌≡◌, ◌<◌, ◌≤◌, ◌^◌, ◌⊎◌, ◌↔◌, length, IfOk, IfErr};
 ghost use Rattle.cjc_bytes.specs.Found.{Finds};
@@ -12,23 +12,23 @@ ghost use Rattle.cjc_script_text.specs.Scripted.{ScriptTree, Codes, fresh, with_
 ghost use Rattle.cjc_script_text.specs.Spelling.{IsSpelt, IsBroken, SaysBroken};
 ghost use Rattle.cjc_script_text.specs.Working.{AreShortLines};
 
-use crate::draft::Draft;
+use crate::partial_script::PartialScript;
 use cjc_bytes::{Fault, Line, Stop, kept_lines, refused};
 use cjc_script::Script;
 use std::alloc::Global;
 
 /// What these lines say.
 #[tactic(auto, using(crate::proofs::Loops::lines_next, crate::proofs::Loops::lines_break, crate::proofs::Loops::lines_end, crate::proofs::Loops::one_turn, crate::proofs::Loops::line_is_short))]
-fn read_lines(alloc: Global, lines: &[Line<'_>]) -> Result<Draft, Stop>
+fn read_lines(alloc: Global, lines: &[Line<'_>]) -> Result<PartialScript, Stop>
     requires short { AreShortLines lines.now }
     requires few { length lines.now ≤ 2 ^ 32 }
     ensures { Finds (λ d. d) (with_lines fresh lines.now) result }
 {
-    let mut draft = Draft::new(alloc);
+    let mut partial_script = PartialScript::new(alloc);
     for line in lines {
-        draft = draft.with_line(alloc, line)?;
+        partial_script = partial_script.with_line(alloc, line)?;
     }
-    Ok(draft)
+    Ok(partial_script)
 }
 
 /// The script of a text.
@@ -38,8 +38,8 @@ fn read_text(alloc: Global, bytes: &[u8]) -> Result<Script, Stop>
     ensures { Finds (λ s. s) (of_lines (kept_lines bytes.now)) result }
 {
     let lines = kept_lines(alloc, bytes)?;
-    let draft = read_lines(alloc, lines.items())?;
-    draft.end()
+    let partial_script = read_lines(alloc, lines.items())?;
+    partial_script.end()
 }
 
 /// What the script says, unless memory runs out.

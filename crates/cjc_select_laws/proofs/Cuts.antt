@@ -33,10 +33,10 @@ AllStack [] = Unit {0}
 AllStack (r ∷ rs) = ((k : ℕ) → StackIn r k) × AllStack rs
 
 -- an opcode that is arithmetic on int, or is not converted
-arith_or_foreign : (b : Bool) (pool : List PoolItem) (at opcode : ℕ) (zs : List ℤ) (n : ℕ) → op_of pool at opcode (cond b (row 0x60).1 (row 0x61).1) zs ≡ jop.Stack n → ⊥
+arith_or_unsupported : (b : Bool) (pool : List PoolItem) (at opcode : ℕ) (zs : List ℤ) (n : ℕ) → op_of pool at opcode (cond b (row 0x60).1 (row 0x61).1) zs ≡ jop.Stack n → ⊥
 unfolding row
-arith_or_foreign true pool at opcode zs n e = cc
-arith_or_foreign false pool at opcode zs n e = cc
+arith_or_unsupported true pool at opcode zs n e = cc
+arith_or_unsupported false pool at opcode zs n e = cc
 
 table : (pool : List PoolItem) (at opcode : ℕ) (zs : List ℤ) (n : ℕ) → op_of pool at opcode (row 0xAA).1 zs ≡ jop.Stack n → ⊥
 unfolding row
@@ -118,9 +118,9 @@ all_stack = (
                                                               (
                                                                 λ k pool at opcode zs n e. (refl, refl, cc),  -- pop, pop2, dup, dup_x1, dup_x2, dup2, dup2_x1, dup2_x2, swap
                                                                 (
-                                                                  λ k pool at opcode zs n e. absurd (arith_or_foreign (k % 4 == 0) pool at opcode zs n e),  -- of int, long, float and double: add, sub, mul, div, rem, neg
+                                                                  λ k pool at opcode zs n e. absurd (arith_or_unsupported (k % 4 == 0) pool at opcode zs n e),  -- of int, long, float and double: add, sub, mul, div, rem, neg
                                                                   (
-                                                                    λ k pool at opcode zs n e. absurd (arith_or_foreign (k % 2 == 0) pool at opcode zs n e),  -- of int and long: shl, shr, ushr, and, or, xor
+                                                                    λ k pool at opcode zs n e. absurd (arith_or_unsupported (k % 2 == 0) pool at opcode zs n e),  -- of int and long: shl, shr, ushr, and, or, xor
                                                                     (
                                                                       λ k pool at opcode zs n e. absurd cc,  -- iinc
                                                                       (

@@ -95,10 +95,10 @@ AllInOrder [] = Unit {0}
 AllInOrder (r ∷ rs) = ((k : ℕ) → InOrderIn r k) × AllInOrder rs
 
 -- an opcode that is arithmetic on int, or is not converted
-arith_or_foreign : (b : Bool) (pool : List PoolItem) (at opcode : ℕ) (zs : List ℤ) → InOrder (op_of pool at opcode (cond b (row 0x60).1 (row 0x61).1) zs)
+arith_or_unsupported : (b : Bool) (pool : List PoolItem) (at opcode : ℕ) (zs : List ℤ) → InOrder (op_of pool at opcode (cond b (row 0x60).1 (row 0x61).1) zs)
 unfolding row InOrder
-arith_or_foreign true pool at opcode zs = tt
-arith_or_foreign false pool at opcode zs = tt
+arith_or_unsupported true pool at opcode zs = tt
+arith_or_unsupported false pool at opcode zs = tt
 
 table : (pool : List PoolItem) (at opcode : ℕ) (zs : List ℤ) → InOrder (op_of pool at opcode (row 0xAA).1 zs)
 unfolding row InOrder
@@ -180,9 +180,9 @@ all_in_order = (
                                                               (
                                                                 λ k pool at opcode zs e. tt,  -- pop, pop2, dup, dup_x1, dup_x2, dup2, dup2_x1, dup2_x2, swap
                                                                 (
-                                                                  λ k pool at opcode zs e. arith_or_foreign (k % 4 == 0) pool at opcode zs,  -- of int, long, float and double: add, sub, mul, div, rem, neg
+                                                                  λ k pool at opcode zs e. arith_or_unsupported (k % 4 == 0) pool at opcode zs,  -- of int, long, float and double: add, sub, mul, div, rem, neg
                                                                   (
-                                                                    λ k pool at opcode zs e. arith_or_foreign (k % 2 == 0) pool at opcode zs,  -- of int and long: shl, shr, ushr, and, or, xor
+                                                                    λ k pool at opcode zs e. arith_or_unsupported (k % 2 == 0) pool at opcode zs,  -- of int and long: shl, shr, ushr, and, or, xor
                                                                     (
                                                                       λ k pool at opcode zs e. two_bytes (second zs),  -- iinc
                                                                       (

@@ -3,7 +3,7 @@ use Rattle.std.proofs.Common.{◌≡◌, ℕ, zero, suc, ◌+◌, ◌≤◌, ref
 use Rattle.std.specs.List.{Contains}
 use Rattle.std.proofs.lemmas.Bool.{ltb-false}
 use Rattle.std.proofs.lemmas.Option.{slice_get-get_or}
-use Rattle.cjc_bytes.specs.Breaks.{Break, Spot, at, each_from}
+use Rattle.cjc_bytes.specs.Breaks.{Break, RulePlace, at, each_from}
 use Rattle.cjc_bytes.specs.Order.{FilePlace, file_of}
 use Rattle.cjc_bytes.specs.declared.settings.Settings.{Settings}
 use Rattle.cjc_classfile.specs.Code.{CodeTree}
@@ -28,7 +28,7 @@ pub none_right : {A : Type 0} (xs ys : List A) → xs ++ ys ≡ [] → ys ≡ []
 none_right [] ys e = e
 none_right (x ∷ xs) ys e = cc
 
-pub not_broken : (b : Bool) (s : Spot) (rule : ℕ) → at b s rule ≡ [] → b ≡ false
+pub not_broken : (b : Bool) (s : RulePlace) (rule : ℕ) → at b s rule ≡ [] → b ≡ false
 not_broken true s rule e = cc
 not_broken false s rule e = refl
 

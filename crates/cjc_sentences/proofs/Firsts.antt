@@ -5,21 +5,21 @@ use Rattle.std.proofs.lemmas.List.Sums.{sum_by-drop_more}
 use Rattle.std.proofs.lemmas.Bool.Decides.{nat_tests}
 use Rattle.std.specs.Prelude.{if◌then◌else◌}
 use Rattle.std.specs.Prelude.{sum_by}
-use Rattle.cjc_sentences.specs.Spots.{Spot, along, is_up_to, earlier, first}
+use Rattle.cjc_sentences.specs.Spots.{ComponentPlace, along, is_up_to, earlier, first}
 
 -- ---- two places
 
-up_to_trans : (a b c : Spot) → is_up_to a b ≡ true → is_up_to b c ≡ true → is_up_to a c ≡ true
+up_to_trans : (a b c : ComponentPlace) → is_up_to a b ≡ true → is_up_to b c ≡ true → is_up_to a c ≡ true
 up_to_trans a b c p q = grind (arith, nat_tests)
 
-not_up_to_trans : (a b c : Spot) → is_up_to a b ≡ false → is_up_to b c ≡ false → is_up_to a c ≡ false
+not_up_to_trans : (a b c : ComponentPlace) → is_up_to a b ≡ false → is_up_to b c ≡ false → is_up_to a c ≡ false
 not_up_to_trans a b c p q = grind (arith, nat_tests)
 
 pub either : {P : Type 0} → (t : Bool) → (t ≡ true → P) → (t ≡ false → P) → P
 either true p q = p refl
 either false p q = q refl
 
-three : (a b c : Spot) → earlier (earlier (Some a) (Some b)) (Some c) ≡ earlier (Some a) (earlier (Some b) (Some c))
+three : (a b c : ComponentPlace) → earlier (earlier (Some a) (Some b)) (Some c) ≡ earlier (Some a) (earlier (Some b) (Some c))
 three a b c =
     either (is_up_to a b)
     (λ ab. either (is_up_to b c)
@@ -29,11 +29,11 @@ three a b c =
     (λ bc. rw (ab, bc) (rw ab refl))
     (λ bc. let ac = not_up_to_trans a b c ab bc in rw (ab, bc, ac) refl))
 
-pub earlier_none : (a : Option Spot) → earlier a None ≡ a
+pub earlier_none : (a : Option ComponentPlace) → earlier a None ≡ a
 earlier_none None = refl
 earlier_none (Some a) = refl
 
-pub earlier_assoc : (a b c : Option Spot) → earlier (earlier a b) c ≡ earlier a (earlier b c)
+pub earlier_assoc : (a b c : Option ComponentPlace) → earlier (earlier a b) c ≡ earlier a (earlier b c)
 earlier_assoc None b c = refl
 earlier_assoc (Some a) None c = refl
 earlier_assoc (Some a) (Some b) None = earlier_none (earlier (Some a) (Some b))
@@ -41,7 +41,7 @@ earlier_assoc (Some a) (Some b) (Some c) = three a b c
 
 -- ---- two lists
 
-pub first_append : (xs ys : List Spot) → first (xs ++ ys) ≡ earlier (first xs) (first ys)
+pub first_append : (xs ys : List ComponentPlace) → first (xs ++ ys) ≡ earlier (first xs) (first ys)
 unfolding first
 first_append [] ys = refl
 first_append (x ∷ xs) ys = ap (earlier (Some x)) (first_append xs ys) ∙ sym (earlier_assoc (Some x) (first xs) (first ys))
@@ -50,16 +50,16 @@ pub first_nothing : first [] ≡ None
 unfolding first
 first_nothing = refl
 
-pub first_empty : (xs : List Spot) → first xs ≡ None → xs ≡ []
+pub first_empty : (xs : List ComponentPlace) → first xs ≡ None → xs ≡ []
 unfolding first
 first_empty [] e = refl
 first_empty (x ∷ xs) e = absurd (never (first xs) e)
   where
-    never : (rest : Option Spot) → earlier (Some x) rest ≡ None → ⊥
+    never : (rest : Option ComponentPlace) → earlier (Some x) rest ≡ None → ⊥
     never None e = cc
     never (Some y) e = either (is_up_to x y) (λ t. let f : Some x ≡ None = ap (λ (b : Bool). if b then Some x else Some y) (sym t) ∙ e in cc) (λ t. let f : Some y ≡ None = ap (λ (b : Bool). if b then Some x else Some y) (sym t) ∙ e in cc)
 
-pub joined : (a b : Option Spot) (xs ys : List Spot) → a ≡ first xs → b ≡ first ys → earlier a b ≡ first (xs ++ ys)
+pub joined : (a b : Option ComponentPlace) (xs ys : List ComponentPlace) → a ≡ first xs → b ≡ first ys → earlier a b ≡ first (xs ++ ys)
 joined a b xs ys e f = rw (e, f) (sym (first_append xs ys))
 
 -- ---- items one behind the other
@@ -67,14 +67,14 @@ joined a b xs ys e f = rw (e, f) (sym (first_append xs ys))
 pub sum_step : {A : Type 0} (size : A → ℕ) (i : ℕ) (x : A) (xs : List A) → i < length xs → x ≡ get_or xs i x → sum_by size (drop i xs) ≡ size x + sum_by size (drop (i + 1) xs)
 sum_step size i x xs lt is = sum_by-drop_more size xs i x lt ∙ ap (λ n. n + sum_by size (drop (i + 1) xs)) (ap size (sym is))
 
-pub along_step : {A : Type 0} (size : A → ℕ) (broken : ℕ → A → List Spot) (at i : ℕ) (x : A) (xs : List A) → i < length xs → x ≡ get_or xs i x
+pub along_step : {A : Type 0} (size : A → ℕ) (broken : ℕ → A → List ComponentPlace) (at i : ℕ) (x : A) (xs : List A) → i < length xs → x ≡ get_or xs i x
     → first (along size broken at (drop i xs)) ≡ earlier (first (broken at x)) (first (along size broken (at + size x) (drop (i + 1) xs)))
 unfolding along
 along_step {A = A} size broken at i x xs lt is =
     let d : drop i xs ≡ x ∷ drop (i + 1) xs = drop_more xs i x lt ∙ ap (λ (y : A). y ∷ drop (i + 1) xs) (sym is) in
     ap (λ (ys : List A). first (along size broken at ys)) d ∙ first_append (broken at x) (along size broken (at + size x) (drop (i + 1) xs))
 
-pub along_more : {A : Type 0} (size : A → ℕ) (broken : ℕ → A → List Spot) (at next i : ℕ) (x : A) (xs : List A) (best found total : Option Spot)
+pub along_more : {A : Type 0} (size : A → ℕ) (broken : ℕ → A → List ComponentPlace) (at next i : ℕ) (x : A) (xs : List A) (best found total : Option ComponentPlace)
     → i < length xs → x ≡ get_or xs i x → next ≡ at + size x → found ≡ first (broken at x)
     → earlier best (first (along size broken at (drop i xs))) ≡ total
     → earlier (earlier best found) (first (along size broken next (drop (i + 1) xs))) ≡ total
@@ -83,7 +83,7 @@ along_more size broken at next i x xs best found total lt is n f so_far =
     (earlier_assoc best (first (broken at x)) (first (along size broken (at + size x) (drop (i + 1) xs)))
     ∙ ap (earlier best) (sym (along_step size broken at i x xs lt is)) ∙ so_far)
 
-pub along_all : {A : Type 0} (size : A → ℕ) (broken : ℕ → A → List Spot) (at i : ℕ) (xs : List A) (best total : Option Spot)
+pub along_all : {A : Type 0} (size : A → ℕ) (broken : ℕ → A → List ComponentPlace) (at i : ℕ) (xs : List A) (best total : Option ComponentPlace)
     → length xs ≤ i → earlier best (first (along size broken at (drop i xs))) ≡ total → best ≡ total
 unfolding along first
 along_all {A = A} size broken at i xs best total le so_far =

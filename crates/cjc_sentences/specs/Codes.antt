@@ -3,7 +3,7 @@ use Rattle.std.specs.Prelude.{ℕ, zero, suc, ◌+◌, ◌-◌, ◌*◌, List, [
 use Rattle.cjc_capread.specs.declared.tree.MethodDescriptor.{MethodDescriptor}
 use Rattle.cjc_capread.specs.Decode.{Instruction, decode, size}
 use Rattle.cjc_capread.specs.MethodHeader.{MethodHeader, method_header}
-use Rattle.cjc_sentences.specs.Spots.{Spot, in_info, Placed}
+use Rattle.cjc_sentences.specs.Spots.{ComponentPlace, in_info, Placed}
 use Rattle.cjc_sentences.specs.Complete.{Complete}
 use Rattle.cjc_sentences.specs.Members.{class_methods}
 
@@ -64,13 +64,13 @@ abbrev pub cut : Complete → Result (List Code) ℕ
 cut c = codes_from (methods_begin c) (class_methods c) c.method.methods
 
 -- no place where everything is cut, else the offset in Method where it ends
-abbrev pub where_cut_ends : Result (List Code) ℕ → List Spot
+abbrev pub where_cut_ends : Result (List Code) ℕ → List ComponentPlace
 where_cut_ends (Ok codes) = []
 where_cut_ends (Err at) = in_info 7 at ∷ []
 
 -- 709. The methods, cut by the counts of Descriptor, fill the bytes of Method and are whole instructions. Broken is the end of the
 -- method before, where a method stands elsewhere by Descriptor; a header or an instruction that is cut or none; or the first byte left over.
-abbrev pub whole_spots : Complete → List Spot
+abbrev pub whole_spots : Complete → List ComponentPlace
 whole_spots c = where_cut_ends (cut c)
 
 -- the codes that were cut; none where cutting ended early

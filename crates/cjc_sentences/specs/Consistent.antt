@@ -5,10 +5,10 @@ use Rattle.std.specs.Prelude.{◌≡◌, ℕ, List, [], ◌∷◌, map, flat_map
 use Rattle.std.specs.List.{list_all}
 use Rattle.cjc_bytes.specs.declared.order.FileKey.TheVariants as keys
 use Rattle.cjc_bytes.specs.Refused.{in_file}
-use Rattle.cjc_bytes.specs.Breaks.{Break, broken_at, Spot as Place}
+use Rattle.cjc_bytes.specs.Breaks.{Break, broken_at, RulePlace as Place}
 use Rattle.cjc_capread.specs.declared.tree.CapTree.{CapTree}
 use Rattle.cjc_export.specs.declared.tree.ExportTree.{ExportTree}
-use Rattle.cjc_sentences.specs.Spots.{Spot}
+use Rattle.cjc_sentences.specs.Spots.{ComponentPlace}
 use Rattle.cjc_sentences.specs.Complete.{Complete, complete}
 use Rattle.cjc_sentences.specs.Listed.{directory_spots, flags_spots}
 use Rattle.cjc_sentences.specs.Imports.{import_spots}
@@ -30,14 +30,14 @@ use Rattle.cjc_sentences.specs.Described.{descriptor_spots}
 pub record Sentence : Type 0 where
   pub number : ℕ
   pub needed : Bool
-  pub spots : List Spot
+  pub spots : List ComponentPlace
 
 -- a sentence by its number, whether those that it needs are true, and where it is broken
-abbrev pub sentence : ℕ → Bool → List Spot → Sentence
+abbrev pub sentence : ℕ → Bool → List ComponentPlace → Sentence
 sentence number needed spots = record { number = number; needed = needed; spots = spots }
 
 -- it is true where it is broken nowhere
-abbrev pub is_true : List Spot → Bool
+abbrev pub is_true : List ComponentPlace → Bool
 is_true spots = is_empty spots
 
 -- Of components of which only Applet and Export may be absent. 704 needs 703, 705 needs 704, and 706 to 708 need 705; 710, 711, 712 and
@@ -100,11 +100,11 @@ file_name tag =
     else codes "Descriptor.cap"
 
 -- a place of a component as a refusal tells it
-abbrev pub place_of : Spot → Place
+abbrev pub place_of : ComponentPlace → Place
 place_of s = record { file = keys.Component s.component; class = 0; member = 0; place = in_file (file_name s.component) s.offset }
 
 -- a rule broken at a place of a component
-abbrev pub break_at : (number : ℕ) → Spot → Break
+abbrev pub break_at : (number : ℕ) → ComponentPlace → Break
 break_at number s = broken_at (place_of s) number
 
 -- a sentence counts as true where one that it needs is false

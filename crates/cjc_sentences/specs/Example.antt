@@ -25,13 +25,13 @@ use Rattle.cjc_export.specs.declared.tree.ExportTree.{ExportTree}
 use Rattle.cjc_sentences.specs.Classes.{classes_at}
 use Rattle.cjc_sentences.specs.Members.{has_token}
 use Rattle.cjc_capread.specs.Decode.{Instruction}
-use Rattle.cjc_sentences.specs.Spots.{Spot, Placed}
+use Rattle.cjc_sentences.specs.Spots.{ComponentPlace, Placed}
 use Rattle.cjc_sentences.specs.Codes.{instructions}
 use Rattle.cjc_sentences.specs.Instructions.{jumps}
 use Rattle.cjc_sentences.specs.Consistent.{Sentence, sentences}
 
 -- the sentences that are false, and don't count as true, each with the tag and the offset of a place where it is broken
-abbrev pub told : (number : ℕ) → Spot → List ℕ
+abbrev pub told : (number : ℕ) → ComponentPlace → List ℕ
 told number s = number ∷ s.component ∷ s.offset ∷ []
 
 -- the places of a sentence that is false and whose needed sentences are true

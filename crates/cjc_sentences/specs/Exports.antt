@@ -6,7 +6,7 @@ use Rattle.cjc_capread.specs.declared.tree.ExportedClass.{ExportedClass}
 use Rattle.cjc_capread.specs.declared.tree.Export.{Export}
 use Rattle.cjc_capread.specs.ClassRefs.{is_inside}
 use Rattle.cjc_bytes.specs.AccessFlags.{is_static}
-use Rattle.cjc_sentences.specs.Spots.{Spot, in_info, unless, numbered}
+use Rattle.cjc_sentences.specs.Spots.{ComponentPlace, in_info, unless, numbered}
 use Rattle.cjc_sentences.specs.Complete.{Complete, exported_size}
 use Rattle.cjc_sentences.specs.Classes.{is_start}
 use Rattle.cjc_sentences.specs.Members.{is_constructor, is_cell_at, is_method_start}
@@ -25,7 +25,7 @@ class_for c token offset = find (λ d. d.token == token && is_inside d.this_clas
 
 -- an exported class that begins at this offset: its own offset, two counts of one byte, an offset for each static field and for each
 -- static method, by token
-abbrev pub in_exported : Complete → (at : ℕ) → ExportedClass → Option ClassDescriptor → List Spot
+abbrev pub in_exported : Complete → (at : ℕ) → ExportedClass → Option ClassDescriptor → List ComponentPlace
 in_exported c at e None = in_info 10 at ∷ []
 in_exported c at e (Some d) =
     unless (is_start c.class e.class_offset) (in_info 10 at)
@@ -39,6 +39,6 @@ exported_classes (Some e) = e.classes
 
 -- 717. The offsets of Export are starts of classes, static fields and static methods, in the order of the tokens that Descriptor gives
 -- them. Broken is the offset.
-abbrev pub export_spots : Complete → List Spot
+abbrev pub export_spots : Complete → List ComponentPlace
 export_spots c =
     numbered exported_size (λ token at e. in_exported c at e (class_for c token e.class_offset)) 0 1 (exported_classes c.export)

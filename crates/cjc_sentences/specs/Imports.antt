@@ -4,18 +4,18 @@ use Rattle.std.specs.Str.{bytes_eq}
 use Rattle.cjc_capread.specs.declared.tree.ImportedPackage.{ImportedPackage}
 use Rattle.cjc_capread.specs.declared.tree.Import.{Import}
 use Rattle.cjc_export.specs.declared.tree.ExportTree.{ExportTree}
-use Rattle.cjc_sentences.specs.Spots.{Spot, in_info, unless, beside}
+use Rattle.cjc_sentences.specs.Spots.{ComponentPlace, in_info, unless, beside}
 use Rattle.cjc_sentences.specs.Complete.{package_size}
 
 -- a package, which begins at this offset with its minor and its major version and the length of its AID
-abbrev pub package_agrees : (at : ℕ) → ImportedPackage → ExportTree → List Spot
+abbrev pub package_agrees : (at : ℕ) → ImportedPackage → ExportTree → List ComponentPlace
 package_agrees at p t = unless (p.major == t.major) (in_info 4 (at + 1)) ++ unless (bytes_eq p.aid t.aid) (in_info 4 (at + 2))
 
 -- packages beside export files, as far as there are both
-abbrev pub packages_agree : (at : ℕ) → List ImportedPackage → List ExportTree → List Spot
+abbrev pub packages_agree : (at : ℕ) → List ImportedPackage → List ExportTree → List ComponentPlace
 packages_agree at packages exports = beside package_size package_agrees at packages exports
 
 -- 703. The imported packages are those of the export files, in order, with the same AID and major version. Broken is the number of
 -- packages, the major version, or the AID at its length.
-abbrev pub import_spots : Import → List ExportTree → List Spot
+abbrev pub import_spots : Import → List ExportTree → List ComponentPlace
 import_spots i exports = unless (length i.packages == length exports) (in_info 4 0) ++ packages_agree 1 i.packages exports

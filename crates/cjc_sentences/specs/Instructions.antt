@@ -8,7 +8,7 @@ use Rattle.cjc_capread.specs.declared.tree.PoolEntry.TheVariants.{Classref, Inst
 use Rattle.cjc_capread.specs.Opcodes.{Operand, Index1, Index2, Form, Fields, Table, Lookup, form, info}
 use Rattle.cjc_capread.specs.Decode.{Instruction}
 use Rattle.cjc_capread.specs.Card as card
-use Rattle.cjc_sentences.specs.Spots.{Spot, in_info, unless, Placed, begins, lies_between}
+use Rattle.cjc_sentences.specs.Spots.{ComponentPlace, in_info, unless, Placed, begins, lies_between}
 use Rattle.cjc_sentences.specs.Complete.{Complete}
 use Rattle.cjc_sentences.specs.Codes.{Code, codes}
 
@@ -55,7 +55,7 @@ abbrev pub ends_code : (opcode : ℕ) → Bool
 ends_code op = lies_between card.goto card.return op || op == card.athrow || op == card.goto_w || lies_between card.impdep1 card.impdep2 op
 
 -- of instructions from one on: a jump that doesn't land, and the last one where it falls off
-unfoldable pub in_code : Code → List (Placed Instruction) → List Spot
+unfoldable pub in_code : Code → List (Placed Instruction) → List ComponentPlace
 in_code code [] = []
 in_code code (p ∷ []) = unless (jumps_land code p && ends_code p.item.opcode) (in_info 7 p.at)
 in_code code (p ∷ q ∷ ps) = unless (jumps_land code p) (in_info 7 p.at) ++ in_code code (q ∷ ps)
@@ -66,12 +66,12 @@ is_empty [] = true
 is_empty (x ∷ xs) = false
 
 -- a method that is not abstract has an instruction
-abbrev pub code_spots : Code → List Spot
+abbrev pub code_spots : Code → List ComponentPlace
 code_spots code = unless (code.is_abstract || not (is_empty code.instructions)) (in_info 7 code.first) ++ in_code code code.instructions
 
 -- 710. Jumps land on instruction starts of the same method, and no last instruction falls off its method. Broken is the instruction, or
 -- where the code would begin.
-abbrev pub jump_spots : Complete → List Spot
+abbrev pub jump_spots : Complete → List ComponentPlace
 jump_spots c = flat_map code_spots (codes c)
 
 -- ---- indices into the constant pool
@@ -138,5 +138,5 @@ is_entry_for None op = false
 is_entry_for (Some entry) op = is_needed_by entry op
 
 -- 711. Each index operand names an entry of a tag that its opcode needs. Broken is the index.
-abbrev pub index_spots : Complete → List Spot
+abbrev pub index_spots : Complete → List ComponentPlace
 index_spots c = flat_map (λ i. unless (is_entry_for (slice_get c.pool.entries i.index) i.opcode) (in_info 7 i.at)) (all_indices c)

@@ -8,7 +8,7 @@ use Rattle.cjc_capread.specs.declared.tree.StaticField.{StaticField}
 use Rattle.cjc_capread.specs.declared.tree.CapTree.{CapTree}
 use Rattle.cjc_bytes.specs.AccessFlags.{has}
 use Rattle.cjc_export.specs.Members.{same_bool}
-use Rattle.cjc_sentences.specs.Spots.{Spot, in_info, unless, beside}
+use Rattle.cjc_sentences.specs.Spots.{ComponentPlace, in_info, unless, beside}
 use Rattle.cjc_sentences.specs.Complete.{size_items}
 
 -- ---- 701
@@ -22,11 +22,11 @@ abbrev pub size_agrees : (tag told own : ℕ) → Bool
 size_agrees tag told own = told == own && (may_be_absent tag || not (own == 0))
 
 -- the sizes of the tags from 1 on, of two bytes each
-abbrev pub size_spots : (at told own : ℕ) → List Spot
+abbrev pub size_spots : (at told own : ℕ) → List ComponentPlace
 size_spots at told own = unless (size_agrees (1 + at / 2) told own) (in_info 2 at)
 
 -- Directory's sizes beside those of the components, tag by tag
-abbrev pub sizes_agree : (told own : List ℕ) → List Spot
+abbrev pub sizes_agree : (told own : List ℕ) → List ComponentPlace
 sizes_agree told own = beside (λ t. 2) size_spots 0 told own
 
 -- the bytes of all arrays
@@ -34,7 +34,7 @@ abbrev pub array_bytes : List ArrayInit → ℕ
 array_bytes arrays = sum_by (λ a. length a.values) arrays
 
 -- the numbers that StaticField says too
-abbrev pub statics_agree : Directory → Option StaticField → List Spot
+abbrev pub statics_agree : Directory → Option StaticField → List ComponentPlace
 statics_agree d None = []
 statics_agree d (Some s) =
     unless (d.image_size == s.image_size) (in_info 2 24)
@@ -42,7 +42,7 @@ statics_agree d (Some s) =
     ++ unless (d.array_init_size == array_bytes s.array_inits) (in_info 2 28)
 
 -- the number of imported packages is that of Import
-abbrev pub imports_agree : Directory → Option Import → List Spot
+abbrev pub imports_agree : Directory → Option Import → List ComponentPlace
 imports_agree d None = []
 imports_agree d (Some i) = unless (d.import_count == length i.packages) (in_info 2 30)
 
@@ -52,12 +52,12 @@ applet_count None = 0
 applet_count (Some a) = length a.applets
 
 -- the number of applets is that of Applet
-abbrev pub applets_agree : Directory → Option Applet → List Spot
+abbrev pub applets_agree : Directory → Option Applet → List ComponentPlace
 applets_agree d a = unless (d.applet_count == applet_count a) (in_info 2 31)
 
 -- 701. Directory has the size of each component and 0 of each absent one, and no component but Applet and Export is absent. Its other
 -- numbers are those of StaticField, Import and Applet. Broken is the item of Directory.
-abbrev pub directory_spots : CapTree → List Spot
+abbrev pub directory_spots : CapTree → List ComponentPlace
 directory_spots cap =
     sizes_agree cap.directory.component_sizes (size_items cap)
     ++ statics_agree cap.directory cap.statics
@@ -76,6 +76,6 @@ acc_applet = 4
 
 -- 702. ACC_APPLET is set exactly where Applet is there, ACC_EXPORT exactly where Export is. Broken are the flags, behind the magic
 -- number and the version of the format.
-abbrev pub flags_spots : CapTree → List Spot
+abbrev pub flags_spots : CapTree → List ComponentPlace
 flags_spots cap =
     unless (same_bool (has cap.header.flags acc_applet) (is_some cap.applet) && same_bool (has cap.header.flags acc_export) (is_some cap.export)) (in_info 1 6)

@@ -1,7 +1,7 @@
 -- ReferenceLocation lists the indices into the constant pool (Java Card Virtual Machine Specification 2.2.2, 6.11).
 use Rattle.std.specs.Prelude.{ℕ, ◌+◌, ◌-◌, ◌/◌, ◌%◌, List, [], ◌∷◌, ◌++◌, length, map, filter, replicate, ◌==◌, if◌then◌else◌}
 use Rattle.cjc_capread.specs.declared.tree.Handler.{Handler}
-use Rattle.cjc_sentences.specs.Spots.{Spot, in_info, unless, beside}
+use Rattle.cjc_sentences.specs.Spots.{ComponentPlace, in_info, unless, beside}
 use Rattle.cjc_sentences.specs.Complete.{Complete}
 use Rattle.cjc_sentences.specs.Instructions.{IndexOperand, all_indices}
 
@@ -24,11 +24,11 @@ distances before [] = []
 distances before (at ∷ places) = distance (at - before) ++ distances at places
 
 -- bytes that differ, as far as there are both; the first has this offset
-abbrev pub differ : (at : ℕ) → (listed wanted : List ℕ) → List Spot
+abbrev pub differ : (at : ℕ) → (listed wanted : List ℕ) → List ComponentPlace
 differ at listed wanted = beside (λ b. 1) (λ at b w. unless (b == w) (in_info 9 at)) at listed wanted
 
 -- bytes behind their number of two bytes, which stands at this offset
-abbrev pub are_listed : (at : ℕ) → (listed wanted : List ℕ) → List Spot
+abbrev pub are_listed : (at : ℕ) → (listed wanted : List ℕ) → List ComponentPlace
 are_listed at listed wanted = unless (length listed == length wanted) (in_info 9 at) ++ differ (at + 2) listed wanted
 
 -- the distances of indices of one byte, and of two; catch indices stand before instructions
@@ -41,6 +41,6 @@ wanted_twos c = distances 0 (catch_places 1 c.method.handlers ++ places_of 2 (al
 
 -- 714. ReferenceLocation has the distances of exactly the places where indices stand: those of operands, checkcast and instanceof of an
 -- array of numbers aside, and catch indices that are not 0. Broken is the first item that differs: a count or a byte.
-abbrev pub location_spots : Complete → List Spot
+abbrev pub location_spots : Complete → List ComponentPlace
 location_spots c =
     are_listed 0 c.locations.one_byte (wanted_ones c) ++ are_listed (2 + length c.locations.one_byte) c.locations.two_byte (wanted_twos c)

@@ -5,7 +5,7 @@ use Rattle.cjc_capread.specs.declared.tree.StaticRef.TheVariants.{Inside, Outsid
 use Rattle.cjc_capread.specs.declared.tree.PoolEntry.{PoolEntry}
 use Rattle.cjc_capread.specs.declared.tree.PoolEntry.TheVariants.{Classref, InstanceFieldref, VirtualMethodref, SuperMethodref, StaticFieldref, StaticMethodref}
 use Rattle.cjc_export.specs.declared.tree.ExportTree.{ExportTree}
-use Rattle.cjc_sentences.specs.Spots.{Spot, in_info, unless, along}
+use Rattle.cjc_sentences.specs.Spots.{ComponentPlace, in_info, unless, along}
 use Rattle.cjc_sentences.specs.Complete.{Complete}
 use Rattle.cjc_sentences.specs.Classes.{imported}
 use Rattle.cjc_sentences.specs.Members.{is_method_start, is_cell, has_field, has_static_method, has_static_field, has_virtual, has_above}
@@ -31,5 +31,5 @@ names_member c exports (StaticMethodref member) = is_method c exports member
 
 -- 708. The entries of the constant pool, of four bytes each, name fields, methods, tokens and cells that are there. Broken is the
 -- entry's tag.
-abbrev pub pool_spots : Complete → List ExportTree → List Spot
+abbrev pub pool_spots : Complete → List ExportTree → List ComponentPlace
 pool_spots c exports = along (λ x. 4) (λ at x. unless (names_member c exports x) (in_info 5 at)) 2 c.pool.entries

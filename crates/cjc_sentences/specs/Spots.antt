@@ -1,29 +1,29 @@
 -- Places in components, and items that stand one behind the other in them.
 use Rattle.std.specs.Prelude.{ℕ, ◌+◌, List, [], ◌∷◌, ◌++◌, map, Bool, true, false, ◌==◌, ◌&&◌, ◌||◌, if◌then◌else◌, Option, Some, None, option_map, nat_lt, nat_le}
 use Rattle.std.specs.List.{list_any, find}
-pub use Rattle.cjc_sentences.specs.declared.spot.Spot.{Spot}
+pub use Rattle.cjc_sentences.specs.declared.spot.ComponentPlace.{ComponentPlace}
 
 -- a place by its offset in the component's info, which stands behind the tag and the size
-abbrev pub in_info : (tag at : ℕ) → Spot
+abbrev pub in_info : (tag at : ℕ) → ComponentPlace
 in_info tag at = record { component = tag; offset = 3 + at }
 
 -- the place is broken where the test fails
-abbrev pub unless : Bool → Spot → List Spot
+abbrev pub unless : Bool → ComponentPlace → List ComponentPlace
 unless true s = []
 unless false s = s ∷ []
 
 -- What is broken in items that stand one behind the other, of these sizes in bytes, the first at this offset.
-unfoldable pub along : {A : Type 0} → (size : A → ℕ) → (broken : ℕ → A → List Spot) → (at : ℕ) → List A → List Spot
+unfoldable pub along : {A : Type 0} → (size : A → ℕ) → (broken : ℕ → A → List ComponentPlace) → (at : ℕ) → List A → List ComponentPlace
 along size broken at [] = []
 along size broken at (x ∷ xs) = broken at x ++ along size broken (at + size x) xs
 
 -- the same with each item's number, the first of which is this one
-unfoldable pub numbered : {A : Type 0} → (size : A → ℕ) → (broken : (number at : ℕ) → A → List Spot) → (number at : ℕ) → List A → List Spot
+unfoldable pub numbered : {A : Type 0} → (size : A → ℕ) → (broken : (number at : ℕ) → A → List ComponentPlace) → (number at : ℕ) → List A → List ComponentPlace
 numbered size broken n at [] = []
 numbered size broken n at (x ∷ xs) = broken n at x ++ numbered size broken (n + 1) (at + size x) xs
 
 -- What is broken in items of these sizes beside others, as far as there are both.
-unfoldable pub beside : {A B : Type 0} → (size : A → ℕ) → (broken : ℕ → A → B → List Spot) → (at : ℕ) → List A → List B → List Spot
+unfoldable pub beside : {A B : Type 0} → (size : A → ℕ) → (broken : ℕ → A → B → List ComponentPlace) → (at : ℕ) → List A → List B → List ComponentPlace
 beside size broken at (x ∷ xs) (y ∷ ys) = broken at x y ++ beside size broken (at + size x) xs ys
 beside size broken at _ _ = []
 
@@ -56,16 +56,16 @@ lies_between low high n = nat_le low n && nat_le n high
 -- ---- the first of several places: by component, then by offset
 
 -- one does not stand after the other
-abbrev pub is_up_to : Spot → Spot → Bool
+abbrev pub is_up_to : ComponentPlace → ComponentPlace → Bool
 is_up_to a b = nat_lt a.component b.component || (a.component == b.component && nat_le a.offset b.offset)
 
 -- the first of two
-abbrev pub earlier : Option Spot → Option Spot → Option Spot
+abbrev pub earlier : Option ComponentPlace → Option ComponentPlace → Option ComponentPlace
 earlier None right = right
 earlier (Some a) None = Some a
 earlier (Some a) (Some b) = if is_up_to a b then Some a else Some b
 
 -- the first of several
-unfoldable pub first : List Spot → Option Spot
+unfoldable pub first : List ComponentPlace → Option ComponentPlace
 first [] = None
 first (s ∷ spots) = earlier (Some s) (first spots)

@@ -9,7 +9,7 @@ use Rattle.cjc_capread.specs.declared.tree.ClassDescriptor.{ClassDescriptor}
 use Rattle.cjc_capread.specs.ClassRefs.{is_inside}
 use Rattle.cjc_export.specs.declared.tree.ExportClass.{ExportClass}
 use Rattle.cjc_export.specs.declared.tree.ExportTree.{ExportTree}
-use Rattle.cjc_sentences.specs.Spots.{Spot, in_info, unless, along, Placed}
+use Rattle.cjc_sentences.specs.Spots.{ComponentPlace, in_info, unless, along, Placed}
 use Rattle.cjc_sentences.specs.Complete.{Complete, map_size, class_size}
 use Rattle.cjc_sentences.specs.Classes.{classes_at, first_class, imported}
 use Rattle.cjc_sentences.specs.ClassRefs.{maps_begin}
@@ -36,22 +36,22 @@ abbrev pub is_package_entry : Complete → ℕ → Bool
 is_package_entry c entry = not (entry == 0xFFFF) && is_method_start c entry
 
 -- an entry of a table that stands at this offset
-abbrev pub public_spot : Complete → ClassEntry → (at entry : ℕ) → List Spot
+abbrev pub public_spot : Complete → ClassEntry → (at entry : ℕ) → List ComponentPlace
 public_spot c x at entry = unless (is_public_entry c x entry) (in_info 6 at)
 
 -- an entry of a package table that stands at this offset
-abbrev pub package_spot : Complete → (at entry : ℕ) → List Spot
+abbrev pub package_spot : Complete → (at entry : ℕ) → List ComponentPlace
 package_spot c at entry = unless (is_package_entry c entry) (in_info 6 at)
 
 -- the tables of a class that begins at this offset
-abbrev pub in_tables : Complete → (at : ℕ) → ClassEntry → List Spot
+abbrev pub in_tables : Complete → (at : ℕ) → ClassEntry → List ComponentPlace
 in_tables c at x =
     along (λ e. 2) (public_spot c x) (at + 10) x.public_methods
     ++ along (λ e. 2) (package_spot c) (at + 10 + 2 * length x.public_methods) x.package_methods
 
 -- 706. The entries of tables are method starts. 0xFFFF stands in public tables alone, and only where some superclass is imported.
 -- Broken is the entry.
-abbrev pub table_spots : Complete → List Spot
+abbrev pub table_spots : Complete → List ComponentPlace
 table_spots c = along class_size (in_tables c) (first_class c.class) c.class.classes
 
 -- ---- interface maps
@@ -76,17 +76,17 @@ abbrev pub is_index : Complete → List ExportTree → (class index : ℕ) → B
 is_index c exports class index = not (index == 0xFF) && has_virtual c exports (Inside class) index
 
 -- a map that begins at this offset, of the class that begins at another
-abbrev pub in_map : Complete → List ExportTree → (class at : ℕ) → ImplementedInterface → List Spot
+abbrev pub in_map : Complete → List ExportTree → (class at : ℕ) → ImplementedInterface → List ComponentPlace
 in_map c exports class at m =
     unless (is_long_enough c exports m.interface (length m.index)) (in_info 6 (at + 2))
     ++ along (λ i. 1) (λ at i. unless (is_index c exports class i) (in_info 6 at)) (at + 3) m.index
 
 -- the maps of a class that begins at this offset
-abbrev pub in_all_maps : Complete → List ExportTree → (at : ℕ) → ClassEntry → List Spot
+abbrev pub in_all_maps : Complete → List ExportTree → (at : ℕ) → ClassEntry → List ComponentPlace
 in_all_maps c exports at x = along map_size (in_map c exports at) (maps_begin at x) x.interfaces
 
 -- 707. The map of an imported interface has an index for each method of it, and that of an interface of the package more indices
 -- than each token that Descriptor gives a method of it. Each index is the token of a virtual method that the class has. Broken is the
 -- map's count, or the index.
-abbrev pub map_spots : Complete → List ExportTree → List Spot
+abbrev pub map_spots : Complete → List ExportTree → List ComponentPlace
 map_spots c exports = along class_size (in_all_maps c exports) (first_class c.class) c.class.classes

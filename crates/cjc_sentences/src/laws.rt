@@ -3,7 +3,7 @@
 ghost use Rattle.std.specs.Prelude.{◌≡◌, List, [], ◌++◌, None};
 ghost use Rattle.cjc_capread.specs.declared.tree.CapTree.{CapTree};
 ghost use Rattle.cjc_sentences.specs.Consistent.{Consistent, Unbroken};
-ghost use Rattle.cjc_sentences.specs.Spots.{Spot as Place, earlier, first};
+ghost use Rattle.cjc_sentences.specs.Spots.{ComponentPlace as Place, earlier, first};
 ghost use Rattle.cjc_export.specs.declared.tree.ExportTree.{ExportTree};
 
 /// Components are consistent exactly where every sentence counts as true.

@@ -8,5 +8,5 @@ mod spot;
 mod worked;
 
 pub use laws::{consistent_where_unbroken, first_places};
-pub use spot::Spot;
+pub use spot::ComponentPlace;
 pub use worked::{example_is_consistent, worked_codes_are_cut, worked_items_are_found};

@@ -79,13 +79,13 @@ module _ (by : Linked) (l : Named) (told : ActsAreTold by l) (heap : Heap) (soun
   unfolding by_label
   bare_shown class = refl
 
-  object_act : (class : List ℕ) → Same (heap_after_act by (acts.Object class) all) (narrow.acted (by_label l) (acts.Object class) heap)
+  object_act : (class : List ℕ) → Same (heap_after_act by (acts.Object class) all) (narrow.heap_after (by_label l) (acts.Object class) heap)
   unfolding by_label
   object_act class = go (by.is_imported class) refl
     where
-      go : (b : Bool) → by.is_imported class ≡ b → Same (if b then Some (all ++ things.Object class [] ∷ []) else None) (narrow.grown (by_label l) heap (narrow.object_of (by_label l) (l.imported class)))
-      go true e = subst (λ o. Same (Some (all ++ things.Object class [] ∷ [])) (narrow.grown (by_label l) heap (narrow.object_of (by_label l) o))) (sym (told.imported class e)) (grown_same (Object class []) (things.Object class []) (bare_shown class) (of_class (bare refl (told.imported class e)) no_slots))
-      go false e = subst (λ o. Same None (narrow.grown (by_label l) heap (narrow.object_of (by_label l) o))) (sym (told.not_imported class e)) unfit
+      go : (b : Bool) → by.is_imported class ≡ b → Same (if b then Some (all ++ things.Object class [] ∷ []) else None) (narrow.heap_with (by_label l) heap (narrow.object_of (by_label l) (l.imported class)))
+      go true e = subst (λ o. Same (Some (all ++ things.Object class [] ∷ [])) (narrow.heap_with (by_label l) heap (narrow.object_of (by_label l) o))) (sym (told.imported class e)) (grown_same (Object class []) (things.Object class []) (bare_shown class) (of_class (bare refl (told.imported class e)) no_slots))
+      go false e = subst (λ o. Same None (narrow.heap_with (by_label l) heap (narrow.object_of (by_label l) o))) (sym (told.not_imported class e)) unfit
 
   -- ---- an array
 
@@ -100,12 +100,12 @@ module _ (by : Linked) (l : Named) (told : ActsAreTold by l) (heap : Heap) (soun
   nulls_are_shown desc class n named = ap (λ d. things.Array d (replicate n Null)) (sym (told.spelt desc (OfReferences class) named))
 
   array_of_kind : (desc : List ℕ) (n : ℕ) → n ≤ 32767 → (o : Option (Shape (List ℕ))) → shape_named desc ≡ o
-      → Same (option_map (λ thing. all ++ thing ∷ []) (array_with by desc n (item_sort by o))) (narrow.grown (by_label l) heap (narrow.sized_array (by_label l) (option_and_then (narrow.shape_of (by_label l)) o) n))
+      → Same (option_map (λ thing. all ++ thing ∷ []) (array_with by desc n (item_sort by o))) (narrow.heap_with (by_label l) heap (narrow.sized_array (by_label l) (option_and_then (narrow.shape_of (by_label l)) o) n))
   unfolding by_label
   array_of_kind desc n few None named = unfit
   array_of_kind desc n few (Some (OfClass class)) named = go (l.class_named class)
     where
-      go : (o : Option (List ℕ)) → Same None (narrow.grown (by_label l) heap (narrow.sized_array (by_label l) (option_map OfClass o) n))
+      go : (o : Option (List ℕ)) → Same None (narrow.heap_with (by_label l) heap (narrow.sized_array (by_label l) (option_map OfClass o) n))
       go None = unfit
       go (Some other) = unfit
   array_of_kind desc n few (Some (OfNumbers e)) named =
@@ -116,18 +116,18 @@ module _ (by : Linked) (l : Named) (told : ActsAreTold by l) (heap : Heap) (soun
       arrays : l.class_named class ≡ Some class → HasArrays l class
       arrays there = record { is_there = there; is_named = ap shape_named (told.spelt desc (OfReferences class) named) ∙ named }
 
-      go : (b : Bool) → by.is_there None class ≡ b → Same (option_map (λ thing. all ++ thing ∷ []) (array_with by desc n (if b then Some (Reference (OfClass class)) else None))) (narrow.grown (by_label l) heap (narrow.sized_array (by_label l) (option_map OfReferences (l.class_named class)) n))
+      go : (b : Bool) → by.is_there None class ≡ b → Same (option_map (λ thing. all ++ thing ∷ []) (array_with by desc n (if b then Some (Reference (OfClass class)) else None))) (narrow.heap_with (by_label l) heap (narrow.sized_array (by_label l) (option_map OfReferences (l.class_named class)) n))
       go true e =
-          subst (λ o. Same (Some (all ++ things.Array desc (replicate n Null) ∷ [])) (narrow.grown (by_label l) heap (narrow.sized_array (by_label l) (option_map OfReferences o) n))) (sym (told.there class e))
+          subst (λ o. Same (Some (all ++ things.Array desc (replicate n Null) ∷ [])) (narrow.heap_with (by_label l) heap (narrow.sized_array (by_label l) (option_map OfReferences o) n))) (sym (told.there class e))
           (grown_same (References class (replicate n Null)) (things.Array desc (replicate n Null)) (nulls_are_shown desc class n named)
           (references (arrays (told.there class e)) (few_of n Null few) (λ k d low. all_same (CellFits l (heap ++ References class (replicate n Null) ∷ []) (Reference (OfClass class))) Null a_null n k d low)))
-      go false e = subst (λ o. Same None (narrow.grown (by_label l) heap (narrow.sized_array (by_label l) (option_map OfReferences o) n))) (sym (told.not_there class e)) unfit
+      go false e = subst (λ o. Same None (narrow.heap_with (by_label l) heap (narrow.sized_array (by_label l) (option_map OfReferences o) n))) (sym (told.not_there class e)) unfit
 
-  array_act : (desc : List ℕ) (size : ℤ) → Same (heap_after_act by (acts.Array desc size) all) (narrow.acted (by_label l) (acts.Array desc size) heap)
+  array_act : (desc : List ℕ) (size : ℤ) → Same (heap_after_act by (acts.Array desc size) all) (narrow.heap_after (by_label l) (acts.Array desc size) heap)
   array_act desc (negsuc n) = unfit
   array_act desc (pos n) = go (nat_le n 32767) refl
     where
-      go : (b : Bool) → nat_le n 32767 ≡ b → Same (option_map (λ thing. all ++ thing ∷ []) (if b then array_with by desc n (item_sort by (shape_named desc)) else None)) (narrow.grown (by_label l) heap (if b then narrow.sized_array (by_label l) (option_and_then (narrow.shape_of (by_label l)) (shape_named desc)) n else None))
+      go : (b : Bool) → nat_le n 32767 ≡ b → Same (option_map (λ thing. all ++ thing ∷ []) (if b then array_with by desc n (item_sort by (shape_named desc)) else None)) (narrow.heap_with (by_label l) heap (if b then narrow.sized_array (by_label l) (option_and_then (narrow.shape_of (by_label l)) (shape_named desc)) n else None))
       go true e = array_of_kind desc n (grind (arith, nat_tests, e)) (shape_named desc) refl
       go false e = unfit
 
@@ -222,7 +222,7 @@ module _ (by : Linked) (l : Named) (told : ActsAreTold by l) (heap : Heap) (soun
   put_thing k (Object class slots) (pos j) v there h = unfit
   put_thing k (Object class slots) (negsuc j) v there h = unfit
 
-  put_act : (k : ℕ) (i : ℤ) (v : Value) → Same (heap_after_act by (acts.Put k i v) all) (narrow.acted (by_label l) (acts.Put k i v) heap)
+  put_act : (k : ℕ) (i : ℤ) (v : Value) → Same (heap_after_act by (acts.Put k i v) all) (narrow.heap_after (by_label l) (acts.Put k i v) heap)
   put_act k i v = subst (λ o. Same (option_map (slice_set all k) (put_in by all o i v)) (narrow.put_item (by_label l) heap k (slice_get heap k) i v)) (sym (get_map (shown l) heap k)) (go (slice_get heap k) refl)
     where
       go : (o : Option (HeapObject (List ℕ) MemberId)) → slice_get heap k ≡ o → Same (option_map (slice_set all k) (put_in by all (option_as (shown l) o) i v)) (narrow.put_item (by_label l) heap k o i v)

@@ -38,7 +38,7 @@ pub thing_shown : (l : Named) (heap : Heap) {things : List Thing} (k : ℕ) (thi
 thing_shown l heap k thing same is = ap (λ h. slice_get h k) same ∙ get_map (shown l) heap k ∙ ap (option_as (shown l)) is
 
 -- The frames that begin with arguments that agree.
-pub frames_begin : (heap : Heap) (narrowed : Method → Start NMethod) (params : List Kind) → OnBoth params → {callee : Method} {args words : List Value} → IsNarrowed narrowed (length params) callee → Stacks heap params args words → Frames heap [] (first_locals callee params) (frame_for_call callee args) (narrow.entered (narrowed callee) words)
+pub frames_begin : (heap : Heap) (narrowed : Method → Start NMethod) (params : List Kind) → OnBoth params → {callee : Method} {args words : List Value} → IsNarrowed narrowed (length params) callee → Stacks heap params args words → Frames heap [] (first_locals callee params) (frame_for_call callee args) (narrow.frame_for_call (narrowed callee) words)
 frames_begin heap narrowed params plain {callee = callee} {args = args} {words = words} is passed =
     let long = both_long plain passed in
     let further = callee.max_locals - length params in
@@ -63,7 +63,7 @@ module _ (by : Linked) (l : Named) (narrowed : Method → Start NMethod) (may_be
   Meets = CallAgrees by l narrowed may_begin params ks next f outer s g others t
 
   -- the frames that begin
-  entered_agree : {callee : Method} {args words : List Value} → OnBoth (params callee) → IsNarrowed narrowed (length (params callee)) callee → Stacks (let m = t.memory in m.heap) (params callee) args words → Frames (let m = t.memory in m.heap) [] (first_locals callee (params callee)) (frame_for_call callee args) (narrow.entered (narrowed callee) words)
+  entered_agree : {callee : Method} {args words : List Value} → OnBoth (params callee) → IsNarrowed narrowed (length (params callee)) callee → Stacks (let m = t.memory in m.heap) (params callee) args words → Frames (let m = t.memory in m.heap) [] (first_locals callee (params callee)) (frame_for_call callee args) (narrow.frame_for_call (narrowed callee) words)
   entered_agree {callee = callee} plain is passed = frames_begin (let m = t.memory in m.heap) narrowed (params callee) plain is passed
 
   -- what is reached begins
@@ -71,7 +71,7 @@ module _ (by : Linked) (l : Named) (narrowed : Method → Start NMethod) (may_be
       → Meets (at_callee by (Some (Inside callee)) result args (record f { stack = vs }) outer s) (narrow.reaches (by_label l) (Within (narrowed callee)) on words (record g { next = next; stack = ws }) others t)
   reach_both {callee = callee} {args = args} {words = words} {vs = vs} {ws = ws} result on may plain is passed low =
       subst (λ b. Meets (if b then stuck_at (offset (record f { stack = vs })) s else On (with_frames (frame_for_call callee args ∷ record f { stack = vs } ∷ outer) s)) (narrow.reaches (by_label l) (Within (narrowed callee)) on words (record g { next = next; stack = ws }) others t)) (sym is.has_code)
-      (subst (λ b. Meets (On (with_frames (frame_for_call callee args ∷ record f { stack = vs } ∷ outer) s)) (if b then StuckAt g.at t else Next (record t { frames = narrow.entered (narrowed callee) words ∷ record g { next = next; stack = ws } ∷ others }))) (sym is.is_written)
+      (subst (λ b. Meets (On (with_frames (frame_for_call callee args ∷ record f { stack = vs } ∷ outer) s)) (if b then StuckAt g.at t else Next (record t { frames = narrow.frame_for_call (narrowed callee) words ∷ record g { next = next; stack = ws } ∷ others }))) (sym is.is_written)
       (begins callee args words vs ws may (entered_agree plain is passed) low))
 
 -- A call of a static method takes its arguments from both stacks: what is met there is met by the call.
@@ -118,7 +118,7 @@ static_call by l narrowed may_begin op id named params ks ls next f outer s g ot
 
 -- what an array or object of a type selects is reached on both sides; null raises
 module _ (by : Linked) (l : Named) (named : Callee) (within : Shape (List ℕ) → Bool) (params ks : List Kind) (next : ℕ) (f : Frame) (outer : List Frame) (s : State) (g : NFrame) (others : List NFrame) (t : NState) (Meets : Move State → NTurn → Type 0) (selected : List ℕ → Option Linked.Callee) (result : Option Sort) (stores : Stores l s.store t.memory)
-    (null_raises : (vs ws : List Value) → Meets (after_fault by NullPointer (record f { stack = vs }) outer s) (narrow.failed (by_label l) (narrow_fault NullPointer) (record g { next = next; stack = ws }) others t))
+    (null_raises : (vs ws : List Value) → Meets (after_fault by NullPointer (record f { stack = vs }) outer s) (narrow.turn_after_fault (by_label l) (narrow_fault NullPointer) (record g { next = next; stack = ws }) others t))
     (reaches : (k : ℕ) (thing : HeapObject (List ℕ) MemberId) → slice_get (let m = t.memory in m.heap) k ≡ Some thing → within (shape thing) ≡ true → IsMadeOf l (shape thing) → (args words vs ws : List Value) → Stacks (let m = t.memory in m.heap) params args words → Stacks (let m = t.memory in m.heap) ks vs ws
     → Meets (at_callee by (selected (shape_name (shape thing))) result (Obj k ∷ args) (record f { stack = vs }) outer s) (narrow.reaches (by_label l) (l.reached named (Some (shape thing))) true (Obj k ∷ words) (record g { next = next; stack = ws }) others t)) where
   -- by the type of the receiver

@@ -40,7 +40,7 @@ take_long (suc n) (x ∷ xs) h = ap suc (take_long n xs (omega arith))
 module _ (by : Linked) (l : Named) (r : Resolution) (m : Method) (tops : List Kind) (plain : OnBoth tops) (n : ℕ) (few : n ≤ length tops) where
   -- the top n cells are copied below all of `tops`
   copy_both : (room at next : ℕ) (ks ls : List Kind) (vs ws : List Value) (locals words : List (Option Value)) (store : Store) (memory : NMemory) → HasRoom ((tops ++ take n tops) ++ ks) m.max_stack room → Stores l store memory → Locals memory.heap ls locals words → Stacks memory.heap (tops ++ ks) vs ws
-      → Same l ((tops ++ take n tops) ++ ks) ls (at + 1) next (by_name.after_copy by m at locals store n (length tops) vs) (narrow.finished (copied n (length tops) room words ws) next memory)
+      → Same l ((tops ++ take n tops) ++ ks) ls (at + 1) next (by_name.after_copy by m at locals store n (length tops) vs) (narrow.effect_of_result (copied n (length tops) room words ws) next memory)
   copy_both room at next ks ls vs ws locals words store memory roomy stores held s =
       let b = length tops in
       let heap = memory.heap in
@@ -59,10 +59,10 @@ module _ (by : Linked) (l : Named) (r : Resolution) (m : Method) (tops : List Ki
       let named' = take b vs ++ (take n vs ++ drop b vs) in
       let narrow' = take b ws ++ (take n ws ++ drop b ws) in
       let result = subst (λ k. Stacks heap k named' narrow') (sym (append_in_turn tops (take n tops) ks)) (joined top (joined first below)) in
-      subst (λ t. Same l ((tops ++ take n tops) ++ ks) ls (at + 1) next (by_name.only_if (t && nat_le (n + length vs) m.max_stack) (by_name.onward by m at locals store named')) (narrow.finished (copied n b room words ws) next memory)) (sym left)
-      (subst (λ t. Same l ((tops ++ take n tops) ++ ks) ls (at + 1) next (by_name.only_if t (by_name.onward by m at locals store named')) (narrow.finished (copied n b room words ws) next memory)) (sym left')
-      (subst (λ t. Same l ((tops ++ take n tops) ++ ks) ls (at + 1) next (by_name.onward by m at locals store named') (narrow.finished (Calculations.if_so t (Calculations.if_so (nat_le (length (take n ws ++ ws)) room) (Calculations.Fine narrow' words))) next memory)) (sym right)
-      (subst (λ t. Same l ((tops ++ take n tops) ++ ks) ls (at + 1) next (by_name.onward by m at locals store named') (narrow.finished (Calculations.if_so t (Calculations.Fine narrow' words)) next memory)) (sym right')
+      subst (λ t. Same l ((tops ++ take n tops) ++ ks) ls (at + 1) next (by_name.only_if (t && nat_le (n + length vs) m.max_stack) (by_name.onward by m at locals store named')) (narrow.effect_of_result (copied n b room words ws) next memory)) (sym left)
+      (subst (λ t. Same l ((tops ++ take n tops) ++ ks) ls (at + 1) next (by_name.only_if t (by_name.onward by m at locals store named')) (narrow.effect_of_result (copied n b room words ws) next memory)) (sym left')
+      (subst (λ t. Same l ((tops ++ take n tops) ++ ks) ls (at + 1) next (by_name.onward by m at locals store named') (narrow.effect_of_result (Calculations.if_so t (Calculations.if_so (nat_le (length (take n ws ++ ws)) room) (Calculations.Fine narrow' words))) next memory)) (sym right)
+      (subst (λ t. Same l ((tops ++ take n tops) ++ ks) ls (at + 1) next (by_name.onward by m at locals store named') (narrow.effect_of_result (Calculations.if_so t (Calculations.Fine narrow' words)) next memory)) (sym right')
       (goes result held stores))))
 
 module _ (by : Linked) (l : Named) (r : Resolution) (m : Method) where

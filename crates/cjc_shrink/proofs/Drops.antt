@@ -28,7 +28,7 @@ use Rattle.cjc_shrink.proofs.Passed.{here_before, dropped, high_enough, drop_all
 
 module _ (by : Linked) (l : Named) (r : Resolution) (m : Method) where
   drop_both : (tops : List Kind) → OnBoth tops → (at next : ℕ) (ks ls : List Kind) (room : ℕ) (vs ws : List Value) (locals words : List (Option Value)) (store : Store) (memory : NMemory) → Stores l store memory → Locals memory.heap ls locals words → Stacks memory.heap (tops ++ ks) vs ws
-      → Same l ks ls (at + 1) next (by_name.after_pop by m at locals store (length tops) vs) (narrow.finished (popped (length tops) room words ws) next memory)
+      → Same l ks ls (at + 1) next (by_name.after_pop by m at locals store (length tops) vs) (narrow.effect_of_result (popped (length tops) room words ws) next memory)
   drop_both tops plain at next ks ls room vs ws locals words store memory stores held s =
       let b = length tops in
       let h = heights s in let e = h.by_name in
@@ -37,8 +37,8 @@ module _ (by : Linked) (l : Named) (r : Resolution) (m : Method) where
       let left : nat_le b (length vs) ≡ true = grind (arith, nat_tests) in
       let right : nat_le b (length ws) ≡ true = grind (arith, nat_tests) in
       let below = subst (λ k. Stacks memory.heap k (drop b vs) (drop b ws)) (drop_all tops ks) (dropped (here_before ks plain) s) in
-      subst (λ t. Same l ks ls (at + 1) next (by_name.only_if t (by_name.onward by m at locals store (drop b vs))) (narrow.finished (popped b room words ws) next memory)) (sym left)
-      (subst (λ t. Same l ks ls (at + 1) next (by_name.onward by m at locals store (drop b vs)) (narrow.finished (Calculations.if_so t (Calculations.Fine (drop b ws) words)) next memory)) (sym right)
+      subst (λ t. Same l ks ls (at + 1) next (by_name.only_if t (by_name.onward by m at locals store (drop b vs))) (narrow.effect_of_result (popped b room words ws) next memory)) (sym left)
+      (subst (λ t. Same l ks ls (at + 1) next (by_name.onward by m at locals store (drop b vs)) (narrow.effect_of_result (Calculations.if_so t (Calculations.Fine (drop b ws) words)) next memory)) (sym right)
       (goes below held stores))
 
   pop_is : (a : Kind) → OnBoth (a ∷ []) → RowIs by l m (jop.Stack 0x57) (insns.Op 0x3B) (a ∷ []) []
@@ -57,10 +57,10 @@ module _ (by : Linked) (l : Named) (r : Resolution) (m : Method) where
 
   -- two cells change places
   swapped : {k j : Kind} {v w x y : Value} {ks ls : List Kind} {vs ws : List Value} (at next : ℕ) {locals words : List (Option Value)} {store : Store} {memory : NMemory} → Stores l store memory → Locals memory.heap ls locals words → Agrees memory.heap k v w → Agrees memory.heap j x y → Stacks memory.heap ks vs ws
-      → Same l (j ∷ k ∷ ks) ls (at + 1) next (by_name.onward by m at locals store (x ∷ v ∷ vs)) (narrow.finished (Calculations.if_so (nat_le 2 (length (w ∷ y ∷ ws))) (Calculations.Fine (y ∷ w ∷ ws) words)) next memory)
+      → Same l (j ∷ k ∷ ks) ls (at + 1) next (by_name.onward by m at locals store (x ∷ v ∷ vs)) (narrow.effect_of_result (Calculations.if_so (nat_le 2 (length (w ∷ y ∷ ws))) (Calculations.Fine (y ∷ w ∷ ws) words)) next memory)
   swapped {k = k} {j = j} {v = v} {w = w} {x = x} {y = y} {ks = ks} {ls = ls} {vs = vs} {ws = ws} at next {locals = locals} {words = words} {store = store} {memory = memory} stores held a b s =
       let enough : nat_le 2 (length (w ∷ y ∷ ws)) ≡ true = grind (arith, nat_tests) in
-      subst (λ t. Same l (j ∷ k ∷ ks) ls (at + 1) next (by_name.onward by m at locals store (x ∷ v ∷ vs)) (narrow.finished (Calculations.if_so t (Calculations.Fine (y ∷ w ∷ ws) words)) next memory)) (sym enough)
+      subst (λ t. Same l (j ∷ k ∷ ks) ls (at + 1) next (by_name.onward by m at locals store (x ∷ v ∷ vs)) (narrow.effect_of_result (Calculations.if_so t (Calculations.Fine (y ∷ w ∷ ws) words)) next memory)) (sym enough)
       (goes (cell b (cell a s)) held stores)
 
   swap_is : (a b : Kind) → OnBoth (a ∷ b ∷ []) → RowIs by l m (jop.Stack 0x5F) (insns.Words 0x40 1 1) (a ∷ b ∷ []) (b ∷ a ∷ [])

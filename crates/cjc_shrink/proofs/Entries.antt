@@ -137,7 +137,7 @@ module _ (by : Linked) (l : Named) (narrowed : Method → Start NMethod) (types 
       let size : 1 + length types.params ≡ length params = (let long = kinds_long l types.params in omega (arith, long)) in
       subst (λ o. Meets true (entry_begins by (Some m) true e entries s) (narrow.entered_by (by_label l) (Some (narrowed m)) o e entries t)) (sym (ap (first_and (Obj k)) h.words))
       (begins s t m (Obj k ∷ args) (is_sent (shape thing) made found) noted behind
-      (subst (λ values. Frames (nheap t) [] (first_locals m params) (frame_for_call m values) (narrow.entered (narrowed m) (Obj k ∷ args))) (sym same)
+      (subst (λ values. Frames (nheap t) [] (first_locals m params) (frame_for_call m values) (narrow.frame_for_call (narrowed m) (Obj k ∷ args))) (sym same)
       (frames_begin (nheap t) narrowed params (both_reference (kinds_plain is.given)) (subst (λ n. IsNarrowed narrowed n m) size (is.sent_narrowed (shape thing) m made found)) (cell (object thing there (is.receives (shape thing) m made found)) h.agree))))
 
   -- by what is at the receiver's place

@@ -92,8 +92,8 @@ module _ (by : Linked) (l : Named) (Lands : (class : List ℕ) → State → NSt
       by_case false e =
           let named_side = after_answer by s.answers types.result f outer (with_note (Event event args) s) in
           subst (λ o. Meets named_side (narrow.typed (by_label l) on event o words g others t)) (sym (ap signature_of is.desc ∙ is.has_types))
-          (subst (λ o. Meets named_side (narrow.noted (by_label l) event types.result o g others t)) (sym values)
-          (subst (λ answers. Meets (after_answer by answers types.result f outer (with_note (Event event args) s)) (narrow.noted (by_label l) event types.result (Some args) g others t)) (sym agree.answers)
+          (subst (λ o. Meets named_side (narrow.turn_after_event (by_label l) event types.result o g others t)) (sym values)
+          (subst (λ answers. Meets (after_answer by answers types.result f outer (with_note (Event event args) s)) (narrow.turn_after_event (by_label l) event types.result (Some args) g others t)) (sym agree.answers)
           (answer_both by l Lands types.result is.one_word is.asks (nheap t) ks ls f outer g others roomy alike t.answers (with_note (Event event args) s) (record t { notes = t.notes ++ Event event args ∷ [] })
           (record { stores = agree.stores; entries = agree.entries; answers = agree.answers; notes = ap (λ ns. ns ++ Event event args ∷ []) agree.notes }) (keeps_itself (nheap t)) held rest)))
 

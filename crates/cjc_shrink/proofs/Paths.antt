@@ -36,7 +36,7 @@ module _ (l : Named) (g : NFrame) (others : List NFrame) (t : NState) (insn : NI
 
   pub narrow_step : narrow.step (by_label l) (g ∷ others) t ≡ narrow.spent_by (by_label l) t.spent (narrow.made (by_label l) (effects.effect (classes l) (operation insn) (let m = g.code in m.max_stack) (g.at + 1) g.locals t.memory g.stack) (g.at + 1) g others (with_spent t))
   unfolding by_label
-  narrow_step = ap (λ o. narrow.spent_by (by_label l) t.spent (narrow.fetched (by_label l) (option_map (λ insn. record { operation = operation insn; next = g.at + 1 }) o) g others (with_spent t))) written
+  narrow_step = ap (λ o. narrow.spent_by (by_label l) t.spent (narrow.turn_after_fetch (by_label l) (option_map (λ insn. record { operation = operation insn; next = g.at + 1 }) o) g others (with_spent t))) written
 
 pub turns_are : (by : Linked) (l : Named) (f : Frame) (outer : List Frame) (s : State) (g : NFrame) (others : List NFrame) (t : NState) (i : JInsn) (insn : NInsn) → slice_get (let m = f.method in m.insns) f.at ≡ Some i → slice_get (let m = g.code in m.insns) g.at ≡ Some insn → (effect : by_name.Effect) (effect' : NEffect)
     → by_name.effect by f.method f.at f.locals s.store i.op f.stack ≡ effect → effects.effect (classes l) (operation insn) (let m = g.code in m.max_stack) (g.at + 1) g.locals t.memory g.stack ≡ effect' → TurnsAre by l f outer s g others t effect effect'

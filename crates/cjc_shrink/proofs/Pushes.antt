@@ -30,13 +30,13 @@ use Rattle.cjc_shrink.proofs.Gets.{heights}
 
 module _ (by : Linked) (l : Named) (m : Method) (room at next : ℕ) (ks ls : List Kind) (vs ws : List Value) (locals words : List (Option Value)) (store : Store) (memory : NMemory) (stores : Stores l store memory) (held : Locals memory.heap ls locals words) (rest : Stacks memory.heap ks vs ws) where
   -- a cell is pushed
-  pub push_both : {k : Kind} {v w : Value} → HasRoom (k ∷ ks) m.max_stack room → Agrees memory.heap k v w → Same l (k ∷ ks) ls (at + 1) next (by_name.push by m at locals store v vs) (narrow.finished (pushed (w ∷ []) room words ws) next memory)
+  pub push_both : {k : Kind} {v w : Value} → HasRoom (k ∷ ks) m.max_stack room → Agrees memory.heap k v w → Same l (k ∷ ks) ls (at + 1) next (by_name.push by m at locals store v vs) (narrow.effect_of_result (pushed (w ∷ []) room words ws) next memory)
   push_both {k = k} {v = v} {w = w} roomy agree =
       let h = heights rest in let e = h.by_name in let g = h.narrow in let high = roomy.by_name in let high' = roomy.narrow in
       let left : nat_lt (length vs) m.max_stack ≡ true = grind (arith, nat_tests) in
       let right : nat_le (length (w ∷ ws)) room ≡ true = grind (arith, nat_tests) in
-      subst (λ b. Same l (k ∷ ks) ls (at + 1) next (by_name.only_if b (by_name.onward by m at locals store (v ∷ vs))) (narrow.finished (pushed (w ∷ []) room words ws) next memory)) (sym left)
-      (subst (λ b. Same l (k ∷ ks) ls (at + 1) next (by_name.onward by m at locals store (v ∷ vs)) (narrow.finished (if b then Calculations.Fine (w ∷ ws) words else Calculations.Wrong) next memory)) (sym right)
+      subst (λ b. Same l (k ∷ ks) ls (at + 1) next (by_name.only_if b (by_name.onward by m at locals store (v ∷ vs))) (narrow.effect_of_result (pushed (w ∷ []) room words ws) next memory)) (sym left)
+      (subst (λ b. Same l (k ∷ ks) ls (at + 1) next (by_name.onward by m at locals store (v ∷ vs)) (narrow.effect_of_result (if b then Calculations.Fine (w ∷ ws) words else Calculations.Wrong) next memory)) (sym right)
       (goes (cell agree rest) held stores))
 
 -- ---- constants
@@ -153,10 +153,10 @@ module _ (by : Linked) (l : Named) (r : Resolution) (m : Method) (ls : List Kind
       subst (λ i. Same l (Range s ∷ ks) ls (at + 1) next (by_name.after_load by m at locals store false n vs) (narrow.effect (classes l) (operation i) room next words memory ws)) (one_insn is)
       (subst (λ o. Same l (Range s ∷ ks) ls (at + 1) next (by_name.after_load by m at locals store false n vs) (narrow.effect (classes l) o room next words memory ws)) (sym (number_load_is n))
       (subst (λ o. Same l (Range s ∷ ks) ls (at + 1) next (by_name.local_value o (λ v. by_name.only_if (by_name.is_kind false v) (by_name.push by m at locals store v vs))) (narrow.effect (classes l) (Do (load_word n)) room next words memory ws)) (sym h.by_name)
-      (subst (λ o. Same l (Range s ∷ ks) ls (at + 1) next (by_name.only_if (by_name.is_kind false h.v) (by_name.push by m at locals store h.v vs)) (narrow.finished (Calculations.set_local o (λ v. Calculations.if_so (Calculations.is_number v) (pushed (v ∷ []) room words ws))) next memory)) (sym h.narrow)
+      (subst (λ o. Same l (Range s ∷ ks) ls (at + 1) next (by_name.only_if (by_name.is_kind false h.v) (by_name.push by m at locals store h.v vs)) (narrow.effect_of_result (Calculations.set_local o (λ v. Calculations.if_so (Calculations.is_number v) (pushed (v ∷ []) room words ws))) next memory)) (sym h.narrow)
       (by_value h.v h.w h.agree))))
     where
-      by_value : (v w : Value) → Agrees memory.heap (Range s) v w → Same l (Range s ∷ ks) ls (at + 1) next (by_name.only_if (by_name.is_kind false v) (by_name.push by m at locals store v vs)) (narrow.finished (Calculations.if_so (Calculations.is_number w) (pushed (w ∷ []) room words ws)) next memory)
+      by_value : (v w : Value) → Agrees memory.heap (Range s) v w → Same l (Range s ∷ ks) ls (at + 1) next (by_name.only_if (by_name.is_kind false v) (by_name.push by m at locals store v vs)) (narrow.effect_of_result (Calculations.if_so (Calculations.is_number w) (pushed (w ∷ []) room words ws)) next memory)
       by_value _ _ (number e h) = push_both by l m room at next ks ls vs ws locals words store memory stores held rest roomy (number e h)
 
   pub aload : (within : Shape (List ℕ) → Bool) → slice_get ls n ≡ Some (Refers within) → RowOnLocals by l r m (jop.Load true n) [] (Refers within ∷ []) ls ls
@@ -166,9 +166,9 @@ module _ (by : Linked) (l : Named) (r : Resolution) (m : Method) (ls : List Kind
       subst (λ i. Same l (Refers within ∷ ks) ls (at + 1) next (by_name.after_load by m at locals store true n vs) (narrow.effect (classes l) (operation i) room next words memory ws)) (one_insn is)
       (subst (λ o. Same l (Refers within ∷ ks) ls (at + 1) next (by_name.after_load by m at locals store true n vs) (narrow.effect (classes l) o room next words memory ws)) (sym (reference_load_is n))
       (subst (λ o. Same l (Refers within ∷ ks) ls (at + 1) next (by_name.local_value o (λ v. by_name.only_if (by_name.is_kind true v) (by_name.push by m at locals store v vs))) (narrow.effect (classes l) (Do (load_reference n)) room next words memory ws)) (sym h.by_name)
-      (subst (λ o. Same l (Refers within ∷ ks) ls (at + 1) next (by_name.only_if (by_name.is_kind true h.v) (by_name.push by m at locals store h.v vs)) (narrow.finished (Calculations.set_local o (λ v. Calculations.if_so (Calculations.is_reference v) (pushed (v ∷ []) room words ws))) next memory)) (sym h.narrow)
+      (subst (λ o. Same l (Refers within ∷ ks) ls (at + 1) next (by_name.only_if (by_name.is_kind true h.v) (by_name.push by m at locals store h.v vs)) (narrow.effect_of_result (Calculations.set_local o (λ v. Calculations.if_so (Calculations.is_reference v) (pushed (v ∷ []) room words ws))) next memory)) (sym h.narrow)
       (by_value h.v h.w h.agree))))
     where
-      by_value : (v w : Value) → Agrees memory.heap (Refers within) v w → Same l (Refers within ∷ ks) ls (at + 1) next (by_name.only_if (by_name.is_kind true v) (by_name.push by m at locals store v vs)) (narrow.finished (Calculations.if_so (Calculations.is_reference w) (pushed (w ∷ []) room words ws)) next memory)
+      by_value : (v w : Value) → Agrees memory.heap (Refers within) v w → Same l (Refers within ∷ ks) ls (at + 1) next (by_name.only_if (by_name.is_kind true v) (by_name.push by m at locals store v vs)) (narrow.effect_of_result (Calculations.if_so (Calculations.is_reference w) (pushed (w ∷ []) room words ws)) next memory)
       by_value _ _ null = push_both by l m room at next ks ls vs ws locals words store memory stores held rest roomy null
       by_value _ _ (object thing there e) = push_both by l m room at next ks ls vs ws locals words store memory stores held rest roomy (object thing there e)

@@ -62,14 +62,14 @@ module _ (by : Linked) (l : Named) (tb : Table) (may_raise : MayRaise l tb) wher
     meets : (vs ws : List Value) → Meets by l tb (nheap t) (waits vs) (waiting_at ws)
     meets vs ws = record { ls = known; held = stands.agree.locals; code = stands.code; place = stands.place; catches = facts.catches }
 
-    pub fails_both : (fault : Fault) (vs ws : List Value) → Both by l tb (after_fault by fault (waits vs) outer s) (narrow.failed (by_label l) (narrow_fault fault) (waiting_at ws) others (with_spent t))
+    pub fails_both : (fault : Fault) (vs ws : List Value) → Both by l tb (after_fault by fault (waits vs) outer s) (narrow.turn_after_fault (by_label l) (narrow_fault fault) (waiting_at ws) others (with_spent t))
     fails_both fault vs ws = failed_both by l tb (waits vs) outer s (waiting_at ws) others (with_spent t) same' (meets vs ws) waiting fault (may_raise.raises fault) (may_raise.may_raise fault)
 
     -- what is reached begins above frames that wait, or null raises
     pub call_both : (given : Method → List Kind) {m : Move State} {u : NTurn} → CallAgrees by l tb.narrowed (λ n. MayBeCalled tb f.method f.at (given n) facts.ks known n) given facts.ks (g.at + 1) f outer s g others (with_spent t) m u → Both by l tb m u
     call_both given (begins callee args words vs ws may frames low) =
         let enters = may.enters in
-        let stands' : Stands tb (nheap t) (frame_for_call callee args) (narrow.entered (tb.narrowed callee) words) = record {
+        let stands' : Stands tb (nheap t) (frame_for_call callee args) (narrow.frame_for_call (tb.narrowed callee) words) = record {
           point = enters.point;
           is_reached = enters.is_reached;
           code = refl;
@@ -86,7 +86,7 @@ module _ (by : Linked) (l : Named) (tb : Table) (may_raise : MayRaise l tb) wher
           has_room = subst (λ code. HasRoom (tb.results callee ++ facts.ks) (room f) code.max_stack) (sym stands.code) may.has_room;
           catches = facts.catches;
         } in
-        onward (inside (frame_for_call callee args) (waits vs ∷ outer) s (narrow.entered (tb.narrowed callee) words) (waiting_at ws ∷ others) (with_spent t) same' stands' (a_frame in_caller waiting))
+        onward (inside (frame_for_call callee args) (waits vs ∷ outer) s (narrow.frame_for_call (tb.narrowed callee) words) (waiting_at ws ∷ others) (with_spent t) same' stands' (a_frame in_caller waiting))
     call_both given (fails fault vs ws) = fails_both fault vs ws
 
     -- an imported method is answered
@@ -235,14 +235,14 @@ entry_both : (by : Linked) (l : Named) (tb : Table) (on : Bool) (params : Method
 entry_both by l tb on params e entries noted may (entries_spec.begins s t m words entered same_notes same frames) =
     let h = may m entered in
     let enters = h.enters in
-    let stands : Stands tb (nheap t) (frame_for_call m e.args) (narrow.entered (tb.narrowed m) words) = record {
+    let stands : Stands tb (nheap t) (frame_for_call m e.args) (narrow.frame_for_call (tb.narrowed m) words) = record {
       point = enters.point;
       is_reached = enters.is_reached;
       code = refl;
       place = enters.place;
       agree = record { stack = stacks_wider enters.stack frames.stack; locals = locals_wider enters.locals frames.locals };
     } in
-    into (frame_for_call m e.args) [] (record s { entries = entries }) (narrow.entered (tb.narrowed m) words) [] (record t { entries = entries }) same stands (no_frame h.short) same_notes
+    into (frame_for_call m e.args) [] (record s { entries = entries }) (narrow.frame_for_call (tb.narrowed m) words) [] (record t { entries = entries }) same stands (no_frame h.short) same_notes
 entry_both by l tb on params e entries noted may (entries_spec.unfit {s = s} {t = t} same) =
     unfit (report (Unfit e.number) s) (Unfit e.number) t (report_alike by l tb (Unfit e.number) s t same) (λ e. cc) (λ at e. cc)
 

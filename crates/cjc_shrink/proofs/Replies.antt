@@ -69,14 +69,14 @@ module _ (by : Linked) (l : Named) (alike : ActsAlike by l) (number : ℕ) (Meet
         notes = agree.notes;
       }) keeps refl
 
-  pub acts_both : (acts : List Act) (s : State) (t : NState) → StatesAgree l s t → Unfits → Follows t → Meets (after_acts by acts number s go) (narrow.prepared (by_label l) acts number t go')
+  pub acts_both : (acts : List Act) (s : State) (t : NState) → StatesAgree l s t → Unfits → Follows t → Meets (after_acts by acts number s go) (narrow.turn_after_acts (by_label l) acts number t go')
   acts_both [] s t agree unfits follows = follows s t agree (keeps_itself (nheap t)) refl
   acts_both (a ∷ acts) s t agree unfits follows =
       let stores = agree.stores in
-      subst (λ heap. Meets (after_act by (heap_after_act by a heap) number s (λ u. after_acts by acts number u go)) (narrow.prepared (by_label l) (a ∷ acts) number t go')) (sym stores.heap)
-      (one_act s t agree unfits (λ u. after_acts by acts number u go) (λ v. narrow.prepared (by_label l) acts number v go')
+      subst (λ heap. Meets (after_act by (heap_after_act by a heap) number s (λ u. after_acts by acts number u go)) (narrow.turn_after_acts (by_label l) (a ∷ acts) number t go')) (sym stores.heap)
+      (one_act s t agree unfits (λ u. after_acts by acts number u go) (λ v. narrow.turn_after_acts (by_label l) acts number v go')
       (λ u v states keeps noted. acts_both acts u v states unfits (λ u' v' states' keeps' noted'. follows u' v' states' (keeps_through (nheap t) (nheap v) (nheap v') keeps keeps') (noted' ∙ noted)))
-      (heap_after_act by a (map (shown l) (nheap t))) (narrow.acted (by_label l) a (nheap t)) (alike a (nheap t) stores.heap_fits))
+      (heap_after_act by a (map (shown l) (nheap t))) (narrow.heap_after (by_label l) a (nheap t)) (alike a (nheap t) stores.heap_fits))
 
 -- ---- what fits a result
 
@@ -176,35 +176,35 @@ module _ (by : Linked) (l : Named) (Lands : (class : List ℕ) → State → NSt
   on_from : {s : State} {t : NState} {m : Move State} {n : NTurn} → StatesAgree l s t → Keeps heap (nheap t) → Locals (nheap t) ls f.locals g.locals → Resumes l (result_kinds l result ++ ks) s t f outer g others m n → Meets m n
   on_from agree keeps held (resumes stack) = goes_on agree keeps stack held
 
-  give_both : (v : Option Value) (ordinal : ℕ) (s : State) (t : NState) → StatesAgree l s t → Keeps heap (nheap t) → Locals (nheap t) ls f.locals g.locals → Stacks (nheap t) ks f.stack g.stack → Meets (after_reply by (Give v) ordinal result f outer s) (narrow.replied (by_label l) (Give v) ordinal result g others t)
+  give_both : (v : Option Value) (ordinal : ℕ) (s : State) (t : NState) → StatesAgree l s t → Keeps heap (nheap t) → Locals (nheap t) ls f.locals g.locals → Stacks (nheap t) ks f.stack g.stack → Meets (after_reply by (Give v) ordinal result f outer s) (narrow.turn_after_reply (by_label l) (Give v) ordinal result g others t)
   give_both v ordinal s t agree keeps held rest =
       let stores = agree.stores in
-      subst (λ b. Meets (if b then after_result (offset f) v f outer s else Over (report (Unfit ordinal) s)) (narrow.replied (by_label l) (Give v) ordinal result g others t)) (sym (result_told by l (nheap t) (heap_of s) stores.heap result v asks))
+      subst (λ b. Meets (if b then after_result (offset f) v f outer s else Over (report (Unfit ordinal) s)) (narrow.turn_after_reply (by_label l) (Give v) ordinal result g others t)) (sym (result_told by l (nheap t) (heap_of s) stores.heap result v asks))
       (by_answer (result_fits (narrow.object_fits (by_label l) (nheap t)) result v) refl)
     where
       by_answer : (b : Bool) → result_fits (narrow.object_fits (by_label l) (nheap t)) result v ≡ b → Meets (if b then after_result (offset f) v f outer s else Over (report (Unfit ordinal) s)) (if b then narrow.returned (by_label l) g.at (result_words result v) g others t else Ended (Unfit ordinal) t)
       by_answer true e = on_from agree keeps held (resumed by l ks f outer s g others t rest (result_kinds l result) v (result_words result v) (offset f) g.at (result_agrees by l (nheap t) result v word asks e) roomy)
       by_answer false e = is_unfit ordinal agree
 
-  throw_both : (class : List ℕ) (ordinal : ℕ) (s : State) (t : NState) → StatesAgree l s t → Keeps heap (nheap t) → Meets (after_reply by (Throw class) ordinal result f outer s) (narrow.replied (by_label l) (Throw class) ordinal result g others t)
+  throw_both : (class : List ℕ) (ordinal : ℕ) (s : State) (t : NState) → StatesAgree l s t → Keeps heap (nheap t) → Meets (after_reply by (Throw class) ordinal result f outer s) (narrow.turn_after_reply (by_label l) (Throw class) ordinal result g others t)
   unfolding by_label
   throw_both class ordinal s t agree keeps =
       let thrown = alike.throws class in
-      subst (λ o. Meets (after_reply by (Throw class) ordinal result f outer s) (narrow.raised (by_label l) o g others t (Ended (Unfit ordinal) t))) (sym thrown.tells)
+      subst (λ o. Meets (after_reply by (Throw class) ordinal result f outer s) (narrow.turn_after_raise (by_label l) o g others t (Ended (Unfit ordinal) t))) (sym thrown.tells)
       (by_answer (may_be_thrown by class) refl)
     where
-      by_answer : (b : Bool) → may_be_thrown by class ≡ b → Meets (if b then after_raise by class f outer s else Over (report (Unfit ordinal) s)) (narrow.raised (by_label l) (if b then Some class else None) g others t (Ended (Unfit ordinal) t))
+      by_answer : (b : Bool) → may_be_thrown by class ≡ b → Meets (if b then after_raise by class f outer s else Over (report (Unfit ordinal) s)) (narrow.turn_after_raise (by_label l) (if b then Some class else None) g others t (Ended (Unfit ordinal) t))
       by_answer true e = throws class (alike.lands class e s t agree keeps (Ended (Unfit ordinal) t))
       by_answer false e = is_unfit ordinal agree
 
-  reply_both : (reply : Reply) (ordinal : ℕ) (s : State) (t : NState) → StatesAgree l s t → Keeps heap (nheap t) → Locals (nheap t) ls f.locals g.locals → Stacks (nheap t) ks f.stack g.stack → Meets (after_reply by reply ordinal result f outer s) (narrow.replied (by_label l) reply ordinal result g others t)
+  reply_both : (reply : Reply) (ordinal : ℕ) (s : State) (t : NState) → StatesAgree l s t → Keeps heap (nheap t) → Locals (nheap t) ls f.locals g.locals → Stacks (nheap t) ks f.stack g.stack → Meets (after_reply by reply ordinal result f outer s) (narrow.turn_after_reply (by_label l) reply ordinal result g others t)
   reply_both (Give v) ordinal s t agree keeps held rest = give_both v ordinal s t agree keeps held rest
   reply_both (Throw class) ordinal s t agree keeps held rest = throw_both class ordinal s t agree keeps
 
-  pub answer_both : (answers : List Answer) (s : State) (t : NState) → StatesAgree l s t → Keeps heap (nheap t) → Locals (nheap t) ls f.locals g.locals → Stacks (nheap t) ks f.stack g.stack → Meets (after_answer by answers result f outer s) (narrow.answered (by_label l) answers result g others t)
+  pub answer_both : (answers : List Answer) (s : State) (t : NState) → StatesAgree l s t → Keeps heap (nheap t) → Locals (nheap t) ls f.locals g.locals → Stacks (nheap t) ks f.stack g.stack → Meets (after_answer by answers result f outer s) (narrow.turn_after_answer (by_label l) answers result g others t)
   answer_both [] s t agree keeps held rest = waits agree
   answer_both (a ∷ answers) s t agree keeps held rest =
-      acts_both by l alike.acts a.number Meets (λ u. after_reply by a.reply a.number result f outer u) (λ v. narrow.replied (by_label l) a.reply a.number result g others v) a.acts (record s { answers = answers }) (record t { answers = answers })
+      acts_both by l alike.acts a.number Meets (λ u. after_reply by a.reply a.number result f outer u) (λ v. narrow.turn_after_reply (by_label l) a.reply a.number result g others v) a.acts (record s { answers = answers }) (record t { answers = answers })
       (record { stores = agree.stores; entries = agree.entries; answers = refl; notes = agree.notes })
       (λ u v states. is_unfit a.number states)
       (λ u v states more noted. reply_both a.reply a.number u v states (keeps_through heap (nheap t) (nheap v) keeps more) (locals_kept more held) (stacks_kept more rest))

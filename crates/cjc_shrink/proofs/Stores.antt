@@ -84,13 +84,13 @@ inc_is false n z = refl
 module _ (by : Linked) (l : Named) (r : Resolution) (m : Method) (ls : List Kind) (n : ℕ) (inside : n < length ls) where
   -- a value that agrees goes into a local
   stored_both : (at next : ℕ) (ks : List Kind) (k : Kind) (v w : Value) (vs ws : List Value) (locals words : List (Option Value)) (store : Store) (memory : NMemory) → Stores l store memory → Locals memory.heap ls locals words → Agrees memory.heap k v w → Stacks memory.heap ks vs ws
-      → Same l ks (slice_set ls n k) (at + 1) next (by_name.only_if (nat_lt n (length locals)) (by_name.with_local by m at locals store n v vs)) (narrow.finished (there (slice_get words n) (Calculations.Fine ws (slice_set words n (Some w)))) next memory)
+      → Same l ks (slice_set ls n k) (at + 1) next (by_name.only_if (nat_lt n (length locals)) (by_name.with_local by m at locals store n v vs)) (narrow.effect_of_result (there (slice_get words n) (Calculations.Fine ws (slice_set words n (Some w)))) next memory)
   stored_both at next ks k v w vs ws locals words store memory stores held agree rest =
       let long = locals_long held in let e = long.0 in let f = long.1 in
       let left : nat_lt n (length locals) ≡ true = grind (arith, nat_tests) in
       let old = get_there words n (omega arith) in
-      subst (λ b. Same l ks (slice_set ls n k) (at + 1) next (by_name.only_if b (by_name.with_local by m at locals store n v vs)) (narrow.finished (there (slice_get words n) (Calculations.Fine ws (slice_set words n (Some w)))) next memory)) (sym left)
-      (subst (λ o. Same l ks (slice_set ls n k) (at + 1) next (by_name.with_local by m at locals store n v vs) (narrow.finished (there o (Calculations.Fine ws (slice_set words n (Some w)))) next memory)) (sym old.1)
+      subst (λ b. Same l ks (slice_set ls n k) (at + 1) next (by_name.only_if b (by_name.with_local by m at locals store n v vs)) (narrow.effect_of_result (there (slice_get words n) (Calculations.Fine ws (slice_set words n (Some w)))) next memory)) (sym left)
+      (subst (λ o. Same l ks (slice_set ls n k) (at + 1) next (by_name.with_local by m at locals store n v vs) (narrow.effect_of_result (there o (Calculations.Fine ws (slice_set words n (Some w)))) next memory)) (sym old.1)
       (goes rest (locals_set n held agree) stores))
 
   pub istore : (s : Span) → RowOnLocals by l r m (jop.Store false n) (Range s ∷ []) [] ls (slice_set ls n (Range s))
@@ -124,10 +124,10 @@ iinc by l r m ls n s z has small place insn is room at next ks vs ws locals word
     subst (λ i. Same l ks result (at + 1) next (by_name.local_value (slice_get locals n) (λ v. by_name.after_increase by m at locals store n z v vs)) (narrow.effect (classes l) (operation i) room next words memory ws)) (one_insn is)
     (subst (λ o. Same l ks result (at + 1) next (by_name.local_value (slice_get locals n) (λ v. by_name.after_increase by m at locals store n z v vs)) (narrow.effect (classes l) o room next words memory ws)) (sym (inc_is (is_byte z) n z))
     (subst (λ o. Same l ks result (at + 1) next (by_name.local_value o (λ v. by_name.after_increase by m at locals store n z v vs)) (narrow.effect (classes l) (Do (increased (pos n ∷ z ∷ []))) room next words memory ws)) (sym h.by_name)
-    (subst (λ o. Same l ks result (at + 1) next (by_name.after_increase by m at locals store n z h.v vs) (narrow.finished (number_in o (λ x. Calculations.Fine ws (slice_set words n (Some (Num (low_word (x +ℤ z))))))) next memory)) (sym h.narrow)
+    (subst (λ o. Same l ks result (at + 1) next (by_name.after_increase by m at locals store n z h.v vs) (narrow.effect_of_result (number_in o (λ x. Calculations.Fine ws (slice_set words n (Some (Num (low_word (x +ℤ z))))))) next memory)) (sym h.narrow)
     (by_value h.v h.w h.agree))))
   where
-    by_value : (v w : Value) → Agrees memory.heap (Range s) v w → Same l ks (slice_set ls n (Range (add_row s (span z z)))) (at + 1) next (by_name.after_increase by m at locals store n z v vs) (narrow.finished (number_in (Some (Some w)) (λ x. Calculations.Fine ws (slice_set words n (Some (Num (low_word (x +ℤ z))))))) next memory)
+    by_value : (v w : Value) → Agrees memory.heap (Range s) v w → Same l ks (slice_set ls n (Range (add_row s (span z z)))) (at + 1) next (by_name.after_increase by m at locals store n z v vs) (narrow.effect_of_result (number_in (Some (Some w)) (λ x. Calculations.Fine ws (slice_set words n (Some (Num (low_word (x +ℤ z))))))) next memory)
     by_value _ _ (number {x = x} {y = y} e h) =
         let as_word : z ≡ low_word z = sym (low_word_same z small.above small.below) in
         goes rest (locals_set n held (number (of_both (λ a b. low_word (a +ℤ b)) x z e as_word (low_word-add x z)) (add_holds s (span z z) x z h (holds_itself z)))) stores

@@ -313,7 +313,7 @@ module _ (by : Linked) (l : Named) (r : Resolution) (m : Method) (s : Span) (sma
   unfolding meaning
   popped room between v ws words memory =
       let enough : nat_le 1 (length (v ∷ ws)) ≡ true = grind (arith, nat_tests) in
-      ap (λ t. narrow.finished (Calculations.if_so t (Calculations.Fine ws words)) between memory) enough
+      ap (λ t. narrow.effect_of_result (Calculations.if_so t (Calculations.Fine ws words)) between memory) enough
 
   gone : (target room next : ℕ) (ws : List Value) (words : List (Option Value)) (memory : NMemory) → narrow.effect (classes l) (operation (insns.Jump 0x70 target)) room next words memory ws ≡ narrow.Go target ws words memory
   unfolding meaning

@@ -59,9 +59,9 @@ module _ (by : Linked) (l : Named) (within : Shape (List ℕ) → Bool) (f : Fra
   pub thrown : (object : ℕ) (thing : HeapObject (List ℕ) MemberId) (next : ℕ) → slice_get (nheap t) object ≡ Some thing → within (shape thing) ≡ true → HandleAlike by l (nheap t) (shape thing) (f ∷ outer) (g ∷ others)
       → Unwinds by l within object (shape thing) s t (f ∷ outer) (g ∷ others) (after_effect by (effects.Toss object) f outer s) (narrow.made (by_label l) (Toss object) next g others t)
   thrown object thing next there passing alike =
-      subst (λ o. Unwinds by l within object (shape thing) s t (f ∷ outer) (g ∷ others) (after_athrow by o f outer object s) (narrow.tossed (by_label l) (slice_get (nheap t) object) g others object t)) (sym (thing_shown l (nheap t) object thing stores.heap there))
-      (subst (λ type. Unwinds by l within object (shape thing) s t (f ∷ outer) (g ∷ others) (after_throw by (offset f) (f ∷ outer) object type s) (narrow.tossed (by_label l) (slice_get (nheap t) object) g others object t)) (sym (type_shown l thing))
-      (subst (λ o. Unwinds by l within object (shape thing) s t (f ∷ outer) (g ∷ others) (after_throw by (offset f) (f ∷ outer) object (shape_name (shape thing)) s) (narrow.tossed (by_label l) o g others object t)) (sym there)
+      subst (λ o. Unwinds by l within object (shape thing) s t (f ∷ outer) (g ∷ others) (after_athrow by o f outer object s) (narrow.turn_after_toss (by_label l) (slice_get (nheap t) object) g others object t)) (sym (thing_shown l (nheap t) object thing stores.heap there))
+      (subst (λ type. Unwinds by l within object (shape thing) s t (f ∷ outer) (g ∷ others) (after_throw by (offset f) (f ∷ outer) object type s) (narrow.turn_after_toss (by_label l) (slice_get (nheap t) object) g others object t)) (sym (type_shown l thing))
+      (subst (λ o. Unwinds by l within object (shape thing) s t (f ∷ outer) (g ∷ others) (after_throw by (offset f) (f ∷ outer) object (shape_name (shape thing)) s) (narrow.turn_after_toss (by_label l) o g others object t)) (sym there)
       (unwound by l within object thing passing (offset f) g.at s t there (f ∷ outer) (g ∷ others) alike)))
 
   -- ---- new objects that are thrown
@@ -71,14 +71,14 @@ module _ (by : Linked) (l : Named) (within : Shape (List ℕ) → Bool) (f : Fra
   new_shown class = refl
 
   pub raised : (class : List ℕ) → l.imported class ≡ Some class → within (OfClass class) ≡ true → HandleAlike by l (nheap t) (OfClass class) (f ∷ outer) (g ∷ others) → (otherwise : NTurn)
-      → Raises by l within class s t (f ∷ outer) (g ∷ others) (after_raise by class f outer s) (narrow.raised (by_label l) (Some class) g others t otherwise)
+      → Raises by l within class s t (f ∷ outer) (g ∷ others) (after_raise by class f outer s) (narrow.turn_after_raise (by_label l) (Some class) g others t otherwise)
   raised class imported passing alike otherwise =
       let new : HeapObject (List ℕ) MemberId = Object class [] in
       let here : length (heap_of s) ≡ length (nheap t) = ap length stores.heap ∙ length_as (shown l) (nheap t) in
       let after = narrow.with_last (by_label l) new t in
       record {
         stores = subst (λ x. Stores l (let u = with_last x s in u.store) after.memory) (sym (new_shown class)) (grown_stores l s.store t.memory new stores (of_class (bare refl imported) no_slots));
-        unwinds = subst (λ n. Unwinds by l within (length (nheap t)) (OfClass class) (with_last (things.Object class []) s) after (f ∷ outer) (g ∷ others) (after_throw by (offset f) (f ∷ outer) n class (with_last (things.Object class []) s)) (narrow.raised (by_label l) (Some class) g others t otherwise)) (sym here)
+        unwinds = subst (λ n. Unwinds by l within (length (nheap t)) (OfClass class) (with_last (things.Object class []) s) after (f ∷ outer) (g ∷ others) (after_throw by (offset f) (f ∷ outer) n class (with_last (things.Object class []) s)) (narrow.turn_after_raise (by_label l) (Some class) g others t otherwise)) (sym here)
             (unwound by l within (length (nheap t)) new passing (offset f) g.at (with_last (things.Object class []) s) after (get_last (nheap t) new) (f ∷ outer) (g ∷ others) (handle_kept (grown_keeps (nheap t) new) alike));
       }
 
@@ -87,5 +87,5 @@ module _ (by : Linked) (l : Named) (within : Shape (List ℕ) → Bool) (f : Fra
       → Raises by l within (exception_class fault) s t (f ∷ outer) (g ∷ others) (after_effect by (effects.Raise fault) f outer s) (narrow.made (by_label l) (Raise (narrow_fault fault)) next g others t)
   unfolding by_label
   failed fault next is passing alike =
-      subst (λ o. Raises by l within (exception_class fault) s t (f ∷ outer) (g ∷ others) (after_raise by (exception_class fault) f outer s) (narrow.raised (by_label l) o g others t (StuckAt g.at t))) (sym is.class)
+      subst (λ o. Raises by l within (exception_class fault) s t (f ∷ outer) (g ∷ others) (after_raise by (exception_class fault) f outer s) (narrow.turn_after_raise (by_label l) o g others t (StuckAt g.at t))) (sym is.class)
       (raised (exception_class fault) is.imported passing alike (StuckAt g.at t))

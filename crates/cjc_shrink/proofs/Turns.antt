@@ -43,6 +43,6 @@ module _ (by : Linked) (l : Named) (ks ls : List Kind) (f : Frame) (outer : List
   unfolding by_label
   row_turns i insn there written never row =
       subst (λ o. Turns (spend by (after_fetch by o f outer s)) (narrow.step (by_label l) (g ∷ others) t)) (sym there)
-      (subst (λ o. Turns (spend by (after_effect by (by_name.effect by f.method f.at f.locals s.store i.op f.stack) f outer s)) (narrow.spent_by (by_label l) t.spent (narrow.fetched (by_label l) o g others (with_spent t)))) (sym (ap (option_map (λ insn. record { operation = operation insn; next = g.at + 1 })) written))
+      (subst (λ o. Turns (spend by (after_effect by (by_name.effect by f.method f.at f.locals s.store i.op f.stack) f outer s)) (narrow.spent_by (by_label l) t.spent (narrow.turn_after_fetch (by_label l) o g others (with_spent t)))) (sym (ap (option_map (λ insn. record { operation = operation insn; next = g.at + 1 })) written))
       (by_effect (by_name.effect by f.method f.at f.locals s.store i.op f.stack) (effects.effect (classes l) (operation insn) (let m = g.code in m.max_stack) (g.at + 1) g.locals t.memory g.stack) never row
       (types_stay l (let m = g.code in m.max_stack) (g.at + 1) g.locals t.memory (operation insn) g.stack)))

@@ -102,7 +102,7 @@ module _ (heap : Heap) where
       by_room true = goes_on keeps
       by_room false = sticks
 
-  result_any : (r : Result) (next : ℕ) (memory : NMemory) → Keeps heap memory.heap → Stays (narrow.finished r next memory)
+  result_any : (r : Result) (next : ℕ) (memory : NMemory) → Keeps heap memory.heap → Stays (narrow.effect_of_result r next memory)
   result_any (Fine stack words) next memory keeps = goes_on keeps
   result_any (Fails fault) next memory keeps = raises
   result_any Wrong next memory keeps = sticks
@@ -214,7 +214,7 @@ module _ (l : Named) (room next : ℕ) (words : List (Option Value)) (memory : N
   results_stay narrow.Int (Null ∷ rest) = sticks
   results_stay narrow.Int (Obj k ∷ rest) = sticks
 
-  touched_stays : (access : Access) (stack : List Value) → Holds (narrow.touched (classes l) access room next words memory stack)
+  touched_stays : (access : Access) (stack : List Value) → Holds (narrow.effect_of_access (classes l) access room next words memory stack)
   touched_stays (narrow.Load letter) stack = loaded_stays letter stack
   touched_stays (narrow.Store letter) stack = stored_stays letter stack
   touched_stays narrow.Length stack = value_any memory.heap stack _ (λ r rest. thing_any memory.heap r _ (λ k thing there. length_of (λ n. narrow.Go next (Num (low_word (pos n)) ∷ rest) words memory) thing (λ n. goes_on same)))

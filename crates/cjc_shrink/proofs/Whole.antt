@@ -185,11 +185,11 @@ module _ (by : Linked) (l : Named) (tb : Table) where
   module _ (f : Frame) (outer : List Frame) (s : State) (g : NFrame) (others : List NFrame) (t : NState) (same : StatesAgree l s t) (meets : Meets (nheap t) f g) (waiting : Waiting by l tb (nheap t) (tb.results f.method) outer others) where
     -- what is on the heap is thrown
     pub tossed_both : (object : ℕ) (thing : HeapObject (List ℕ) MemberId) → slice_get (nheap t) object ≡ Some thing → tb.may_throw (shape thing) ≡ true
-        → Both by l tb (after_effect by (by_name.Toss object) f outer s) (narrow.tossed (by_label l) (slice_get (nheap t) object) g others object t)
+        → Both by l tb (after_effect by (by_name.Toss object) f outer s) (narrow.turn_after_toss (by_label l) (slice_get (nheap t) object) g others object t)
     tossed_both object thing there may =
-        subst (λ o. Both by l tb (after_athrow by o f outer object s) (narrow.tossed (by_label l) (slice_get (nheap t) object) g others object t)) (sym (thing_shown l (nheap t) object thing same.stores.heap there))
-        (subst (λ type. Both by l tb (after_throw by (offset f) (f ∷ outer) object type s) (narrow.tossed (by_label l) (slice_get (nheap t) object) g others object t)) (sym (type_shown l thing))
-        (subst (λ o. Both by l tb (after_throw by (offset f) (f ∷ outer) object (shape_name (shape thing)) s) (narrow.tossed (by_label l) o g others object t)) (sym there)
+        subst (λ o. Both by l tb (after_athrow by o f outer object s) (narrow.turn_after_toss (by_label l) (slice_get (nheap t) object) g others object t)) (sym (thing_shown l (nheap t) object thing same.stores.heap there))
+        (subst (λ type. Both by l tb (after_throw by (offset f) (f ∷ outer) object type s) (narrow.turn_after_toss (by_label l) (slice_get (nheap t) object) g others object t)) (sym (type_shown l thing))
+        (subst (λ o. Both by l tb (after_throw by (offset f) (f ∷ outer) object (shape_name (shape thing)) s) (narrow.turn_after_toss (by_label l) o g others object t)) (sym there)
         (thrown_both object thing may (offset f) g.at s t there same f g outer others meets waiting)))
 
     new_shown : (class : List ℕ) → things.Object class [] ≡ shown l (Object class [])
@@ -198,7 +198,7 @@ module _ (by : Linked) (l : Named) (tb : Table) where
 
     -- a new object is thrown
     pub raised_both : (class : List ℕ) → l.imported class ≡ Some class → tb.may_throw (OfClass class) ≡ true → (otherwise : NTurn)
-        → Both by l tb (after_raise by class f outer s) (narrow.raised (by_label l) (Some class) g others t otherwise)
+        → Both by l tb (after_raise by class f outer s) (narrow.turn_after_raise (by_label l) (Some class) g others t otherwise)
     raised_both class imported may otherwise =
         let new : HeapObject (List ℕ) MemberId = Object class [] in
         let stores = same.stores in
@@ -206,15 +206,15 @@ module _ (by : Linked) (l : Named) (tb : Table) where
         let after = narrow.with_last (by_label l) new t in
         let keeps = grown_keeps (nheap t) new in
         let held : Stores l (let u = with_last (things.Object class []) s in u.store) after.memory = subst (λ x. Stores l (let u = with_last x s in u.store) after.memory) (sym (new_shown class)) (grown_stores l s.store t.memory new stores (of_class (bare refl imported) no_slots)) in
-        subst (λ n. Both by l tb (after_throw by (offset f) (f ∷ outer) n class (with_last (things.Object class []) s)) (narrow.raised (by_label l) (Some class) g others t otherwise)) (sym here)
+        subst (λ n. Both by l tb (after_throw by (offset f) (f ∷ outer) n class (with_last (things.Object class []) s)) (narrow.turn_after_raise (by_label l) (Some class) g others t otherwise)) (sym here)
         (thrown_both (length (nheap t)) new may (offset f) g.at (with_last (things.Object class []) s) after (get_last (nheap t) new)
         (record { stores = held; entries = same.entries; answers = same.answers; notes = same.notes }) f g outer others (meets_kept keeps meets) (waiting_kept keeps waiting))
 
     pub failed_both : (fault : Fault) → IsRaised l fault → tb.may_throw (OfClass (exception_class fault)) ≡ true
-        → Both by l tb (after_effect by (by_name.Raise fault) f outer s) (narrow.failed (by_label l) (narrow_fault fault) g others t)
+        → Both by l tb (after_effect by (by_name.Raise fault) f outer s) (narrow.turn_after_fault (by_label l) (narrow_fault fault) g others t)
     unfolding by_label
     failed_both fault is may =
-        subst (λ o. Both by l tb (after_raise by (exception_class fault) f outer s) (narrow.raised (by_label l) o g others t (StuckAt g.at t))) (sym is.class)
+        subst (λ o. Both by l tb (after_raise by (exception_class fault) f outer s) (narrow.turn_after_raise (by_label l) o g others t (StuckAt g.at t))) (sym is.class)
         (raised_both (exception_class fault) is.imported may (StuckAt g.at t))
 
   -- ---- reports

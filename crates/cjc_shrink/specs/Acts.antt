@@ -5,7 +5,7 @@ use Rattle.cjc_script.specs.declared.script.Act.{Act}
 use Rattle.cjc_script.specs.declared.report.Thing.{Thing}
 use Rattle.cjc_script.specs.Sorts.{Shape, OfClass, shape_name, shape_named}
 use Rattle.cjc_bytecode.specs.Effects.{HeapObject, shape}
-use Rattle.cjc_bytecode.specs.Machine.{acted}
+use Rattle.cjc_bytecode.specs.Machine.{heap_after}
 use Rattle.cjc_ncode.specs.ByLabel.{Named, by_label}
 use Rattle.cjc_by_name.specs.Linked.{Linked}
 use Rattle.cjc_by_name.specs.Machine.{heap_after_act}
@@ -28,7 +28,7 @@ pub data SameHeaps (l : Named) (heap : Heap) : Option (List Thing) → Option He
 
 -- each act, on each heap of sound types
 abbrev pub ActsAlike : Linked → Named → Type 0
-ActsAlike by l = (act : Act) (heap : Heap) → HeapFits l heap → SameHeaps l heap (heap_after_act by act (map (shown l) heap)) (acted (by_label l) act heap)
+ActsAlike by l = (act : Act) (heap : Heap) → HeapFits l heap → SameHeaps l heap (heap_after_act by act (map (shown l) heap)) (heap_after (by_label l) act heap)
 
 -- What acts ask of classes is told alike: which are there, which are imported, and what is of a class; and a type is named by its own name.
 pub record ActsAreTold (by : Linked) (l : Named) : Type 0 where

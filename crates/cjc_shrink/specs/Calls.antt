@@ -46,10 +46,10 @@ first_locals m params = params ++ replicate (m.max_locals - length params) Free
 -- Both machines go on: in a method that passes a test and what is written for it, with arguments that agree as is known of that method's,
 -- above frames that wait behind the same call; or both raise the same exception in the frame that calls.
 pub data CallAgrees (by : Linked) (l : Named) (narrowed : Method → Start NMethod) (may_begin : Method → Type 0) (params : Method → List Kind) (ks : List Kind) (next : ℕ) (f : Frame) (outer : List Frame) (s : State) (g : NFrame) (others : List NFrame) (t : NState) : Move State → NTurn → Type 0 where
-  begins : (callee : Method) (args words vs ws : List Value) → may_begin callee → (let m = t.memory in Frames m.heap [] (first_locals callee (params callee)) (frame_for_call callee args) (narrow.entered (narrowed callee) words)) → (let m = t.memory in Stacks m.heap ks vs ws)
-      → CallAgrees by l narrowed may_begin params ks next f outer s g others t (On (with_frames (frame_for_call callee args ∷ record f { stack = vs } ∷ outer) s)) (Next (record t { frames = narrow.entered (narrowed callee) words ∷ record g { next = next; stack = ws } ∷ others }))
+  begins : (callee : Method) (args words vs ws : List Value) → may_begin callee → (let m = t.memory in Frames m.heap [] (first_locals callee (params callee)) (frame_for_call callee args) (narrow.frame_for_call (narrowed callee) words)) → (let m = t.memory in Stacks m.heap ks vs ws)
+      → CallAgrees by l narrowed may_begin params ks next f outer s g others t (On (with_frames (frame_for_call callee args ∷ record f { stack = vs } ∷ outer) s)) (Next (record t { frames = narrow.frame_for_call (narrowed callee) words ∷ record g { next = next; stack = ws } ∷ others }))
   fails : (fault : Fault) (vs ws : List Value)
-      → CallAgrees by l narrowed may_begin params ks next f outer s g others t (after_fault by fault (record f { stack = vs }) outer s) (narrow.failed (by_label l) (narrow_fault fault) (record g { next = next; stack = ws }) others t)
+      → CallAgrees by l narrowed may_begin params ks next f outer s g others t (after_fault by fault (record f { stack = vs }) outer s) (narrow.turn_after_fault (by_label l) (narrow_fault fault) (record g { next = next; stack = ws }) others t)
 
 -- a type of numbers of one word
 abbrev pub is_number_sort : Sort → Bool

@@ -59,6 +59,6 @@ pub record IsNoEntry (by : Linked) (l : Named) (id : MemberId) : Type 0 where
 -- Both machines begin a method that the entry's member stands for, after the same acts and with these notes, with arguments that agree;
 -- or both are over, since an act, the method or an argument does not fit.
 pub data EntryAgrees (by : Linked) (l : Named) (narrowed : Method → Start NMethod) (virtual_call : Bool) (params : Method → List Kind) (e : Entry) (entries : List Entry) (notes : List Note) : Move State → NTurn → Type 0 where
-  begins : (s : State) (t : NState) (m : Method) (words : List Value) → MayEnter by l e.method virtual_call m → t.notes ≡ notes → StatesAgree l (record s { entries = entries }) (record t { entries = entries }) → Frames (nheap t) [] (first_locals m (params m)) (frame_for_call m e.args) (narrow.entered (narrowed m) words)
-      → EntryAgrees by l narrowed virtual_call params e entries notes (On (record s { frames = frame_for_call m e.args ∷ []; entries = entries })) (Next (record t { frames = narrow.entered (narrowed m) words ∷ []; entries = entries }))
+  begins : (s : State) (t : NState) (m : Method) (words : List Value) → MayEnter by l e.method virtual_call m → t.notes ≡ notes → StatesAgree l (record s { entries = entries }) (record t { entries = entries }) → Frames (nheap t) [] (first_locals m (params m)) (frame_for_call m e.args) (narrow.frame_for_call (narrowed m) words)
+      → EntryAgrees by l narrowed virtual_call params e entries notes (On (record s { frames = frame_for_call m e.args ∷ []; entries = entries })) (Next (record t { frames = narrow.frame_for_call (narrowed m) words ∷ []; entries = entries }))
   unfit : {s : State} {t : NState} → StatesAgree l s t → EntryAgrees by l narrowed virtual_call params e entries notes (Over (report (Unfit e.number) s)) (Ended (Unfit e.number) t)

@@ -5,7 +5,7 @@ use Rattle.cjc_script.specs.declared.value.Value.{Value}
 use Rattle.cjc_script.specs.declared.report.Outcome.TheVariants.{Waiting, Unfit}
 use Rattle.cjc_script.specs.Sorts.{Shape, OfClass, Sort, Reference, Signature, shape_name, signature_of}
 use Rattle.cjc_bytecode.specs.Runs.{Move, On, Over}
-use Rattle.cjc_bytecode.specs.Machine.{Next, Ended, Abroad, shape_of, failed, raised}
+use Rattle.cjc_bytecode.specs.Machine.{Next, Ended, Abroad, shape_of, turn_after_fault, turn_after_raise}
 use Rattle.cjc_ncode.specs.ByLabel.{Callee, Named, on_object, by_label}
 use Rattle.cjc_by_name.specs.Linked.{OnClass, Linked}
 use Rattle.cjc_by_name.specs.Linked
@@ -97,7 +97,7 @@ pub data Replies (by : Linked) (l : Named) (Lands : (class : List ℕ) → State
 pub record AnswersLand (by : Linked) (l : Named) (Lands : (class : List ℕ) → State → NState → Move State → NTurn → Type 0) (heap : Heap) (f : Frame) (outer : List Frame) (g : NFrame) (others : List NFrame) : Type 0 where
   pub acts : ActsAlike by l
   pub throws : (class : List ℕ) → ThrowsAlike by l class
-  pub lands : (class : List ℕ) → may_be_thrown by class ≡ true → (s : State) (t : NState) → StatesAgree l s t → Keeps heap (nheap t) → (otherwise : NTurn) → Lands class s t (after_raise by class f outer s) (raised (by_label l) (Some class) g others t otherwise)
+  pub lands : (class : List ℕ) → may_be_thrown by class ≡ true → (s : State) (t : NState) → StatesAgree l s t → Keeps heap (nheap t) → (otherwise : NTurn) → Lands class s t (after_raise by class f outer s) (turn_after_raise (by_label l) (Some class) g others t otherwise)
 
 -- An object of a class is made on both sides, where states agree, and goes outwards alike.
 pub record RaisesAlike (by : Linked) (l : Named) (f : Frame) (outer : List Frame) (g : NFrame) (others : List NFrame) (class : List ℕ) (s : State) (t : NState) (m : Move State) (n : NTurn) : Type 0 where
@@ -112,5 +112,5 @@ pub record AnswersAlike (by : Linked) (l : Named) (t : NState) (f : Frame) (oute
 
 -- A call on a receiver: null raises in the frame that calls, and else the imported method is noted and answered.
 pub data ImportAgrees (by : Linked) (l : Named) (kinds ks ls : List Kind) (next : ℕ) (f : Frame) (outer : List Frame) (s : State) (g : NFrame) (others : List NFrame) (t : NState) : Move State → NTurn → Type 0 where
-  is_null : (vs ws : List Value) → ImportAgrees by l kinds ks ls next f outer s g others t (after_fault by NullPointer (record f { stack = vs }) outer s) (failed (by_label l) (narrow_fault NullPointer) (record g { next = next; stack = ws }) others t)
+  is_null : (vs ws : List Value) → ImportAgrees by l kinds ks ls next f outer s g others t (after_fault by NullPointer (record f { stack = vs }) outer s) (turn_after_fault (by_label l) (narrow_fault NullPointer) (record g { next = next; stack = ws }) others t)
   is_answered : (vs ws : List Value) {m : Move State} {n : NTurn} → Replies by l (RaisesAlike by l (record f { stack = vs }) outer (record g { next = next; stack = ws }) others) (nheap t) kinds ks ls (record f { stack = vs }) outer (record g { next = next; stack = ws }) others m n → ImportAgrees by l kinds ks ls next f outer s g others t m n

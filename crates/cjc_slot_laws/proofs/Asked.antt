@@ -5,7 +5,7 @@ use Rattle.std.specs.List.{list_any}
 use Rattle.cjc_bytes.specs.AccessFlags.{is_abstract, is_interface, is_private, is_static}
 use Rattle.cjc_world.specs.Classes.{Member, Class, class_named}
 use Rattle.cjc_world.specs.Interfaces.{gathered, known}
-use Rattle.cjc_world.specs.Kin.{Kin, IsKin, Lists, after, ends, foremost, kin, known_here, line, unknown_here, upwards}
+use Rattle.cjc_world.specs.Supertypes.{Supertypes, AreSupertypes, Lists, after, ends, foremost, supertypes, known_here, line, unknown_here, upwards}
 use Rattle.cjc_world.specs.Lookup.{is_called}
 use Rattle.cjc_world.specs.Added.{added, asked_by, declares_open, has_open, is_one_of, is_open, lacking, takes_added}
 use Rattle.cjc_world.proofs.Rising.{known-append}
@@ -84,7 +84,7 @@ given_or_there there given (n ∷ ms) s none e =
 
 -- ---- lines
 
-module _ (w : List Class) (is_kin : (xs : List (List ℕ)) → IsKin w xs (kin w xs)) (one_kin : (xs : List (List ℕ)) (j k : Kin) → IsKin w xs j → IsKin w xs k → j ≡ k) (rules : KeepsRules w) where
+module _ (w : List Class) (are_supertypes : (xs : List (List ℕ)) → AreSupertypes w xs (supertypes w xs)) (one_supertypes : (xs : List (List ℕ)) (j k : Supertypes) → AreSupertypes w xs j → AreSupertypes w xs k → j ≡ k) (rules : KeepsRules w) where
   -- none of the classes of these names is an interface
   abbrev AreClasses : List (List ℕ) → Type 0
   AreClasses xs = (y : List ℕ) (d : Class) → Lists y xs → class_named w y ≡ Some d → is_interface d.flags ≡ false
@@ -111,14 +111,14 @@ module _ (w : List Class) (is_kin : (xs : List (List ℕ)) → IsKin w xs (kin w
   got-slot c above s e = offered-has_slot (with_new (slots above) (signatures is_shown c.methods)) (map signature_of (added w c)) s e
 
   -- an imported class that is no interface has a slot for each public or protected virtual method that it or a super lists
-  listed-slot : (x : List ℕ) (c : Class) (p : Kin) → class_named w x ≡ Some c → c.is_imported ≡ true → is_interface c.flags ≡ false → IsKin w c.supers p → (m : Member) (s : Signature) → In m (all_methods (c ∷ upwards p)) → is_shown m ≡ true → signature_of m ≡ s → has_slot (slots (Imported (c ∷ upwards p))) s ≡ true
+  listed-slot : (x : List ℕ) (c : Class) (p : Supertypes) → class_named w x ≡ Some c → c.is_imported ≡ true → is_interface c.flags ≡ false → AreSupertypes w c.supers p → (m : Member) (s : Signature) → In m (all_methods (c ∷ upwards p)) → is_shown m ≡ true → signature_of m ≡ s → has_slot (slots (Imported (c ∷ upwards p))) s ≡ true
   listed-slot x c p e im class_here sp m s i shown is =
-      let told : IsOneToOne (all_methods (c ∷ upwards p)) = subst (λ j. IsOneToOne (c.methods ++ all_methods (upwards j))) (one_kin c.supers (kin w c.supers) p (is_kin c.supers) sp) (rules.told x c e im class_here) in
+      let told : IsOneToOne (all_methods (c ∷ upwards p)) = subst (λ j. IsOneToOne (c.methods ++ all_methods (upwards j))) (one_supertypes c.supers (supertypes w c.supers) p (are_supertypes c.supers) sp) (rules.told x c e im class_here) in
       let t = listed_token (c ∷ upwards p) m told i shown in
       here-has_slot (slots (Imported (c ∷ upwards p))) m.token s (token-slot (slots (Imported (c ∷ upwards p))) (signature_of m) m.token t ∙ ap (λ q. Some (Some q)) is)
 
   -- a public or protected virtual method of a class or a superclass has a slot
-  shown-slot : (xs : List (List ℕ)) (k : Kin) (x : List ℕ) (m : Member) (s : Signature) → IsKin w xs k → AreClasses xs → xs ≡ x ∷ [] → In m (all_methods (upwards k)) → is_shown m ≡ true → signature_of m ≡ s → has_slot (slots (line_in w k)) s ≡ true
+  shown-slot : (xs : List (List ℕ)) (k : Supertypes) (x : List ℕ) (m : Member) (s : Signature) → AreSupertypes w xs k → AreClasses xs → xs ≡ x ∷ [] → In m (all_methods (upwards k)) → is_shown m ≡ true → signature_of m ≡ s → has_slot (slots (line_in w k)) s ≡ true
   shown-slot xs k x m s ends classes e i shown is = absurd (cc)
   shown-slot xs k x m s (unknown_here g ends) classes e i shown is = elim i [ ]
   shown-slot xs k x m s (unknown_here g (unknown_here h b)) classes e i shown is = absurd (cc)
@@ -168,7 +168,7 @@ module _ (w : List Class) (is_kin : (xs : List (List ℕ)) → IsKin w xs (kin w
     four false false false d e = inr (inr (inr e))
 
     -- above imported classes, one of these lists it
-    far : (xs : List (List ℕ)) (k : Kin) (s : Signature) → IsKin w xs k → ((y : List ℕ) (d : Class) → Lists y xs → class_named w y ≡ Some d → d.is_imported ≡ true) → is_special s ≡ false → has_open s.name s.desc k ≡ true → (m : Member) × In m (all_methods (upwards k)) × (is_shown m ≡ true) × (signature_of m ≡ s)
+    far : (xs : List (List ℕ)) (k : Supertypes) (s : Signature) → AreSupertypes w xs k → ((y : List ℕ) (d : Class) → Lists y xs → class_named w y ≡ Some d → d.is_imported ≡ true) → is_special s ≡ false → has_open s.name s.desc k ≡ true → (m : Member) × In m (all_methods (upwards k)) × (is_shown m ≡ true) × (signature_of m ≡ s)
     unfolding has_open
     far xs k s ends all plain h = absurd (cc)
     far (x ∷ xs) k s (unknown_here {next = r} e b) all plain h = far xs r s b (λ y d l f. all y d (after l) f) plain h
@@ -189,29 +189,29 @@ module _ (w : List Class) (is_kin : (xs : List (List ℕ)) → IsKin w xs (kin w
         imported_gets_none false b d e f g = cc
 
     -- what a class gets has a slot, where what its superclass has has one
-    asked-slot : (x : List ℕ) (c : Class) (s : Signature) → class_named w x ≡ Some c → takes_added c ≡ true → is_special s ≡ false → is_one_of (asked_by (kin w c.supers) (kin w c.interfaces)) s.name s.desc ≡ true
-        → (has_open s.name s.desc (kin w c.supers) ≡ true → has_slot (slots (line_in w (kin w c.supers))) s ≡ true) → has_slot (slots (Declared c (added w c) (line_in w (kin w c.supers)))) s ≡ true
+    asked-slot : (x : List ℕ) (c : Class) (s : Signature) → class_named w x ≡ Some c → takes_added c ≡ true → is_special s ≡ false → is_one_of (asked_by (supertypes w c.supers) (supertypes w c.interfaces)) s.name s.desc ≡ true
+        → (has_open s.name s.desc (supertypes w c.supers) ≡ true → has_slot (slots (line_in w (supertypes w c.supers))) s ≡ true) → has_slot (slots (Declared c (added w c) (line_in w (supertypes w c.supers)))) s ≡ true
     unfolding added
     asked-slot x c s e takes plain asked rest = ⊎_elim
         (λ r. ⊎_elim
         (λ f. let m = declares x c s e plain f in declared-slot c above m.0 s m.1 m.2 m.3)
         (λ f. above-slot c above s (rest f))
-        (two (declares_open s.name s.desc c) (has_open s.name s.desc (kin w c.supers)) (sym (ap (λ (q : Signature). declares_open q.name q.desc c || has_open q.name q.desc (kin w c.supers)) r.1) ∙ r.2)))
-        (λ h. got-slot c above s (ap (λ b. has (map signature_of (if b then lacking there [] (asked_by (kin w c.supers) (kin w c.interfaces)) else [])) s) takes ∙ h))
-        (given_or_there there [] (asked_by (kin w c.supers) (kin w c.interfaces)) s refl asked)
+        (two (declares_open s.name s.desc c) (has_open s.name s.desc (supertypes w c.supers)) (sym (ap (λ (q : Signature). declares_open q.name q.desc c || has_open q.name q.desc (supertypes w c.supers)) r.1) ∙ r.2)))
+        (λ h. got-slot c above s (ap (λ b. has (map signature_of (if b then lacking there [] (asked_by (supertypes w c.supers) (supertypes w c.interfaces)) else [])) s) takes ∙ h))
+        (given_or_there there [] (asked_by (supertypes w c.supers) (supertypes w c.interfaces)) s refl asked)
       where
         above : Line
-        above = line_in w (kin w c.supers)
+        above = line_in w (supertypes w c.supers)
 
         there : Member → Bool
-        there m = declares_open m.name m.desc c || has_open m.name m.desc (kin w c.supers)
+        there m = declares_open m.name m.desc c || has_open m.name m.desc (supertypes w c.supers)
 
         two : (a b : Bool) → (a || b) ≡ true → (a ≡ true) ⊎ (b ≡ true)
         two true b f = inl refl
         two false b f = inr f
 
     -- what a class or a superclass has has a slot
-    open-slot : (xs : List (List ℕ)) (k : Kin) (x : List ℕ) (s : Signature) → IsKin w xs k → AreClasses xs → xs ≡ x ∷ [] → is_special s ≡ false → has_open s.name s.desc k ≡ true → has_slot (slots (line_in w k)) s ≡ true
+    open-slot : (xs : List (List ℕ)) (k : Supertypes) (x : List ℕ) (s : Signature) → AreSupertypes w xs k → AreClasses xs → xs ≡ x ∷ [] → is_special s ≡ false → has_open s.name s.desc k ≡ true → has_slot (slots (line_in w k)) s ≡ true
     unfolding has_open
     open-slot xs k x s ends classes e plain h = absurd (cc)
     open-slot xs k x s (unknown_here g ends) classes e plain h = absurd (cc)
@@ -223,11 +223,11 @@ module _ (w : List Class) (is_kin : (xs : List (List ℕ)) → IsKin w xs (kin w
         Rest : Type 0
         Rest = (z : List ℕ) → c.supers ≡ z ∷ [] → has_open s.name s.desc p ≡ true → has_slot (slots (line_in w p)) s ≡ true
 
-        same_supers : kin w c.supers ≡ p
-        same_supers = one_kin c.supers (kin w c.supers) p (is_kin c.supers) sp
+        same_supers : supertypes w c.supers ≡ p
+        same_supers = one_supertypes c.supers (supertypes w c.supers) p (are_supertypes c.supers) sp
 
-        same_interfaces : kin w c.interfaces ≡ q
-        same_interfaces = one_kin c.interfaces (kin w c.interfaces) q (is_kin c.interfaces) ip
+        same_interfaces : supertypes w c.interfaces ≡ q
+        same_interfaces = one_supertypes c.interfaces (supertypes w c.interfaces) q (are_supertypes c.interfaces) ip
 
         both : (a b : Bool) → (a && b) ≡ true → (a ≡ true) × (b ≡ true)
         both true b f = (refl, f)
@@ -252,27 +252,27 @@ module _ (w : List Class) (is_kin : (xs : List (List ℕ)) → IsKin w xs (kin w
             let z = rules.single y c g f in
             subst (λ j. has_slot (slots (Declared c (added w c) (line_in w j))) s ≡ true) same_supers
             (asked-slot y c s g two.0 plain
-            (ap (λ j. is_one_of (asked_by j (kin w c.interfaces)) s.name s.desc) same_supers ∙ ap (λ j. is_one_of (asked_by p j) s.name s.desc) same_interfaces ∙ two.1)
+            (ap (λ j. is_one_of (asked_by j (supertypes w c.interfaces)) s.name s.desc) same_supers ∙ ap (λ j. is_one_of (asked_by p j) s.name s.desc) same_interfaces ∙ two.1)
             (subst (λ j. has_open s.name s.desc j ≡ true → has_slot (slots (line_in w j)) s ≡ true) (sym same_supers) (rest z.0 z.1)))
     open-slot xs k x s (known_here g sp ip (unknown_here f b)) classes e plain h = absurd (cc)
     open-slot xs k x s (known_here g sp ip (known_here f sp' ip' b)) classes e plain h = absurd (cc)
 
     module _ (interfaces : KeepsInterfaces w) where
-      plain-asked : (x : List ℕ) (c : Class) (m : Member) → class_named w x ≡ Some c → In m (asked_by (kin w c.supers) (kin w c.interfaces)) → is_special (signature_of m) ≡ false
+      plain-asked : (x : List ℕ) (c : Class) (m : Member) → class_named w x ≡ Some c → In m (asked_by (supertypes w c.supers) (supertypes w c.interfaces)) → is_special (signature_of m) ≡ false
       unfolding asked_by
       plain-asked x c m e i =
-          let A = gathered false (kin w c.supers) in
-          let B = gathered true (kin w c.interfaces) in
+          let A = gathered false (supertypes w c.supers) in
+          let B = gathered true (supertypes w c.interfaces) in
           let r = in-interface m (known (A ++ B)) i in
           let parts = among-split r.0 (known A) (known B) (subst (Among r.0) (known-append A B) r.1) in
           ⊎_elim
-          (λ j. interfaces.plain r.0.name r.0 m (gathered-named w false c.supers (kin w c.supers) r.0 (is_kin c.supers) j) r.2
-          (gathered-interface w interfaces.listed false c.supers (kin w c.supers) r.0 (is_kin c.supers) (λ l y d v f. absurd (cc)) j))
-          (λ j. interfaces.plain r.0.name r.0 m (gathered-named w true c.interfaces (kin w c.interfaces) r.0 (is_kin c.interfaces) j) r.2
-          (gathered-interface w interfaces.listed true c.interfaces (kin w c.interfaces) r.0 (is_kin c.interfaces) (λ l y d v f. interfaces.listed x y c d e v f) j))
+          (λ j. interfaces.plain r.0.name r.0 m (gathered-named w false c.supers (supertypes w c.supers) r.0 (are_supertypes c.supers) j) r.2
+          (gathered-interface w interfaces.listed false c.supers (supertypes w c.supers) r.0 (are_supertypes c.supers) (λ l y d v f. absurd (cc)) j))
+          (λ j. interfaces.plain r.0.name r.0 m (gathered-named w true c.interfaces (supertypes w c.interfaces) r.0 (are_supertypes c.interfaces) j) r.2
+          (gathered-interface w interfaces.listed true c.interfaces (supertypes w c.interfaces) r.0 (are_supertypes c.interfaces) (λ l y d v f. interfaces.listed x y c d e v f) j))
           parts
 
-      asked-has_slot : (x : List ℕ) (c : Class) (m : Member) → class_named w x ≡ Some c → c.is_imported ≡ false → is_interface c.flags ≡ false → In m (asked_by (kin w c.supers) (kin w c.interfaces)) → has_slot (slots (line_of w x)) (signature_of m) ≡ true
+      asked-has_slot : (x : List ℕ) (c : Class) (m : Member) → class_named w x ≡ Some c → c.is_imported ≡ false → is_interface c.flags ≡ false → In m (asked_by (supertypes w c.supers) (supertypes w c.interfaces)) → has_slot (slots (line_of w x)) (signature_of m) ≡ true
       unfolding line
       asked-has_slot x c m e own class_here i = by (is_abstract c.flags) refl
         where
@@ -291,16 +291,16 @@ module _ (w : List Class) (is_kin : (xs : List (List ℕ)) → IsKin w xs (kin w
           by : (b : Bool) → is_abstract c.flags ≡ b → has_slot (slots (line_of w x)) (signature_of m) ≡ true
           by true f =
               let z = rules.single x c e own in
-              ap (λ q. has_slot (slots q) (signature_of m)) (line_of-declared w is_kin one_kin rules x c e own)
-              ∙ asked-slot x c (signature_of m) e (takes f) plain (any-In (λ n. is_called m.name m.desc n) (asked_by (kin w c.supers) (kin w c.interfaces)) m i (same-refl (signature_of m)))
-              (open-slot c.supers (kin w c.supers) z.0 (signature_of m) (is_kin c.supers) (supers-classes x c e) z.1 plain)
+              ap (λ q. has_slot (slots q) (signature_of m)) (line_of-declared w are_supertypes one_supertypes rules x c e own)
+              ∙ asked-slot x c (signature_of m) e (takes f) plain (any-In (λ n. is_called m.name m.desc n) (asked_by (supertypes w c.supers) (supertypes w c.interfaces)) m i (same-refl (signature_of m)))
+              (open-slot c.supers (supertypes w c.supers) z.0 (signature_of m) (are_supertypes c.supers) (supers-classes x c e) z.1 plain)
           by false f =
               let n = interfaces.methods x c m e own f i in
               let is = chosen-passes selects (signature_of m) (all_methods (line w x)) n.0 n.1 in
-              shown-slot (x ∷ []) (kin w (x ∷ [])) x n.0 (signature_of m) (is_kin (x ∷ [])) (one-class x c e class_here) refl (chosen-In selects (signature_of m) (all_methods (line w x)) n.0 n.1) (public-shown n.0 (signature_of m) is.0 is.1 n.2 plain) is.0
+              shown-slot (x ∷ []) (supertypes w (x ∷ [])) x n.0 (signature_of m) (are_supertypes (x ∷ [])) (one-class x c e class_here) refl (chosen-In selects (signature_of m) (all_methods (line w x)) n.0 n.1) (public-shown n.0 (signature_of m) is.0 is.1 n.2 plain) is.0
 
       pub asked_token : (x : List ℕ) (c : Class) → class_named w x ≡ Some c → c.is_imported ≡ false → is_interface c.flags ≡ false
           → (j : ℕ) (i : Class) → slice_get (known (interfaces_at w c)) j ≡ Some i → (k : ℕ) (s : Signature) → slice_get (interface_methods w i) k ≡ Some s → (t : ℕ) × (token (slots (line_of w x)) s ≡ Some t)
       asked_token x c e own class_here j i there k s at =
-          let r = method-asked w is_kin one_kin c i s (among-at (known (interfaces_at w c)) j i there) (has-here (interface_methods w i) k s at) in
+          let r = method-asked w are_supertypes one_supertypes c i s (among-at (known (interfaces_at w c)) j i there) (has-here (interface_methods w i) k s at) in
           token-some (slots (line_of w x)) s (subst (λ (u : Signature). has_slot (slots (line_of w x)) u ≡ true) r.2 (asked-has_slot x c r.0 e own class_here r.1))

@@ -8,7 +8,7 @@ use Rattle.cjc_export.specs.declared.tree.ExportTree.{ExportTree}
 use Rattle.cjc_solid_laws.specs.Files.{ExportsAreSound}
 use Rattle.cjc_world.specs.Classes.{Class, all_classes, class_named}
 use Rattle.cjc_world.specs.Files.{Files}
-use Rattle.cjc_world.specs.Kin.{End, Kin, Known, Unknown, is_below, kin, stands, stands_by_supers}
+use Rattle.cjc_world.specs.Supertypes.{End, Supertypes, Known, Unknown, is_below, supertypes, stands, stands_by_supers}
 use Rattle.cjc_world.specs.Rules.{breaks, has_array_exceptions, has_class, has_exception, has_language, has_needed, has_other_exceptions, has_roots, throwable, when}
 use Rattle.cjc_world.specs.Subtype.{array_is, is_subclass, is_subtype, starts}
 use Rattle.cjc_world.proofs.Unbroken.{nil_front, nil_of_map, not_when}
@@ -24,7 +24,7 @@ back_of true b e = e
 back_of false b e = absurd cc
 
 -- what stands in a tree by supers alone stands in it
-supers_stand : (y : List ℕ) (k : Kin) → stands_by_supers y k ≡ true → stands y k ≡ true
+supers_stand : (y : List ℕ) (k : Supertypes) → stands_by_supers y k ≡ true → stands y k ≡ true
 supers_stand y End e = absurd cc
 supers_stand y (Unknown x next) e = by (bytes_eq x y) (stands_by_supers y next) e (supers_stand y next)
   where
@@ -103,5 +103,5 @@ module _ (list : List ℕ) (files : Files) (unbroken : breaks list files ≡ [])
   exception_is fault =
       let c = sound.exceptions fault in (
         ap is_plain_import c.found ∙ ap not c.no_interface,
-        ap (λ b. if b then array_is w throwable else is_subclass w (exception_class fault) throwable) (no_array fault) ∙ supers_stand throwable (kin w (exception_class fault ∷ [])) (below fault),
+        ap (λ b. if b then array_is w throwable else is_subclass w (exception_class fault) throwable) (no_array fault) ∙ supers_stand throwable (supertypes w (exception_class fault ∷ [])) (below fault),
       )

@@ -4,7 +4,7 @@ use Rattle.std.specs.Prelude.{map, not, ◌&&◌, ◌||◌, Option, Some, None, 
 use Rattle.std.specs.List.{list_any}
 use Rattle.std.specs.Str.{bytes_eq}
 use Rattle.cjc_bytes.specs.AccessFlags.{is_interface}
-use Rattle.cjc_bytes.specs.Breaks.{Break, Spot, at, broken_at, each_from, list_spot}
+use Rattle.cjc_bytes.specs.Breaks.{Break, RulePlace, at, broken_at, each_from, list_spot}
 use Rattle.cjc_bytes.specs.Order.{FilePlace, file_of}
 use Rattle.cjc_bytes.specs.declared.order.FileKey.{FileKey}
 use Rattle.cjc_bytes.specs.declared.order.FileKey.TheVariants as keys
@@ -18,13 +18,13 @@ use Rattle.cjc_export.specs.declared.tree.ExportTree.{ExportTree}
 use Rattle.cjc_subset.specs.Checks.{check_breaks, class_breaks, code_breaks, field_breaks, list_breaks, method_breaks, own_breaks}
 use Rattle.cjc_subset.specs.Flags.{is_unfit_field, is_unfit_method}
 use Rattle.cjc_subset.specs.Limits.{has_deep_stack, has_many_locals}
-use Rattle.cjc_subset.specs.Overriding.{kin_breaks, lacks_code, overriding_breaks}
+use Rattle.cjc_subset.specs.Overriding.{supertype_breaks, lacks_code, overriding_breaks}
 use Rattle.cjc_subset.specs.Places.{at_class, at_field, at_method}
-use Rattle.cjc_subset.specs.Types.{is_foreign_desc, is_int_desc}
+use Rattle.cjc_subset.specs.Types.{is_unsupported_desc, is_int_desc}
 use Rattle.cjc_vtable.proofs.Filed.{Every, every-append, every-named}
 use Rattle.cjc_world.specs.Classes.{Class, all_classes, class_named, classes_from, declared, imported, numbered, of_class_file, of_export_file, size}
 use Rattle.cjc_world.specs.Files.{Files}
-use Rattle.cjc_world.specs.Kin.{Lists, after, foremost}
+use Rattle.cjc_world.specs.Supertypes.{Lists, after, foremost}
 use Rattle.cjc_world.specs.Lookup.{object}
 use Rattle.cjc_world.specs.Rules.{breaks, breaks_from, class_file_breaks, class_rules, classes_breaks, export_file_breaks, gets_missing, has_language, is_class_of, is_interface_of, is_of_class_file, is_of_package, is_own_super, is_second, is_second_package, lists_missing, lists_wrong, members_from, when}
 use Rattle.cjc_world.specs.Rules as world
@@ -209,7 +209,7 @@ none_right : {A : Type 0} (xs ys : List A) → xs ++ ys ≡ [] → ys ≡ []
 none_right [] ys e = e
 none_right (x ∷ xs) ys e = absurd cc
 
-not_broken : (b : Bool) (s : Spot) (rule : ℕ) → at b s rule ≡ [] → b ≡ false
+not_broken : (b : Bool) (s : RulePlace) (rule : ℕ) → at b s rule ≡ [] → b ≡ false
 not_broken true s rule e = absurd cc
 not_broken false s rule e = refl
 
@@ -254,35 +254,35 @@ module _ (list : List ℕ) (files : Files) (codes : List MethodCode) (settings :
   abbrev by_methods : List Break
   by_methods = each_from (λ i m. method_breaks settings f t i m) 0 t.methods
 
-  abbrev by_kin : List Break
-  by_kin = overriding_breaks files f t
+  abbrev by_supertypes : List Break
+  by_supertypes = overriding_breaks files f t
 
   -- 301, 302 and 304 of a field
-  pub field_kept : (k : ℕ) (m : FieldTree) → slice_get t.fields k ≡ Some m → (is_foreign_desc m.desc ≡ false) × (is_int_desc m.desc ≡ false) × (is_unfit_field (is_interface t.flags) m.flags ≡ false)
+  pub field_kept : (k : ℕ) (m : FieldTree) → slice_get t.fields k ≡ Some m → (is_unsupported_desc m.desc ≡ false) × (is_int_desc m.desc ≡ false) × (is_unfit_field (is_interface t.flags) m.flags ≡ false)
   unfolding class_breaks field_breaks
   field_kept k m e =
-      let here = each_at (λ i m. field_breaks settings f t i m) k t.fields m (none_right own by_fields (none_left (own ++ by_fields) by_methods (none_left (own ++ by_fields ++ by_methods) by_kin class_clean))) e in
-      let A = at (is_foreign_desc m.desc) (at_field f t k m) 301 in
+      let here = each_at (λ i m. field_breaks settings f t i m) k t.fields m (none_right own by_fields (none_left (own ++ by_fields) by_methods (none_left (own ++ by_fields ++ by_methods) by_supertypes class_clean))) e in
+      let A = at (is_unsupported_desc m.desc) (at_field f t k m) 301 in
       let B = at (not settings.ints && is_int_desc m.desc) (at_field f t k m) 302 in
       let C = at (is_unfit_field (is_interface t.flags) m.flags) (at_field f t k m) 304 in (
-        not_broken (is_foreign_desc m.desc) (at_field f t k m) 301 (none_left A B (none_left (A ++ B) C here)),
+        not_broken (is_unsupported_desc m.desc) (at_field f t k m) 301 (none_left A B (none_left (A ++ B) C here)),
         unnamed settings.ints (is_int_desc m.desc) no_int (not_broken (not settings.ints && is_int_desc m.desc) (at_field f t k m) 302 (none_right A B (none_left (A ++ B) C here))),
         not_broken (is_unfit_field (is_interface t.flags) m.flags) (at_field f t k m) 304 (none_right (A ++ B) C here),
       )
 
   -- 301, 302 and 304 of a method
-  pub method_kept : (k : ℕ) (m : MethodTree) → slice_get t.methods k ≡ Some m → (is_foreign_desc m.desc ≡ false) × (is_int_desc m.desc ≡ false) × (is_unfit_method (is_interface t.flags) m.flags m.name (is_some m.code) ≡ false)
+  pub method_kept : (k : ℕ) (m : MethodTree) → slice_get t.methods k ≡ Some m → (is_unsupported_desc m.desc ≡ false) × (is_int_desc m.desc ≡ false) × (is_unfit_method (is_interface t.flags) m.flags m.name (is_some m.code) ≡ false)
   unfolding class_breaks method_breaks
   method_kept k m e =
-      let here = each_at (λ i m. method_breaks settings f t i m) k t.methods m (none_right (own ++ by_fields) by_methods (none_left (own ++ by_fields ++ by_methods) by_kin class_clean)) e in
+      let here = each_at (λ i m. method_breaks settings f t i m) k t.methods m (none_right (own ++ by_fields) by_methods (none_left (own ++ by_fields ++ by_methods) by_supertypes class_clean)) e in
       let s = at_method f t k m 0 in
-      let A = at (is_foreign_desc m.desc) s 301 in
+      let A = at (is_unsupported_desc m.desc) s 301 in
       let B = at (not settings.ints && is_int_desc m.desc) s 302 in
       let C = at (is_unfit_method (is_interface t.flags) m.flags m.name (is_some m.code)) s 304 in
       let D = at (has_many_locals m.code) s 404 in
       let E = at (has_deep_stack m.code) s 405 in
       let three = none_left (A ++ B ++ C) D (none_left (A ++ B ++ C ++ D) E here) in (
-        not_broken (is_foreign_desc m.desc) s 301 (none_left A B (none_left (A ++ B) C three)),
+        not_broken (is_unsupported_desc m.desc) s 301 (none_left A B (none_left (A ++ B) C three)),
         unnamed settings.ints (is_int_desc m.desc) no_int (not_broken (not settings.ints && is_int_desc m.desc) s 302 (none_right A B (none_left (A ++ B) C three))),
         not_broken (is_unfit_method (is_interface t.flags) m.flags m.name (is_some m.code)) s 304 (none_right (A ++ B) C three),
       )
@@ -293,6 +293,6 @@ module _ (list : List ℕ) (files : Files) (codes : List MethodCode) (settings :
   own_coded =
       let w = all_classes files in
       let A = at (lacks_code w t (declared 0 t)) (at_class f t) 307 in
-      let B = each_from (λ _ d. kin_breaks w f t (declared 0 d)) 0 files.classes in
-      let C = each_from (λ _ s. each_from (λ _ d. kin_breaks w f t (imported 0 d)) 0 s.classes) 0 files.exports in
-      not_broken (lacks_code w t (declared 0 t)) (at_class f t) 307 (none_left A B (none_left (A ++ B) C (none_right (own ++ by_fields ++ by_methods) by_kin class_clean)))
+      let B = each_from (λ _ d. supertype_breaks w f t (declared 0 d)) 0 files.classes in
+      let C = each_from (λ _ s. each_from (λ _ d. supertype_breaks w f t (imported 0 d)) 0 s.classes) 0 files.exports in
+      not_broken (lacks_code w t (declared 0 t)) (at_class f t) 307 (none_left A B (none_left (A ++ B) C (none_right (own ++ by_fields ++ by_methods) by_supertypes class_clean)))

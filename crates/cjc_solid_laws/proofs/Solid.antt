@@ -5,7 +5,7 @@ use Rattle.std.specs.List.{list_any}
 use Rattle.std.specs.Str.{bytes_eq}
 use Rattle.cjc_bytes.specs.AccessFlags.{acc_native, acc_strict, acc_synchronized, acc_transient, acc_volatile, has, is_abstract, is_interface, is_private, is_public, is_static}
 use Rattle.cjc_bytes.specs.declared.settings.Settings.{Settings}
-use Rattle.cjc_by_name.specs.OnePackage.{Hit as NameHit, is_constructor, is_initialiser}
+use Rattle.cjc_by_name.specs.OnePackage.{ResolvedMember as NameHit, is_constructor, is_initialiser}
 use Rattle.cjc_call_laws.specs.Solid.{HasCode, IsConcrete, IsOwn, IsSolid}
 use Rattle.cjc_classfile.specs.Code.{CodeTree}
 use Rattle.cjc_classfile.specs.declared.tree.ClassTree.{ClassTree}
@@ -16,7 +16,7 @@ use Rattle.cjc_solid_laws.specs.Files.{IsClean}
 use Rattle.cjc_solid_laws.proofs.Rules.{field_kept, keeps, listed_abroad, listed_interface, method_kept, only_object, own_coded, super_class}
 use Rattle.cjc_subset.specs.Checks.{check_breaks}
 use Rattle.cjc_subset.specs.Flags.{has_two_accesses, is_unfit_method}
-use Rattle.cjc_subset.specs.Members.{Hit, hit, hit_of, imports}
+use Rattle.cjc_subset.specs.Members.{ResolvedMember, hit, hit_of, imports}
 use Rattle.cjc_subset.specs.Overriding.{has_no_code, is_unfit_selection, lacks_code}
 use Rattle.cjc_upward_laws.specs.Upwards.{Below, IsOrdered, OnLine}
 use Rattle.cjc_upward_laws.proofs.Lines.{below_line, has_interface_above, line_is_below, roots}
@@ -29,7 +29,7 @@ use Rattle.cjc_world.specs.declared.found.Found.{Found}
 use Rattle.cjc_world.specs.Classes.{Class, Member, all_classes, class_at, class_named, declared, imported}
 use Rattle.cjc_world.specs.Files.{Files}
 use Rattle.cjc_world.specs.Interfaces.{has_interface}
-use Rattle.cjc_world.specs.Kin.{IsAcyclic, is_below}
+use Rattle.cjc_world.specs.Supertypes.{IsAcyclic, is_below}
 use Rattle.cjc_world.specs.Lookup.{object, selected}
 use Rattle.cjc_world.specs.Rules.{is_missing, is_none_of, lists_missing}
 use Rattle.cjc_world.specs.Subtype.{starts}
@@ -92,7 +92,7 @@ first_there w s interfaces e = by (class_named w s) refl (either (is_missing w s
 
 -- ---- what a look-up tells, on both sides
 
-fit_selection : (interface : Bool) (o : Option Hit) → is_unfit_selection interface o ≡ false → (h : Hit) × (o ≡ Some h) × (is_abstract h.flags ≡ false)
+fit_selection : (interface : Bool) (o : Option ResolvedMember) → is_unfit_selection interface o ≡ false → (h : ResolvedMember) × (o ≡ Some h) × (is_abstract h.flags ≡ false)
 fit_selection interface None e = absurd cc
 fit_selection interface (Some h) e = (h, refl, by (is_abstract h.flags) (interface && not (is_public h.flags)) e)
   where
@@ -100,16 +100,16 @@ fit_selection interface (Some h) e = (h, refl, by (is_abstract h.flags) (interfa
     by true b e = absurd cc
     by false b e = refl
 
-abbrev tested : Class → Member → Hit
+abbrev tested : Class → Member → ResolvedMember
 tested c m = record { owner = c; flags = m.flags }
 
 abbrev named_hit : Class → Member → NameHit
 named_hit c m = record { owner = c; flags = m.flags }
 
-abbrev as_named : Hit → NameHit
+abbrev as_named : ResolvedMember → NameHit
 as_named h = record { owner = h.owner; flags = h.flags }
 
-hit_to : (f : Found) (o : Option Class) (h : Hit) → hit_of false f o ≡ Some h → option_and_then (λ c. option_map (named_hit c) (slice_get c.methods (f.member - length c.fields))) o ≡ Some (as_named h)
+hit_to : (f : Found) (o : Option Class) (h : ResolvedMember) → hit_of false f o ≡ Some h → option_and_then (λ c. option_map (named_hit c) (slice_get c.methods (f.member - length c.fields))) o ≡ Some (as_named h)
 hit_to f None h e = absurd cc
 hit_to f (Some c) h e = by (slice_get c.methods (f.member - length c.fields)) e
   where
@@ -207,7 +207,7 @@ module _ (list : List ℕ) (files : Files) (codes : List MethodCode) (settings :
   unfolding hit
   has_code x name desc interface e = by (selected w x name desc) refl (fit_selection interface (hit w false (selected w x name desc)) e)
     where
-      by : (o : Option Found) → selected w x name desc ≡ o → (h : Hit) × (hit w false o ≡ Some h) × (is_abstract h.flags ≡ false) → HasCode w x name desc
+      by : (o : Option Found) → selected w x name desc ≡ o → (h : ResolvedMember) × (hit w false o ≡ Some h) × (is_abstract h.flags ≡ false) → HasCode w x name desc
       by None f h = let no = h.1 in absurd cc
       by (Some f) g h = record {
         place = f;

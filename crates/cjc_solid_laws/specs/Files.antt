@@ -17,7 +17,7 @@ use Rattle.cjc_subset.specs.Checks.{check_breaks}
 use Rattle.cjc_subset.specs.Members.{imports}
 use Rattle.cjc_world.specs.Classes.{all_classes, class_named, imported}
 use Rattle.cjc_world.specs.Files.{Files}
-use Rattle.cjc_world.specs.Kin.{is_below}
+use Rattle.cjc_world.specs.Supertypes.{is_below}
 use Rattle.cjc_world.specs.Lookup.{object}
 use Rattle.cjc_world.specs.Rules.{breaks}
 

@@ -3,7 +3,7 @@ use Rattle.std.proofs.Common.{◌≡◌, ℕ, refl, ap, ◌∙◌, Bool, true, f
 use Rattle.std.specs.Prelude.{◌&&◌, Option, Some, None, option_and_then, option_map, if◌then◌else◌}
 use Rattle.cjc_bytecode.specs.Machine.{Nowhere, Within}
 use Rattle.cjc_by_name.specs.Linked.{Abroad, Callee, Inside, Method}
-use Rattle.cjc_by_name.specs.OnePackage.{Hit, callee_at, entry_in, entry_named, first_imported, first_super, interface_callee, is_initialiser, is_sendable, made_of, method_at, method_hit, of_class, select_in, selected_from, sent_by, sent_named}
+use Rattle.cjc_by_name.specs.OnePackage.{ResolvedMember, callee_at, entry_in, entry_named, first_imported, first_super, interface_callee, is_initialiser, is_sendable, made_of, method_at, method_hit, of_class, select_in, selected_from, sent_by, sent_named}
 use Rattle.cjc_bytes.specs.AccessFlags.{is_static}
 use Rattle.cjc_bytes.specs.declared.fault.MemberId.{MemberId}
 use Rattle.cjc_narrow.specs.Package.{above, class_of_callee, direct, fault_name, first_memory, name_there, named, on_class, plain_import, reached, reached_by, selected_on, start_of, throwable_import, words}
@@ -13,7 +13,7 @@ use Rattle.cjc_ncode.specs.declared.narrow.NMethod.{NMethod}
 use Rattle.cjc_script.specs.Sorts.{Shape, shape_name}
 use Rattle.cjc_world.specs.Classes.{Class, all_classes, class_named}
 use Rattle.cjc_world.specs.Files.{Files}
-use Rattle.cjc_world.specs.Kin.{line}
+use Rattle.cjc_world.specs.Supertypes.{line}
 use Rattle.cjc_world.specs.Lookup.{find_method, own_method, receiver}
 use Rattle.cjc_world.specs.Subtype.{is_subtype}
 use Rattle.cjc_world.specs.declared.found.Found.{Found}
@@ -83,7 +83,7 @@ module _ (files : Files) where
   entry_own : (id : MemberId) → IsOwnOne (entry_named files w id)
   entry_own id m e = go (is_initialiser id.name) e
     where
-      found : (f : Found) (hit : Hit) (b : Bool) → (if b then method_at files f else None) ≡ Some m → IsOwn m
+      found : (f : Found) (hit : ResolvedMember) (b : Bool) → (if b then method_at files f else None) ≡ Some m → IsOwn m
       found f hit true e = (f, e)
       found f hit false e = absurd cc
 
@@ -91,7 +91,7 @@ module _ (files : Files) where
       in_it c None e = absurd cc
       in_it c (Some f) e = hits (method_hit (c ∷ []) f) e
         where
-          hits : (o : Option Hit) → option_and_then (λ hit. if is_static hit.flags then method_at files f else None) o ≡ Some m → IsOwn m
+          hits : (o : Option ResolvedMember) → option_and_then (λ hit. if is_static hit.flags then method_at files f else None) o ≡ Some m → IsOwn m
           hits None e = absurd cc
           hits (Some hit) e = found f hit (is_static hit.flags) e
 
@@ -114,7 +114,7 @@ module _ (files : Files) where
       go true e = chosen (select_in w type id) e
       go false e = absurd cc
 
-      hits : (o : Option Hit) → option_and_then (sent_by files w (select_in w) type id) o ≡ Some m → IsOwn m
+      hits : (o : Option ResolvedMember) → option_and_then (sent_by files w (select_in w) type id) o ≡ Some m → IsOwn m
       hits None e = absurd cc
       hits (Some hit) e = go (is_sendable id hit && is_subtype w type id.class) e
 

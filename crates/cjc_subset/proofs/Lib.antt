@@ -1,6 +1,6 @@
 pub mod Files
 pub mod Codes
 pub mod Any
-pub mod Kin
+pub mod Supertypes
 pub mod Noted
 pub mod Unmet

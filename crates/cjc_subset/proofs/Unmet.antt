@@ -12,7 +12,7 @@ use Rattle.cjc_classfile.specs.declared.tree.MethodTree.{MethodTree}
 use Rattle.cjc_world.specs.Classes.{Class, Member, declared, method_of_class}
 use Rattle.cjc_world.specs.Lookup.{is_called, selected}
 use Rattle.cjc_subset.specs.Members.{hit, is_initialiser}
-use Rattle.cjc_subset.specs.Overriding.{changes_kind, class_against, has_no_code, hides_one, is_inherited, is_of_other_kind, is_open, is_out_of_sight, is_package_visible, is_special, is_unfit_selection, kin_breaks, method_against}
+use Rattle.cjc_subset.specs.Overriding.{changes_kind, class_against, has_no_code, hides_one, is_inherited, is_of_other_kind, is_open, is_out_of_sight, is_package_visible, is_special, is_unfit_selection, supertype_breaks, method_against}
 use Rattle.cjc_subset.specs.Places.{at_class, at_method}
 use Rattle.cjc_subset.specs.Working.Kinds.{asks, has_kind, is_closed, is_instance, is_shared, kinds_of, may_break}
 
@@ -163,8 +163,8 @@ and_none true b e = e
 
 -- ---- all of it
 
-pub nothing_broken : (w : List Class) (f : FilePlace) (c d : ClassTree) → may_break (kinds_of c) (kinds_of d) ≡ false → kin_breaks w f c (declared 0 d) ≡ []
-unfolding class_against kin_breaks
+pub nothing_broken : (w : List Class) (f : FilePlace) (c d : ClassTree) → may_break (kinds_of c) (kinds_of d) ≡ false → supertype_breaks w f c (declared 0 d) ≡ []
+unfolding class_against supertype_breaks
 nothing_broken w f c d e =
     let p = has_kind is_package_visible c.methods && has_kind is_open d.methods in
     let o = has_kind is_open c.methods && has_kind is_package_visible d.methods in

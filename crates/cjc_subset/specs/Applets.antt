@@ -5,7 +5,7 @@ use Rattle.std.specs.Str.{bytes_eq}
 use Rattle.cjc_bytes.specs.declared.settings.AppletLine.{AppletLine}
 use Rattle.cjc_world.specs.Classes.{Class, Member, class_named}
 use Rattle.cjc_bytes.specs.AccessFlags.{is_abstract, is_public, is_static}
-use Rattle.cjc_world.specs.Kin.{is_below}
+use Rattle.cjc_world.specs.Supertypes.{is_below}
 use Rattle.cjc_world.specs.Lookup.{is_called}
 
 -- the class that all applets are below

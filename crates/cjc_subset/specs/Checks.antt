@@ -20,7 +20,7 @@ use Rattle.cjc_subset.specs.Members.{is_constant}
 use Rattle.cjc_subset.specs.Names.{field_found}
 use Rattle.cjc_subset.specs.Places.{at_class, at_field, at_method, of_code}
 use Rattle.cjc_bytes.specs.Order.{FilePlace, file_of}
-use Rattle.cjc_subset.specs.Types.{is_foreign_desc, is_int_desc, names_foreign, names_int}
+use Rattle.cjc_subset.specs.Types.{is_unsupported_desc, is_int_desc, names_unsupported, names_int}
 use Rattle.cjc_subset.specs.Flags.{is_unfit_class, is_unfit_field, is_unfit_method}
 use Rattle.cjc_subset.specs.Overriding.{overriding_breaks}
 use Rattle.cjc_subset.specs.Applets.{has_unfit_applets}
@@ -44,7 +44,7 @@ names_variable files _ = false
 -- of 301, 302 and 310, at an instruction of the method at this place of the class
 unfoldable pub insn_breaks : Files → Settings → FilePlace → ClassTree → (method : ℕ) → MethodTree → JInsn → List Break
 insn_breaks files settings f c i m insn =
-    at (names_foreign insn.op) (at_method f c i m insn.at) 301
+    at (names_unsupported insn.op) (at_method f c i m insn.at) 301
     ++ at (not settings.ints && names_int insn.op) (at_method f c i m insn.at) 302
     ++ at (names_variable files insn.op) (at_method f c i m insn.at) 310
 
@@ -58,22 +58,22 @@ code_breaks files settings code =
 -- of 301, 302 and 304, at the field at this place of the class
 unfoldable pub field_breaks : Settings → FilePlace → ClassTree → (place : ℕ) → FieldTree → List Break
 field_breaks settings f c i m =
-    at (is_foreign_desc m.desc) (at_field f c i m) 301
+    at (is_unsupported_desc m.desc) (at_field f c i m) 301
     ++ at (not settings.ints && is_int_desc m.desc) (at_field f c i m) 302
     ++ at (is_unfit_field (is_interface c.flags) m.flags) (at_field f c i m) 304
 
 -- of 301, 302, 304, 404 and 405, at the method at this place of the class
 unfoldable pub method_breaks : Settings → FilePlace → ClassTree → (place : ℕ) → MethodTree → List Break
 method_breaks settings f c i m =
-    at (is_foreign_desc m.desc) (at_method f c i m 0) 301
+    at (is_unsupported_desc m.desc) (at_method f c i m 0) 301
     ++ at (not settings.ints && is_int_desc m.desc) (at_method f c i m 0) 302
     ++ at (is_unfit_method (is_interface c.flags) m.flags m.name (is_some m.code)) (at_method f c i m 0) 304
     ++ at (has_many_locals m.code) (at_method f c i m 0) 404
     ++ at (has_deep_stack m.code) (at_method f c i m 0) 405
 
 -- one of the methods that an abstract class gets from its interfaces
-abbrev pub has_foreign : List MemberId → Bool
-has_foreign added = list_any (λ m. is_foreign_desc m.desc) added
+abbrev pub has_unsupported : List MemberId → Bool
+has_unsupported added = list_any (λ m. is_unsupported_desc m.desc) added
 
 -- one of the methods that an abstract class gets has int in its descriptor
 abbrev pub has_int : List MemberId → Bool
@@ -82,7 +82,7 @@ has_int added = list_any (λ m. is_int_desc m.desc) added
 -- at the class of this number itself
 unfoldable pub own_breaks : Files → Settings → FilePlace → (number : ℕ) → ClassTree → List Break
 own_breaks files settings f n c =
-    at (has_foreign (added_at files n)) (at_class f c) 301
+    at (has_unsupported (added_at files n)) (at_class f c) 301
     ++ at (not settings.ints && has_int (added_at files n)) (at_class f c) 302
     ++ at (is_unfit_class c.flags) (at_class f c) 304
     ++ at (has_many_interfaces files c) (at_class f c) 403

@@ -35,21 +35,21 @@ is_initialiser name = bytes_eq name (codes "<clinit>")
 -- ---- what a look-up finds
 
 -- a field or method: the class that declares it, and its flags
-pub record Hit : Type 0 where
+pub record ResolvedMember : Type 0 where
   pub owner : Class
   pub flags : ℕ
 
 -- the field or method at this place of the class; none where it has no such
-abbrev pub hit_at : (field : Bool) → Found → Class → Option Hit
+abbrev pub hit_at : (field : Bool) → Found → Class → Option ResolvedMember
 hit_at field f c = option_map (λ m. record { owner = c; flags = m.flags }) (slice_get (members field c) (f.member - members_before field c))
 
 -- the same of a class that may be none
-abbrev pub hit_of : (field : Bool) → Found → Option Class → Option Hit
+abbrev pub hit_of : (field : Bool) → Found → Option Class → Option ResolvedMember
 hit_of field f None = None
 hit_of field f (Some c) = hit_at field f c
 
 -- the field or method that a look-up found; none where it found none
-unfoldable pub hit : List Class → (field : Bool) → Option Found → Option Hit
+unfoldable pub hit : List Class → (field : Bool) → Option Found → Option ResolvedMember
 hit w field None = None
 hit w field (Some f) = hit_of field f (class_at w f.imported f.class)
 

@@ -16,13 +16,13 @@ use Rattle.cjc_world.specs.Classes.{Class, all_classes, class_named}
 use Rattle.cjc_bytes.specs.AccessFlags.{is_abstract, is_interface, is_private, is_static}
 use Rattle.cjc_world.specs.Exported.{is_imported}
 use Rattle.cjc_world.specs.Files.{Files}
-use Rattle.cjc_world.specs.Kin.{is_below}
+use Rattle.cjc_world.specs.Supertypes.{is_below}
 use Rattle.cjc_world.specs.Lookup.{find_field, find_method, selected}
 use Rattle.cjc_world.specs.Rules.{is_missing, is_type_missing, is_desc_missing, is_interface_of, is_class_of}
 use Rattle.cjc_bytes.specs.Breaks.{Break, at, each}
 use Rattle.cjc_subset.specs.Places.{at_method, of_code}
 use Rattle.cjc_bytes.specs.Order.{FilePlace}
-use Rattle.cjc_subset.specs.Members.{Hit, hit, is_array, is_constant, is_constructor, is_descriptor, is_initialiser}
+use Rattle.cjc_subset.specs.Members.{ResolvedMember, hit, is_array, is_constant, is_constructor, is_descriptor, is_initialiser}
 
 -- ---- 203: a class that an instruction or a catch type names is in no file
 
@@ -72,7 +72,7 @@ names_unfound w _ = false
 -- ---- 206: what is named can't be used so. Of a member it needs that one is found
 
 -- the member is not accessible to the class that holds the code
-abbrev pub is_hidden : List Class → ClassTree → MemberId → Hit → Bool
+abbrev pub is_hidden : List Class → ClassTree → MemberId → ResolvedMember → Bool
 is_hidden w c id h = not (is_accessible w c.name id.class h.owner h.flags)
 
 -- the instruction needs a static member and this is none, or the other way round
@@ -85,7 +85,7 @@ is_constant_found files None = false
 is_constant_found files (Some f) = is_constant files f
 
 -- the field that an instruction names was found and can't be used so
-abbrev pub is_unfit_field : Files → ClassTree → (static put : Bool) → MemberId → Option Found → Option Hit → Bool
+abbrev pub is_unfit_field : Files → ClassTree → (static put : Bool) → MemberId → Option Found → Option ResolvedMember → Bool
 is_unfit_field files c static put id found None = false
 is_unfit_field files c static put id found (Some h) =
     -- the field is not accessible
@@ -96,15 +96,15 @@ is_unfit_field files c static put id found (Some h) =
     || (static && put && is_constant_found files found)
 
 -- invokevirtual names an interface, or names an imported class and its method is found in an interface
-abbrev pub is_unfit_virtual : Option Class → Hit → Bool
+abbrev pub is_unfit_virtual : Option Class → ResolvedMember → Bool
 is_unfit_virtual named h = is_interface_of named || (is_imported named && is_interface h.owner.flags)
 
 -- invokeinterface names a class that is no interface, or its method is not found in an interface
-abbrev pub is_unfit_interface : Option Class → Hit → Bool
+abbrev pub is_unfit_interface : Option Class → ResolvedMember → Bool
 is_unfit_interface named h = is_class_of named || not (is_interface h.owner.flags)
 
 -- no method, or an abstract one
-abbrev pub is_bodiless : Option Hit → Bool
+abbrev pub is_bodiless : Option ResolvedMember → Bool
 is_bodiless None = true
 is_bodiless (Some h) = is_abstract h.flags
 
@@ -127,7 +127,7 @@ is_unfit_call op name flags =
     || (not (op == jvm.invokespecial) && is_constructor name)
 
 -- the class by which a method is named does not fit the instruction, or invokespecial selects no method with code
-abbrev pub is_unfit_class : List Class → ClassTree → (op : ℕ) → MemberId → Hit → Bool
+abbrev pub is_unfit_class : List Class → ClassTree → (op : ℕ) → MemberId → ResolvedMember → Bool
 is_unfit_class w c op id h =
     if op == jvm.invokevirtual then is_unfit_virtual (class_named w id.class) h
     else if op == jvm.invokeinterface then is_unfit_interface (class_named w id.class) h
@@ -135,7 +135,7 @@ is_unfit_class w c op id h =
     else (op == jvm.invokespecial) && not (is_constructor id.name) && not (is_private h.flags) && is_unfit_super w c id
 
 -- the method that an instruction names was found and can't be called so
-abbrev pub is_unfit_method : List Class → ClassTree → (op : ℕ) → MemberId → Option Hit → Bool
+abbrev pub is_unfit_method : List Class → ClassTree → (op : ℕ) → MemberId → Option ResolvedMember → Bool
 is_unfit_method w c op id None = false
 is_unfit_method w c op id (Some h) =
     -- the method is not accessible

@@ -9,10 +9,10 @@ use Rattle.cjc_world.specs.Classes.{Class, Member, all_classes, declared, import
 use Rattle.cjc_bytes.specs.AccessFlags.{is_abstract, is_interface, is_private, is_protected, is_public, is_static}
 use Rattle.cjc_world.specs.Files.{Files}
 use Rattle.cjc_world.specs.Interfaces.{has_interface}
-use Rattle.cjc_world.specs.Kin.{is_below}
+use Rattle.cjc_world.specs.Supertypes.{is_below}
 use Rattle.cjc_world.specs.Lookup.{is_called, selected}
 use Rattle.cjc_bytes.specs.Breaks.{Break, at, each}
-use Rattle.cjc_subset.specs.Members.{Hit, hit, is_constructor, is_initialiser}
+use Rattle.cjc_subset.specs.Members.{ResolvedMember, hit, is_constructor, is_initialiser}
 use Rattle.cjc_subset.specs.Places.{at_class, at_method}
 use Rattle.cjc_bytes.specs.Order.{FilePlace}
 
@@ -63,7 +63,7 @@ abbrev pub asks_for_code : Class → Member → Bool
 asks_for_code d k = (is_abstract k.flags || is_interface d.flags) && not (not d.is_imported && is_initialiser k.name)
 
 -- Selection gives no method or an abstract one, or, for an interface's method, one that is not public.
-abbrev pub is_unfit_selection : (for_interface : Bool) → Option Hit → Bool
+abbrev pub is_unfit_selection : (for_interface : Bool) → Option ResolvedMember → Bool
 is_unfit_selection for_interface None = true
 is_unfit_selection for_interface (Some h) = is_abstract h.flags || (for_interface && not (is_public h.flags))
 
@@ -90,12 +90,12 @@ class_against w f c d =
     ++ each (λ i m. method_against f c d i m) c.methods
 
 -- against a class of the files, where it is inherited from
-unfoldable pub kin_breaks : List Class → FilePlace → ClassTree → Class → List Break
-kin_breaks w f c d = if is_inherited w c d then class_against w f c d else []
+unfoldable pub supertype_breaks : List Class → FilePlace → ClassTree → Class → List Break
+supertype_breaks w f c d = if is_inherited w c d then class_against w f c d else []
 
 -- Against every class of the files. Their numbers do not matter here.
 unfoldable pub overriding_breaks : Files → FilePlace → ClassTree → List Break
 overriding_breaks files f c =
     at (lacks_code (all_classes files) c (declared 0 c)) (at_class f c) 307
-    ++ each (λ _ d. kin_breaks (all_classes files) f c (declared 0 d)) files.classes
-    ++ each (λ _ t. each (λ _ d. kin_breaks (all_classes files) f c (imported 0 d)) t.classes) files.exports
+    ++ each (λ _ d. supertype_breaks (all_classes files) f c (declared 0 d)) files.classes
+    ++ each (λ _ t. each (λ _ d. supertype_breaks (all_classes files) f c (imported 0 d)) t.classes) files.exports

@@ -1,6 +1,6 @@
 -- The places of a package that rules speak of, and what is broken in a method by its numbers.
 use Rattle.std.specs.Prelude.{ℕ, ◌+◌, List, [], length, slice_get, Option, Some, None}
-use Rattle.cjc_bytes.specs.Breaks.{Break, Spot, class_spot, member_spot}
+use Rattle.cjc_bytes.specs.Breaks.{Break, RulePlace, class_spot, member_spot}
 use Rattle.cjc_bytes.specs.Order.{FilePlace, file_of}
 use Rattle.cjc_bytes.specs.Refused.{field_text, method_text}
 use Rattle.cjc_classfile.specs.declared.tree.ClassTree.{ClassTree}
@@ -11,15 +11,15 @@ use Rattle.cjc_world.specs.Files.{Files}
 -- ---- places
 
 -- a class of the package, which is the first of its file
-abbrev pub at_class : FilePlace → ClassTree → Spot
+abbrev pub at_class : FilePlace → ClassTree → RulePlace
 at_class f c = class_spot f 1 c.name
 
 -- the field of a class at this place among its fields
-abbrev pub at_field : FilePlace → ClassTree → ℕ → FieldTree → Spot
+abbrev pub at_field : FilePlace → ClassTree → ℕ → FieldTree → RulePlace
 at_field f c i m = member_spot f 1 c.name (i + 1) (field_text m.name m.desc) 0
 
 -- the method at this place among its methods, at an offset of its code
-abbrev pub at_method : FilePlace → ClassTree → ℕ → MethodTree → (offset : ℕ) → Spot
+abbrev pub at_method : FilePlace → ClassTree → ℕ → MethodTree → (offset : ℕ) → RulePlace
 at_method f c i m offset = member_spot f 1 c.name (length c.fields + i + 1) (method_text m.name m.desc) offset
 
 -- ---- of a method by the numbers of its class and of itself, where both are there

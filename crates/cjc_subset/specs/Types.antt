@@ -2,8 +2,8 @@
 use Rattle.std.specs.Prelude.{ℕ, ◌^◌, List, [], ◌∷◌, ◌++◌, length, Bool, true, false, ◌&&◌, ◌||◌, ◌==◌, nat_lt, if◌then◌else◌, Option, Some, None}
 use Rattle.std.specs.List.{list_any}
 use Rattle.cjc_bytes.specs.declared.fault.MemberId.{MemberId}
-use Rattle.cjc_bytes.specs.declared.names.Kind.{Kind}
-use Rattle.cjc_bytes.specs.declared.names.Kind.TheVariants as kinds
+use Rattle.cjc_bytes.specs.declared.descriptor.Kind.{Kind}
+use Rattle.cjc_bytes.specs.declared.descriptor.Kind.TheVariants as kinds
 use Rattle.cjc_bytes.specs.Descriptor.{Part, Parts}
 use Rattle.cjc_bytes.specs.Spots.{desc_of}
 use Rattle.cjc_code.specs.declared.insn.JOp.{JOp}
@@ -14,14 +14,14 @@ use Rattle.cjc_subset.specs.Members.{is_array}
 -- ---- 301: char, long, float, double or an array of more than one dimension
 
 -- Behind the [ of an array's descriptor: the elements are arrays (91), chars (67), doubles (68), floats (70) or longs (74).
-abbrev pub is_foreign_element : List ℕ → Bool
-is_foreign_element [] = false
-is_foreign_element (b ∷ bs) = (b == 91) || (b == 67) || (b == 68) || (b == 70) || (b == 74)
+abbrev pub is_unsupported_element : List ℕ → Bool
+is_unsupported_element [] = false
+is_unsupported_element (b ∷ bs) = (b == 91) || (b == 67) || (b == 68) || (b == 70) || (b == 74)
 
 -- such an array, by the name that the pool or a descriptor has
-abbrev pub is_foreign_name : List ℕ → Bool
-is_foreign_name [] = false
-is_foreign_name (b ∷ bs) = (b == 91) && is_foreign_element bs
+abbrev pub is_unsupported_name : List ℕ → Bool
+is_unsupported_name [] = false
+is_unsupported_name (b ∷ bs) = (b == 91) && is_unsupported_element bs
 
 -- char, long, float or double
 abbrev pub is_other : Kind → Bool
@@ -29,37 +29,37 @@ is_other kinds.Other = true
 is_other _ = false
 
 -- a type of a descriptor that is one of these, or such an array
-abbrev pub is_foreign_part : Part → Bool
-is_foreign_part p = is_other p.kind || is_foreign_name p.class
+abbrev pub is_unsupported_part : Part → Bool
+is_unsupported_part p = is_other p.kind || is_unsupported_name p.class
 
 -- there is a descriptor, and a parameter or the result has such a type
-abbrev pub is_any_foreign : Option Parts → Bool
-is_any_foreign None = false
-is_any_foreign (Some d) = list_any (λ p. is_foreign_part p) (d.params ++ d.result ∷ [])
+abbrev pub is_any_unsupported : Option Parts → Bool
+is_any_unsupported None = false
+is_any_unsupported (Some d) = list_any (λ p. is_unsupported_part p) (d.params ++ d.result ∷ [])
 
 -- in a descriptor; bytes that are none, or that 32 bits don't count, have no type
-unfoldable pub is_foreign_desc : List ℕ → Bool
-is_foreign_desc desc = nat_lt (length desc) (2 ^ 32) && is_any_foreign (desc_of desc)
+unfoldable pub is_unsupported_desc : List ℕ → Bool
+is_unsupported_desc desc = nat_lt (length desc) (2 ^ 32) && is_any_unsupported (desc_of desc)
 
 -- a field or method whose class is such an array, or in whose descriptor such a type stands
-abbrev pub is_foreign_member : MemberId → Bool
-is_foreign_member id = is_foreign_name id.class || is_foreign_desc id.desc
+abbrev pub is_unsupported_member : MemberId → Bool
+is_unsupported_member id = is_unsupported_name id.class || is_unsupported_desc id.desc
 
 -- the type number of a newarray: char, float, double or long
-abbrev pub is_foreign_number : ℕ → Bool
-is_foreign_number n = (n == 5) || (n == 6) || (n == 7) || (n == 11)
+abbrev pub is_unsupported_number : ℕ → Bool
+is_unsupported_number n = (n == 5) || (n == 6) || (n == 7) || (n == 11)
 
 -- An instruction names such a type, or an anewarray names an array.
-unfoldable pub names_foreign : JOp → Bool
-names_foreign (jop.Static put id) = is_foreign_member id
-names_foreign (jop.Field put id) = is_foreign_member id
-names_foreign (jop.Call op id) = is_foreign_member id
-names_foreign (jop.New name) = is_foreign_name name
-names_foreign (jop.NewArray n) = is_foreign_number n
-names_foreign (jop.ANewArray name) = is_array name
-names_foreign (jop.CheckCast name) = is_foreign_name name
-names_foreign (jop.InstanceOf name) = is_foreign_name name
-names_foreign _ = false
+unfoldable pub names_unsupported : JOp → Bool
+names_unsupported (jop.Static put id) = is_unsupported_member id
+names_unsupported (jop.Field put id) = is_unsupported_member id
+names_unsupported (jop.Call op id) = is_unsupported_member id
+names_unsupported (jop.New name) = is_unsupported_name name
+names_unsupported (jop.NewArray n) = is_unsupported_number n
+names_unsupported (jop.ANewArray name) = is_array name
+names_unsupported (jop.CheckCast name) = is_unsupported_name name
+names_unsupported (jop.InstanceOf name) = is_unsupported_name name
+names_unsupported _ = false
 
 -- ---- 302: int
 

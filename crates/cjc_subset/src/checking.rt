@@ -6,7 +6,7 @@ ghost use Rattle.cjc_classfile.specs.declared.tree.ClassTree.{ClassTree as Tree}
 ghost use Rattle.cjc_bytes.specs.AccessFlags.{is_interface};
 ghost use Rattle.cjc_bytes.specs.Breaks.{IsFirstRefusal, IsFirstOf, each};
 ghost use Rattle.cjc_bytes.specs.Told.{break_of, spot_of};
-ghost use Rattle.cjc_subset.specs.Checks.{check_breaks, class_breaks, code_breaks, field_breaks, has_foreign, has_int, insn_breaks, is_imported_variable, list_breaks, method_breaks, names_variable, own_breaks};
+ghost use Rattle.cjc_subset.specs.Checks.{check_breaks, class_breaks, code_breaks, field_breaks, has_unsupported, has_int, insn_breaks, is_imported_variable, list_breaks, method_breaks, names_variable, own_breaks};
 ghost use Rattle.cjc_subset.specs.Working.Kinds.{kinds_of};
 ghost use Rattle.cjc_subset.specs.Places.{at_class, at_method};
 ghost use Rattle.cjc_bytes.specs.Order.{FilePlace, file_of};
@@ -23,9 +23,10 @@ use crate::limits::{
 use crate::members::is_constant;
 use crate::overriding::overriding_break;
 use crate::places::{class_spot, field_spot, method_spot};
-use crate::types::{is_foreign_desc, is_int_desc, names_foreign, names_int};
+use crate::types::{is_int_desc, is_unsupported_desc, names_int, names_unsupported};
 use cjc_bytes::{
-    Break, Fault, MemberId, NoMemory, Settings, Spot, answer, broken, file_of, first, is_interface,
+    Break, Fault, MemberId, NoMemory, RulePlace, Settings, answer, broken, file_of, first,
+    is_interface,
 };
 use cjc_classfile::{ClassTree, FieldTree, MethodTree};
 use cjc_code::{Codes, JInsn, JOp, MethodCode};
@@ -66,14 +67,14 @@ fn insn_break<'w>(
     world: &World<'_>,
     settings: &Settings,
     insn: &JInsn,
-    spot: Spot<'w>,
+    spot: RulePlace<'w>,
 ) -> Option<Break<'w>>
     ensures { (f : FilePlace) (c : Tree) (i : ℕ) (m : Method) → spot_of spot.entry ≡ at_method f c i m insn.now.at → IsFirstOf (insn_breaks world.now settings.now f c i m insn.now) (option_map break_of result) }
 {
-    let foreign = broken(names_foreign(&insn.op), spot, 301);
+    let unsupported = broken(names_unsupported(&insn.op), spot, 301);
     let int = broken(needs_ints(settings, &insn.op), spot, 302);
     let variable = broken(names_variable(world, &insn.op), spot, 310);
-    first(first(foreign, int), variable)
+    first(first(unsupported, int), variable)
 }
 
 /// The first rule that is broken at these instructions of a method.
@@ -84,7 +85,7 @@ fn insns_break<'w>(
     place: usize,
     method: &'w MethodTree<'_>,
     insns: &[JInsn],
-    spot: Spot<'w>,
+    spot: RulePlace<'w>,
 ) -> Option<Break<'w>>
     requires { place < length class.now.methods }
     ensures { (f : FilePlace) → spot_of spot.entry ≡ at_class f class.now → IsFirstOf (each (λ _ insn. insn_breaks world.now settings.now f class.now place method.now insn) insns.now) (option_map break_of result) }
@@ -147,23 +148,23 @@ fn field_break<'w>(
     class: &'w ClassTree<'_>,
     place: usize,
     field: &'w FieldTree,
-    spot: Spot<'w>,
+    spot: RulePlace<'w>,
 ) -> Option<Break<'w>>
     ensures { (f : FilePlace) → spot_of spot.entry ≡ at_class f class.now → IsFirstOf (field_breaks settings.now f class.now place field.now) (option_map break_of result) }
 {
     let spot = field_spot(spot, place, field);
     let desc = field.desc.items();
-    let foreign = broken(is_foreign_desc(desc), spot, 301);
+    let unsupported = broken(is_unsupported_desc(desc), spot, 301);
     let int = broken(has_unsettled_int(settings, desc), spot, 302);
     let unfit = is_unfit_field(is_interface(class.flags), field.flags);
-    first(first(foreign, int), broken(unfit, spot, 304))
+    first(first(unsupported, int), broken(unfit, spot, 304))
 }
 
 /// The first rule that the fields of a class break.
 fn fields_break<'w>(
     settings: &Settings,
     class: &'w ClassTree<'_>,
-    spot: Spot<'w>,
+    spot: RulePlace<'w>,
 ) -> Option<Break<'w>>
     ensures { (f : FilePlace) → spot_of spot.entry ≡ at_class f class.now → IsFirstOf (each (λ i m. field_breaks settings.now f class.now i m) class.now.fields) (option_map break_of result) }
 {
@@ -194,26 +195,26 @@ fn method_break<'w>(
     class: &'w ClassTree<'_>,
     place: usize,
     method: &'w MethodTree<'_>,
-    spot: Spot<'w>,
+    spot: RulePlace<'w>,
 ) -> Option<Break<'w>>
     requires { place < length class.now.methods }
     ensures { (f : FilePlace) → spot_of spot.entry ≡ at_class f class.now → IsFirstOf (method_breaks settings.now f class.now place method.now) (option_map break_of result) }
 {
     let spot = method_spot(spot, class, place, method, 0);
     let desc = method.desc.items();
-    let foreign = broken(is_foreign_desc(desc), spot, 301);
+    let unsupported = broken(is_unsupported_desc(desc), spot, 301);
     let int = broken(has_unsettled_int(settings, desc), spot, 302);
     let unfit = broken(has_unfit_flags(class, method), spot, 304);
     let locals = broken(has_many_locals(method), spot, 404);
     let stack = broken(has_deep_stack(method), spot, 405);
-    first(first(first(first(foreign, int), unfit), locals), stack)
+    first(first(first(first(unsupported, int), unfit), locals), stack)
 }
 
 /// The first rule that the methods of a class break.
 fn methods_break<'w>(
     settings: &Settings,
     class: &'w ClassTree<'_>,
-    spot: Spot<'w>,
+    spot: RulePlace<'w>,
 ) -> Option<Break<'w>>
     ensures { (f : FilePlace) → spot_of spot.entry ≡ at_class f class.now → IsFirstOf (each (λ i m. method_breaks settings.now f class.now i m) class.now.methods) (option_map break_of result) }
 {
@@ -227,12 +228,12 @@ fn methods_break<'w>(
 
 // ---- the package
 
-fn has_foreign(added: &[MemberId]) -> bool
-    ensures { result ≡ has_foreign added.now }
+fn has_unsupported(added: &[MemberId]) -> bool
+    ensures { result ≡ has_unsupported added.now }
 {
     added
         .iter()
-        .any(|method| is_foreign_desc(method.desc.items()))
+        .any(|method| is_unsupported_desc(method.desc.items()))
 }
 
 fn has_int(added: &[MemberId]) -> bool
@@ -254,18 +255,18 @@ fn own_break<'w>(
     settings: &Settings,
     number: u32,
     class: &'w ClassTree<'_>,
-    spot: Spot<'w>,
+    spot: RulePlace<'w>,
 ) -> Result<Option<Break<'w>>, NoMemory>
     requires { number < length world.now.classes }
     ensures { (f : FilePlace) → spot_of spot.entry ≡ at_class f class.now → IfOk result (λ b. IsFirstOf (own_breaks world.now settings.now f number class.now) (option_map break_of b)) }
 {
     let added = world.added(number).items();
-    let foreign = broken(has_foreign(added), spot, 301);
+    let unsupported = broken(has_unsupported(added), spot, 301);
     let int = broken(adds_int(settings, added), spot, 302);
     let unfit = broken(is_unfit_class(class.flags), spot, 304);
     let interfaces = broken(has_many_interfaces(alloc, world, class)?, spot, 403);
     let cells = broken(has_many_cells(class), spot, 406);
-    let types = first(foreign, int);
+    let types = first(unsupported, int);
     Ok(first(first(first(types, unfit), interfaces), cells))
 }
 
@@ -278,7 +279,7 @@ fn class_break<'w>(
     kinds: &[Kinds],
     number: u32,
     class: &'w ClassTree<'_>,
-    spot: Spot<'w>,
+    spot: RulePlace<'w>,
 ) -> Result<Option<Break<'w>>, NoMemory>
     requires number { number < length world.now.classes }
     requires kinds { kinds.now ≡ map kinds_of world.now.classes }
@@ -319,7 +320,7 @@ fn classes_break<'w>(
 fn list_break<'w>(list: &'w [u8], world: &World<'_>, settings: &Settings) -> Option<Break<'w>>
     ensures { IsFirstOf (list_breaks list.now world.now settings.now) (option_map break_of result) }
 {
-    let spot = Spot::of_list(list);
+    let spot = RulePlace::of_list(list);
     let applets = settings.applets.items();
     let unfit = broken(has_unfit_applets(world, applets), spot, 309);
     let exported = broken(has_many_exported(world, settings), spot, 401);

@@ -22,7 +22,7 @@ const INITIALISER: &[u8] = b"<clinit>";
 
 /// A field or method that is found.
 #[derive(Clone, Copy)]
-pub(crate) struct Hit<'w, 'a> {
+pub(crate) struct ResolvedMember<'w, 'a> {
     /// The class that declares it.
     pub owner: Known<'w, 'a>,
     pub flags: u16,
@@ -147,7 +147,7 @@ pub(crate) fn member_found<'w, 'a>(
     world: &'w World<'a>,
     field: bool,
     found: Option<Found>,
-) -> Option<Hit<'w, 'a>>
+) -> Option<ResolvedMember<'w, 'a>>
     ensures { option_map hit_of result ≡ hit (all_classes world.now) field found }
 {
     let found = found?;
@@ -156,7 +156,7 @@ pub(crate) fn member_found<'w, 'a>(
     let place = (found.member as usize).saturating_sub(before);
     if place < owner.member_count(field) {
         let flags = owner.member_flags(field, place);
-        Some(Hit { owner, flags })
+        Some(ResolvedMember { owner, flags })
     } else {
         None
     }
@@ -169,7 +169,7 @@ pub(crate) fn is_accessible(
     world: &World<'_>,
     holder: &[u8],
     named: &[u8],
-    hit: Hit<'_, '_>,
+    hit: ResolvedMember<'_, '_>,
 ) -> bool
     ensures { result ≡ is_accessible (all_classes world.now) holder.now named.now (hit_of hit.entry).owner hit.entry.flags }
 {

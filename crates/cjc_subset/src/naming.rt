@@ -15,13 +15,13 @@ ghost use Rattle.cjc_subset.specs.Members.{hit};
 ghost use Rattle.cjc_subset.specs.Names.{catch_breaks, catches_missing, catches_of, code_breaks, insn_breaks, field_found, is_abstract_of, is_bodiless, is_constant_found, is_member_missing, is_not_found, is_other_kind, is_unfit_call, is_unfit_class, is_unfit_field, is_unfit_interface, is_unfit_method, is_unfit_new, is_unfit_super, is_unfit_virtual, is_unfound, method_breaks, method_found, name_breaks, names_missing, names_unfit, names_unfound};
 
 use crate::members::{
-    Hit, is_accessible, is_array, is_constant, is_constructor, is_desc_missing, is_initialiser,
-    is_missing, is_name_missing, member_found,
+    ResolvedMember, is_accessible, is_array, is_constant, is_constructor, is_desc_missing,
+    is_initialiser, is_missing, is_name_missing, member_found,
 };
 use crate::places::{class_spot, method_spot};
 use cjc_bytes::{
-    Break, Bytes, Fault, MemberId, Spot, answer, broken, file_of, first, is_abstract, is_private,
-    is_static,
+    Break, Bytes, Fault, MemberId, RulePlace, answer, broken, file_of, first, is_abstract,
+    is_private, is_static,
 };
 use cjc_classfile::{Catch, ClassTree, MethodTree};
 use cjc_code::{Codes, JInsn, JOp, MethodCode, jvm};
@@ -175,20 +175,20 @@ fn is_abstract_of(class: Option<Known<'_, '_>>) -> bool
 }
 
 /// Whether invokevirtual can't call a method by this class.
-fn is_unfit_virtual(named: Option<Known<'_, '_>>, hit: Hit<'_, '_>) -> bool
+fn is_unfit_virtual(named: Option<Known<'_, '_>>, hit: ResolvedMember<'_, '_>) -> bool
     ensures { result ≡ is_unfit_virtual (option_map class_of named.entry) (hit_of hit.entry) }
 {
     is_interface_of(named) || is_imported(named) && hit.owner.is_interface()
 }
 
 /// Whether invokeinterface can't call a method by this class.
-fn is_unfit_interface(named: Option<Known<'_, '_>>, hit: Hit<'_, '_>) -> bool
+fn is_unfit_interface(named: Option<Known<'_, '_>>, hit: ResolvedMember<'_, '_>) -> bool
     ensures { result ≡ is_unfit_interface (option_map class_of named.entry) (hit_of hit.entry) }
 {
     is_class_of(named) || !hit.owner.is_interface()
 }
 
-fn is_bodiless(hit: Option<Hit<'_, '_>>) -> bool
+fn is_bodiless(hit: Option<ResolvedMember<'_, '_>>) -> bool
     ensures { result ≡ is_bodiless (option_map hit_of hit.entry) }
 {
     match hit {
@@ -222,7 +222,7 @@ fn is_unfit_class(
     class: &ClassTree<'_>,
     op: u8,
     id: &MemberId,
-    hit: Hit<'_, '_>,
+    hit: ResolvedMember<'_, '_>,
 ) -> bool
     ensures { result ≡ is_unfit_class (all_classes world.now) class.now op id.now (hit_of hit.entry) }
 {
@@ -281,7 +281,7 @@ fn insn_break<'w>(
     world: &World<'_>,
     class: &ClassTree<'_>,
     insn: &JInsn,
-    spot: Spot<'w>,
+    spot: RulePlace<'w>,
 ) -> Option<Break<'w>>
     ensures { (f : FilePlace) (i : ℕ) (m : Method) → spot_of spot.entry ≡ at_method f class.now i m insn.now.at → IsFirstOf (insn_breaks world.now f class.now i m insn.now) (option_map break_of result) }
 {
@@ -298,7 +298,7 @@ fn insns_break<'w>(
     place: usize,
     method: &'w MethodTree<'_>,
     insns: &[JInsn],
-    spot: Spot<'w>,
+    spot: RulePlace<'w>,
 ) -> Option<Break<'w>>
     requires { place < length class.now.methods }
     ensures { (f : FilePlace) → spot_of spot.entry ≡ at_class f class.now → IsFirstOf (each (λ _ insn. insn_breaks world.now f class.now place method.now insn) insns.now) (option_map break_of result) }
@@ -318,7 +318,7 @@ fn catches_break<'w>(
     place: usize,
     method: &'w MethodTree<'_>,
     catches: &[Catch],
-    spot: Spot<'w>,
+    spot: RulePlace<'w>,
 ) -> Option<Break<'w>>
     requires { place < length class.now.methods }
     ensures { (f : FilePlace) → spot_of spot.entry ≡ at_class f class.now → IsFirstOf (each (λ _ k. catch_breaks world.now f class.now place method.now k) catches.now) (option_map break_of result) }
@@ -352,7 +352,7 @@ fn method_break<'w>(
     place: usize,
     method: &'w MethodTree<'_>,
     insns: &[JInsn],
-    spot: Spot<'w>,
+    spot: RulePlace<'w>,
 ) -> Option<Break<'w>>
     requires { place < length class.now.methods }
     ensures { (f : FilePlace) → spot_of spot.entry ≡ at_class f class.now → IsFirstOf (method_breaks world.now f class.now place method.now insns.now) (option_map break_of result) }

@@ -10,17 +10,17 @@ ghost use Rattle.cjc_bytes.specs.Told.{break_of, spot_of};
 ghost use Rattle.cjc_subset.specs.Working.Hits.{hit_of};
 ghost use Rattle.cjc_subset.specs.Working.Kinds.{kinds_of};
 ghost use Rattle.cjc_subset.specs.Members.{hit};
-ghost use Rattle.cjc_subset.specs.Overriding.{asks_for_code, changes_kind, class_against, has_no_code, hides_one, is_inherited, is_of_other_kind, is_open, is_out_of_sight, is_package_visible, is_special, is_unfit_selection, kin_breaks, lacks_code, method_against, overriding_breaks};
+ghost use Rattle.cjc_subset.specs.Overriding.{asks_for_code, changes_kind, class_against, has_no_code, hides_one, is_inherited, is_of_other_kind, is_open, is_out_of_sight, is_package_visible, is_special, is_unfit_selection, supertype_breaks, lacks_code, method_against, overriding_breaks};
 ghost use Rattle.cjc_subset.specs.Places.{at_class};
 ghost use Rattle.cjc_bytes.specs.Order.{FilePlace};
 ghost use Rattle.cjc_bytes.specs.Breaks.{IsFirstOf, each};
 
 use crate::kinds::{Kinds, kinds_of, may_break};
-use crate::members::{Hit, is_constructor, is_initialiser, member_found};
+use crate::members::{ResolvedMember, is_constructor, is_initialiser, member_found};
 use crate::places::method_spot;
 use cjc_bytes::{
-    Break, Bytes, MemberId, NoMemory, Spot, broken, first, is_abstract, is_private, is_protected,
-    is_public, is_static,
+    Break, Bytes, MemberId, NoMemory, RulePlace, broken, first, is_abstract, is_private,
+    is_protected, is_public, is_static,
 };
 use cjc_classfile::{ClassTree, MethodTree};
 use cjc_export::{ExportClass, ExportTree};
@@ -123,7 +123,7 @@ fn asks_for_code(known: Known<'_, '_>, place: usize) -> bool
     (is_abstract(flags) || known.is_interface()) && (known.is_imported() || !is_initialiser(name))
 }
 
-fn is_unfit_selection(for_interface: bool, hit: Option<Hit<'_, '_>>) -> bool
+fn is_unfit_selection(for_interface: bool, hit: Option<ResolvedMember<'_, '_>>) -> bool
     ensures { result ≡ is_unfit_selection for_interface (option_map hit_of hit.entry) }
 {
     match hit {
@@ -213,7 +213,7 @@ fn method_against<'w>(
     known: Known<'_, '_>,
     place: usize,
     method: &'w MethodTree<'_>,
-    spot: Spot<'w>,
+    spot: RulePlace<'w>,
 ) -> Option<Break<'w>>
     requires { place < length class.now.methods }
     ensures { (f : FilePlace) → spot_of spot.entry ≡ at_class f class.now → IsFirstOf (method_against f class.now (class_of known.entry) place method.now) (option_map break_of result) }
@@ -229,7 +229,7 @@ fn method_against<'w>(
 fn methods_against<'w>(
     class: &'w ClassTree<'_>,
     known: Known<'_, '_>,
-    spot: Spot<'w>,
+    spot: RulePlace<'w>,
 ) -> Option<Break<'w>>
     ensures { (f : FilePlace) → spot_of spot.entry ≡ at_class f class.now → IsFirstOf (each (λ i m. method_against f class.now (class_of known.entry) i m) class.now.methods) (option_map break_of result) }
 {
@@ -247,7 +247,7 @@ fn class_against<'w>(
     world: &World<'_>,
     class: &'w ClassTree<'_>,
     known: Known<'_, '_>,
-    spot: Spot<'w>,
+    spot: RulePlace<'w>,
 ) -> Result<Option<Break<'w>>, NoMemory>
     ensures { (f : FilePlace) → spot_of spot.entry ≡ at_class f class.now → IfOk result (λ b. IsFirstOf (class_against (all_classes world.now) f class.now (class_of known.entry)) (option_map break_of b)) }
 {
@@ -268,14 +268,14 @@ fn is_inherited(world: &World<'_>, class: &ClassTree<'_>, known: Known<'_, '_>) 
 }
 
 /// The first rule that a class breaks against another, where it inherits from that.
-fn kin_break<'w>(
+fn supertype_break<'w>(
     alloc: Global,
     world: &World<'_>,
     class: &'w ClassTree<'_>,
     known: Known<'_, '_>,
-    spot: Spot<'w>,
+    spot: RulePlace<'w>,
 ) -> Result<Option<Break<'w>>, NoMemory>
-    ensures { (f : FilePlace) → spot_of spot.entry ≡ at_class f class.now → IfOk result (λ b. IsFirstOf (kin_breaks (all_classes world.now) f class.now (class_of known.entry)) (option_map break_of b)) }
+    ensures { (f : FilePlace) → spot_of spot.entry ≡ at_class f class.now → IfOk result (λ b. IsFirstOf (supertype_breaks (all_classes world.now) f class.now (class_of known.entry)) (option_map break_of b)) }
 {
     if is_inherited(world, class, known) {
         class_against(alloc, world, class, known, spot)
@@ -293,14 +293,14 @@ fn package_break<'w>(
     own: Kinds,
     other: &ClassTree<'_>,
     kinds: Kinds,
-    spot: Spot<'w>,
+    spot: RulePlace<'w>,
 ) -> Result<Option<Break<'w>>, NoMemory>
     requires own { own ≡ kinds_of class.now }
     requires kinds { kinds ≡ kinds_of other.now }
-    ensures { (f : FilePlace) → spot_of spot.entry ≡ at_class f class.now → IfOk result (λ b. IsFirstOf (kin_breaks (all_classes world.now) f class.now (declared 0 other.now)) (option_map break_of b)) }
+    ensures { (f : FilePlace) → spot_of spot.entry ≡ at_class f class.now → IfOk result (λ b. IsFirstOf (supertype_breaks (all_classes world.now) f class.now (declared 0 other.now)) (option_map break_of b)) }
 {
     if may_break(own, kinds) {
-        kin_break(alloc, world, class, Known::Declared(0, other), spot)
+        supertype_break(alloc, world, class, Known::Declared(0, other), spot)
     } else {
         Ok(None)
     }
@@ -313,10 +313,10 @@ fn declared_break<'w>(
     class: &'w ClassTree<'_>,
     others: &[ClassTree<'_>],
     kinds: &[Kinds],
-    spot: Spot<'w>,
+    spot: RulePlace<'w>,
 ) -> Result<Option<Break<'w>>, NoMemory>
     requires { kinds.now ≡ map kinds_of others.now }
-    ensures { (f : FilePlace) → spot_of spot.entry ≡ at_class f class.now → IfOk result (λ b. IsFirstOf (each (λ _ d. kin_breaks (all_classes world.now) f class.now (declared 0 d)) others.now) (option_map break_of b)) }
+    ensures { (f : FilePlace) → spot_of spot.entry ≡ at_class f class.now → IfOk result (λ b. IsFirstOf (each (λ _ d. supertype_breaks (all_classes world.now) f class.now (declared 0 d)) others.now) (option_map break_of b)) }
 {
     let own = kinds_of(class);
     let mut least = None;
@@ -333,13 +333,13 @@ fn imported_break<'w>(
     world: &World<'_>,
     class: &'w ClassTree<'_>,
     others: &[ExportClass],
-    spot: Spot<'w>,
+    spot: RulePlace<'w>,
 ) -> Result<Option<Break<'w>>, NoMemory>
-    ensures { (f : FilePlace) → spot_of spot.entry ≡ at_class f class.now → IfOk result (λ b. IsFirstOf (each (λ _ d. kin_breaks (all_classes world.now) f class.now (imported 0 d)) others.now) (option_map break_of b)) }
+    ensures { (f : FilePlace) → spot_of spot.entry ≡ at_class f class.now → IfOk result (λ b. IsFirstOf (each (λ _ d. supertype_breaks (all_classes world.now) f class.now (imported 0 d)) others.now) (option_map break_of b)) }
 {
     let mut least = None;
     for other in others {
-        let broken = kin_break(alloc, world, class, Known::Imported(0, other), spot)?;
+        let broken = supertype_break(alloc, world, class, Known::Imported(0, other), spot)?;
         least = first(least, broken);
     }
     Ok(least)
@@ -351,9 +351,9 @@ fn imports_break<'w>(
     world: &World<'_>,
     class: &'w ClassTree<'_>,
     exports: &[ExportTree],
-    spot: Spot<'w>,
+    spot: RulePlace<'w>,
 ) -> Result<Option<Break<'w>>, NoMemory>
-    ensures { (f : FilePlace) → spot_of spot.entry ≡ at_class f class.now → IfOk result (λ b. IsFirstOf (each (λ _ t. each (λ _ d. kin_breaks (all_classes world.now) f class.now (imported 0 d)) t.classes) exports.now) (option_map break_of b)) }
+    ensures { (f : FilePlace) → spot_of spot.entry ≡ at_class f class.now → IfOk result (λ b. IsFirstOf (each (λ _ t. each (λ _ d. supertype_breaks (all_classes world.now) f class.now (imported 0 d)) t.classes) exports.now) (option_map break_of b)) }
 {
     let mut least = None;
     for tree in exports {
@@ -370,7 +370,7 @@ pub(crate) fn overriding_break<'w>(
     world: &World<'_>,
     kinds: &[Kinds],
     class: &'w ClassTree<'_>,
-    spot: Spot<'w>,
+    spot: RulePlace<'w>,
 ) -> Result<Option<Break<'w>>, NoMemory>
     requires { kinds.now ≡ map kinds_of world.now.classes }
     ensures { (f : FilePlace) → spot_of spot.entry ≡ at_class f class.now → IfOk result (λ b. IsFirstOf (overriding_breaks world.now f class.now) (option_map break_of b)) }

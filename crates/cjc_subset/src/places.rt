@@ -7,21 +7,25 @@ ghost use Rattle.cjc_bytes.specs.Told.{file_place_of, spot_of};
 ghost use Rattle.cjc_classfile.specs.declared.tree.ClassTree.{ClassTree as Tree};
 ghost use Rattle.cjc_subset.specs.Places.{at_class, at_field, at_method};
 
-use cjc_bytes::{FileRef, Part, PlaceRef, Spot};
+use cjc_bytes::{FileRef, Part, PlaceRef, RulePlace};
 use cjc_classfile::{ClassTree, FieldTree, MethodTree};
 
 /// A class of the package, of this file.
-pub fn class_spot<'w>(file: FileRef<'w>, class: &'w ClassTree<'_>) -> Spot<'w>
+pub fn class_spot<'w>(file: FileRef<'w>, class: &'w ClassTree<'_>) -> RulePlace<'w>
     ensures { spot_of result ≡ at_class (file_place_of file.entry) class.now }
 {
-    Spot::of_class(file, 1, class.name.items())
+    RulePlace::of_class(file, 1, class.name.items())
 }
 
 /// The field at this place of a class.
-pub(crate) fn field_spot<'w>(class: Spot<'w>, place: usize, field: &'w FieldTree) -> Spot<'w>
+pub(crate) fn field_spot<'w>(
+    class: RulePlace<'w>,
+    place: usize,
+    field: &'w FieldTree,
+) -> RulePlace<'w>
     ensures { (f : FilePlace) (c : Tree) → spot_of class.entry ≡ at_class f c → spot_of result ≡ at_field f c place field.now }
 {
-    Spot {
+    RulePlace {
         member: place as u128 + 1,
         place: PlaceRef {
             part: Part::Field(field.name.items(), field.desc.items()),
@@ -34,16 +38,16 @@ pub(crate) fn field_spot<'w>(class: Spot<'w>, place: usize, field: &'w FieldTree
 
 /// An offset of the method at this place of a class.
 pub fn method_spot<'w>(
-    class: Spot<'w>,
+    class: RulePlace<'w>,
     tree: &'w ClassTree<'_>,
     place: usize,
     method: &'w MethodTree<'_>,
     offset: u32,
-) -> Spot<'w>
+) -> RulePlace<'w>
     requires { place < length tree.now.methods }
     ensures { (f : FilePlace) → spot_of class.entry ≡ at_class f tree.now → spot_of result ≡ at_method f tree.now place method.now offset }
 {
-    Spot {
+    RulePlace {
         member: tree.fields.items().len() as u128 + place as u128 + 1,
         place: PlaceRef {
             part: Part::Method(method.name.items(), method.desc.items()),

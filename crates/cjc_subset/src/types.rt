@@ -2,7 +2,7 @@
 
 ghost use Rattle.std.specs.Prelude.{◌≡◌, ◌∷◌, ◌++◌, []};
 ghost use Rattle.std.specs.List.{list_any};
-ghost use Rattle.cjc_subset.specs.Types.{is_foreign_desc, is_foreign_element, is_foreign_member, is_foreign_name, is_foreign_number, is_foreign_part, is_int, is_int_desc, is_int_element, is_int_member, is_int_name, is_int_part, is_other, names_foreign, names_int};
+ghost use Rattle.cjc_subset.specs.Types.{is_unsupported_desc, is_unsupported_element, is_unsupported_member, is_unsupported_name, is_unsupported_number, is_unsupported_part, is_int, is_int_desc, is_int_element, is_int_member, is_int_name, is_int_part, is_other, names_unsupported, names_int};
 
 use crate::members::is_array;
 use cjc_bytes::{Desc, Kind, MemberId};
@@ -13,8 +13,8 @@ const T_INT: u8 = 10;
 
 // ---- 301
 
-fn is_foreign_element(bytes: &[u8]) -> bool
-    ensures { result ≡ is_foreign_element bytes.now }
+fn is_unsupported_element(bytes: &[u8]) -> bool
+    ensures { result ≡ is_unsupported_element bytes.now }
 {
     match bytes {
         [] => false,
@@ -25,12 +25,12 @@ fn is_foreign_element(bytes: &[u8]) -> bool
 }
 
 /// Whether a name is that of an array of chars, longs, floats, doubles or arrays.
-fn is_foreign_name(name: &[u8]) -> bool
-    ensures { result ≡ is_foreign_name name.now }
+fn is_unsupported_name(name: &[u8]) -> bool
+    ensures { result ≡ is_unsupported_name name.now }
 {
     match name {
         [] => false,
-        [byte, rest @ ..] => *byte == b'[' && is_foreign_element(rest),
+        [byte, rest @ ..] => *byte == b'[' && is_unsupported_element(rest),
     }
 }
 
@@ -43,58 +43,58 @@ fn is_other(kind: Kind) -> bool
     }
 }
 
-fn is_any_foreign(desc: &Desc<'_>) -> bool
-    ensures { result ≡ list_any (λ p. is_foreign_part p) (desc.now.params ++ desc.now.result ∷ []) }
+fn is_any_unsupported(desc: &Desc<'_>) -> bool
+    ensures { result ≡ list_any (λ p. is_unsupported_part p) (desc.now.params ++ desc.now.result ∷ []) }
 {
     for i in 0..desc.params() {
-        if is_other(desc.kind(i)) || is_foreign_name(desc.class(i)) {
+        if is_other(desc.kind(i)) || is_unsupported_name(desc.class(i)) {
             return true;
         }
     }
     let result = desc.params();
-    is_other(desc.kind(result)) || is_foreign_name(desc.class(result))
+    is_other(desc.kind(result)) || is_unsupported_name(desc.class(result))
 }
 
 /// Whether char, long, float, double or an array of more than one dimension stands in a descriptor.
-#[tactic(auto, unfolding(crate::specs::Types::is_foreign_desc))]
-pub(crate) fn is_foreign_desc(desc: &[u8]) -> bool
-    ensures { result ≡ is_foreign_desc desc.now }
+#[tactic(auto, unfolding(crate::specs::Types::is_unsupported_desc))]
+pub(crate) fn is_unsupported_desc(desc: &[u8]) -> bool
+    ensures { result ≡ is_unsupported_desc desc.now }
 {
     if desc.len() >= 0x1_0000_0000 {
         return false;
     }
     match Desc::parse(desc) {
-        Ok(desc) => is_any_foreign(&desc),
+        Ok(desc) => is_any_unsupported(&desc),
         Err(_) => false,
     }
 }
 
-fn is_foreign_member(id: &MemberId) -> bool
-    ensures { result ≡ is_foreign_member id.now }
+fn is_unsupported_member(id: &MemberId) -> bool
+    ensures { result ≡ is_unsupported_member id.now }
 {
-    is_foreign_name(id.class.items()) || is_foreign_desc(id.desc.items())
+    is_unsupported_name(id.class.items()) || is_unsupported_desc(id.desc.items())
 }
 
-fn is_foreign_number(number: u8) -> bool
-    ensures { result ≡ is_foreign_number number }
+fn is_unsupported_number(number: u8) -> bool
+    ensures { result ≡ is_unsupported_number number }
 {
     number == 5 || number == 6 || number == 7 || number == 11
 }
 
 /// Whether an instruction names such a type, or its anewarray names an array.
-#[tactic(auto, unfolding(crate::specs::Types::names_foreign))]
-pub(crate) fn names_foreign(op: &JOp) -> bool
-    ensures { result ≡ names_foreign op.now }
+#[tactic(auto, unfolding(crate::specs::Types::names_unsupported))]
+pub(crate) fn names_unsupported(op: &JOp) -> bool
+    ensures { result ≡ names_unsupported op.now }
 {
     match op {
-        JOp::Static { field, .. } => is_foreign_member(field),
-        JOp::Field { field, .. } => is_foreign_member(field),
-        JOp::Call { method, .. } => is_foreign_member(method),
-        JOp::New(name) => is_foreign_name(name.items()),
-        JOp::NewArray(number) => is_foreign_number(*number),
+        JOp::Static { field, .. } => is_unsupported_member(field),
+        JOp::Field { field, .. } => is_unsupported_member(field),
+        JOp::Call { method, .. } => is_unsupported_member(method),
+        JOp::New(name) => is_unsupported_name(name.items()),
+        JOp::NewArray(number) => is_unsupported_number(*number),
         JOp::ANewArray(name) => is_array(name.items()),
-        JOp::CheckCast(name) => is_foreign_name(name.items()),
-        JOp::InstanceOf(name) => is_foreign_name(name.items()),
+        JOp::CheckCast(name) => is_unsupported_name(name.items()),
+        JOp::InstanceOf(name) => is_unsupported_name(name.items()),
         _ => false,
     }
 }

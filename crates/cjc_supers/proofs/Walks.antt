@@ -2,7 +2,7 @@
 use Rattle.std.proofs.Common.{◌≡◌, ℕ, ◌+◌, ◌<◌, true, false, List, [], ◌∷◌, ◌++◌, sym, ap, subst, ◌∙◌, length, get_or, drop, append-nil, arith}
 use Rattle.std.specs.List.{flat_map}
 use Rattle.cjc_world.specs.Classes.{Class, class_named}
-use Rattle.cjc_world.specs.Kin.{IsAcyclic, kin}
+use Rattle.cjc_world.specs.Supertypes.{IsAcyclic, supertypes}
 use Rattle.cjc_supers.specs.Working.Walk.{Seen, put, finish, is_done, with_all, AreDone, AreIn, supers_in, interfaces_in, upwards_from, interfaces_from, size}
 use Rattle.cjc_supers.proofs.Sets.{all_append, walk_next, all_in, none_new, done_put, done_finish}
 use Rattle.cjc_supers.proofs.Trees.{upwards_step, interfaces_step, less_above}
@@ -83,14 +83,14 @@ not_listed w x old seen new h same = subst (HasAdded (interfaces_from w false) (
 
 -- ---- measures
 
-pub less_supers : (w : List Class) → IsAcyclic w → (names : List (List ℕ)) (i : ℕ) (x : List ℕ) (supers : List (List ℕ)) (t : ℕ) → IsAt names i x → supers ≡ supers_in (class_named w x) → size (kin w names) ≡ t → size (kin w supers) < t
+pub less_supers : (w : List Class) → IsAcyclic w → (names : List (List ℕ)) (i : ℕ) (x : List ℕ) (supers : List (List ℕ)) (t : ℕ) → IsAt names i x → supers ≡ supers_in (class_named w x) → size (supertypes w names) ≡ t → size (supertypes w supers) < t
 less_supers w acyclic names i x supers t at are most =
     let less = (less_above w acyclic names i at.item at.inside).0 in
-    let same : size (kin w supers) ≡ size (kin w (supers_in (class_named w (get_or names i at.item)))) = ap (λ ns. size (kin w ns)) (are ∙ ap (λ y. supers_in (class_named w y)) (at.name ∙ at.is)) in
+    let same : size (supertypes w supers) ≡ size (supertypes w (supers_in (class_named w (get_or names i at.item)))) = ap (λ ns. size (supertypes w ns)) (are ∙ ap (λ y. supers_in (class_named w y)) (at.name ∙ at.is)) in
     omega (arith, less, same, most)
 
-pub less_interfaces : (w : List Class) → IsAcyclic w → (names : List (List ℕ)) (i : ℕ) (x : List ℕ) (interfaces : List (List ℕ)) (t : ℕ) → IsAt names i x → interfaces ≡ interfaces_in (class_named w x) → size (kin w names) ≡ t → size (kin w interfaces) < t
+pub less_interfaces : (w : List Class) → IsAcyclic w → (names : List (List ℕ)) (i : ℕ) (x : List ℕ) (interfaces : List (List ℕ)) (t : ℕ) → IsAt names i x → interfaces ≡ interfaces_in (class_named w x) → size (supertypes w names) ≡ t → size (supertypes w interfaces) < t
 less_interfaces w acyclic names i x interfaces t at are most =
     let less = (less_above w acyclic names i at.item at.inside).1 in
-    let same : size (kin w interfaces) ≡ size (kin w (interfaces_in (class_named w (get_or names i at.item)))) = ap (λ ns. size (kin w ns)) (are ∙ ap (λ y. interfaces_in (class_named w y)) (at.name ∙ at.is)) in
+    let same : size (supertypes w interfaces) ≡ size (supertypes w (interfaces_in (class_named w (get_or names i at.item)))) = ap (λ ns. size (supertypes w ns)) (are ∙ ap (λ y. interfaces_in (class_named w y)) (at.name ∙ at.is)) in
     omega (arith, less, same, most)

@@ -3,7 +3,7 @@
 ghost use Rattle.std.specs.Prelude.{◌≡◌, ◌++◌, false, true, IfOk, OnOk};
 ghost use Rattle.std.specs.List.{flat_map};
 ghost use Rattle.cjc_world.specs.Classes.{all_classes, class_named};
-ghost use Rattle.cjc_world.specs.Kin.{IsAcyclic};
+ghost use Rattle.cjc_world.specs.Supertypes.{IsAcyclic};
 ghost use Rattle.cjc_world.specs.Working.Known.{class_of};
 ghost use Rattle.cjc_supers.specs.Supers.{interfaces, superclasses};
 ghost use Rattle.cjc_supers.specs.Working.Walk.{AreDone, interfaces_from, interfaces_in, supers_in, upwards_from, with_all};

@@ -9,7 +9,7 @@ use Rattle.cjc_range.proofs.Order.{within_refl}
 use Rattle.cjc_script.specs.Sorts.{Shape, OfClass, OfNumbers, OfReferences, Element, Booleans, Bytes, Shorts, Ints, array_name, shape_name}
 use Rattle.cjc_bytes.specs.Descriptor.{IsClassName}
 use Rattle.cjc_world.specs.Classes.{Class, class_named}
-use Rattle.cjc_world.specs.Kin.{End, known_as, grown, kin, stands}
+use Rattle.cjc_world.specs.Supertypes.{End, known_as, supertypes_within, supertypes, stands}
 use Rattle.cjc_world.proofs.Subtypes.{reaches}
 use Rattle.cjc_table_rules.proofs.Spelt.{class_read, held_spelt, all_but_last}
 use Rattle.cjc_world.specs.Subtype.{starts, inner, element, array_is, is_subclass, is_element, is_subtype}
@@ -153,10 +153,10 @@ module _ (w : List Class) where
 
   -- a subclass of a name is that name, or a class of some file
   subclass_known : (class item : List ℕ) → is_subclass w class item ≡ true → (class ≡ item) ⊎ ((c : Class) × (class_named w class ≡ Some c))
-  unfolding is_subclass kin grown
+  unfolding is_subclass supertypes supertypes_within
   subclass_known class item h = go (class_named w class) refl h
     where
-      go : (o : Option Class) → class_named w class ≡ o → stands item (known_as (grown w (length w)) class o End) ≡ true → (class ≡ item) ⊎ ((c : Class) × (class_named w class ≡ Some c))
+      go : (o : Option Class) → class_named w class ≡ o → stands item (known_as (supertypes_within w (length w)) class o End) ≡ true → (class ≡ item) ⊎ ((c : Class) × (class_named w class ≡ Some c))
       go None none h = ⊎_elim (λ same. inl (bytes-true class item same)) (λ no. cc) (either (bytes_eq class item) false h)
       go (Some c) is h = inr (c, is)
 

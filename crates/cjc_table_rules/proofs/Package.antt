@@ -3,8 +3,8 @@ use Rattle.std.proofs.Common.{◌≡◌, ◌+◌, ℕ, suc, Bool, ◌||◌, true
 use Rattle.std.specs.List.{AllZip, AllByRecursion}
 use Rattle.cjc_bytes.specs.Descriptor.{Part}
 use Rattle.cjc_bytes.specs.declared.fault.MemberId.{MemberId}
-use Rattle.cjc_bytes.specs.declared.names.Kind.{Kind as PartKind}
-use Rattle.cjc_bytes.specs.declared.names.Kind.TheVariants as part_kinds
+use Rattle.cjc_bytes.specs.declared.descriptor.Kind.{Kind as PartKind}
+use Rattle.cjc_bytes.specs.declared.descriptor.Kind.TheVariants as part_kinds
 use Rattle.cjc_range.specs.Span.{Span, Within, byte_range, short_range}
 use Rattle.cjc_range_flow.specs.Values.{boolean_range}
 use Rattle.cjc_range.proofs.Order.{within_refl}

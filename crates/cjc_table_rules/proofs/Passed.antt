@@ -4,8 +4,8 @@ use Rattle.std.specs.List.{AllZip, AllByRecursion}
 use Rattle.std.proofs.lemmas.Int.{ints}
 use Rattle.std.proofs.lemmas.List.{reverse-append, reverse-reverse, length-reverse, get_or-reverse}
 use Rattle.cjc_bytes.specs.Descriptor.{Part}
-use Rattle.cjc_bytes.specs.declared.names.Kind.{Kind as PartKind}
-use Rattle.cjc_bytes.specs.declared.names.Kind.TheVariants as part_kinds
+use Rattle.cjc_bytes.specs.declared.descriptor.Kind.{Kind as PartKind}
+use Rattle.cjc_bytes.specs.declared.descriptor.Kind.TheVariants as part_kinds
 use Rattle.cjc_range.specs.Span.{Span, Within, IsWord, short_range, byte_range}
 use Rattle.cjc_range.proofs.Order.{within_refl, within_trans}
 use Rattle.cjc_script.specs.Sorts.{Shape, Sort, Byte, Short, Reference, shape_named, sort_by, sort_of, reference_to, result_by}

@@ -1,8 +1,8 @@
 -- Returns keep their rule.
 use Rattle.std.proofs.Common.{◌≡◌, ◌<◌, ◌+◌, ℕ, Bool, true, false, not, List, [], ◌∷◌, ◌++◌, length, take, drop, slice_get, Option, Some, refl, sym, ap, subst, ◌∙◌, arith}
 use Rattle.cjc_bytes.specs.Descriptor.{Part}
-use Rattle.cjc_bytes.specs.declared.names.Kind.{Kind as PartKind}
-use Rattle.cjc_bytes.specs.declared.names.Kind.TheVariants as kinds
+use Rattle.cjc_bytes.specs.declared.descriptor.Kind.{Kind as PartKind}
+use Rattle.cjc_bytes.specs.declared.descriptor.Kind.TheVariants as kinds
 use Rattle.cjc_range.specs.Span.{Span, Within}
 use Rattle.cjc_code.specs.declared.insn.JOp.TheVariants as jop
 use Rattle.cjc_fixpoint.specs.Tables.{HasRow}

@@ -5,8 +5,8 @@ use Rattle.std.proofs.lemmas.List.{length-append, take_at}
 use Rattle.cjc_bytes.specs.Descriptor.{Part, Parts, plain, base_kind, is_name_byte, IsName, IsClassName, IsType, base, object, array, IsDescriptor, field, method}
 use Rattle.cjc_bytes.specs.Descriptor as spelling
 use Rattle.cjc_bytes.specs.Spots.{part_of, desc_of}
-use Rattle.cjc_bytes.specs.declared.names.Kind.{Kind as PartKind}
-use Rattle.cjc_bytes.specs.declared.names.Kind.TheVariants as part_kinds
+use Rattle.cjc_bytes.specs.declared.descriptor.Kind.{Kind as PartKind}
+use Rattle.cjc_bytes.specs.declared.descriptor.Kind.TheVariants as part_kinds
 use Rattle.cjc_bytes.proofs.DescriptorTypes.{desc_spelt, desc_read}
 use Rattle.cjc_script.specs.Sorts.{Shape, OfClass, OfNumbers, OfReferences, Element, Booleans, Bytes, Shorts, Ints, array_name, shape_name, shape_named, array_of, array_by}
 use Rattle.cjc_world.specs.Subtype.{starts, inner}

@@ -3,8 +3,8 @@ use Rattle.std.proofs.Common.{◌≡◌, ◌⊎◌, ℕ, Bool, true, false, ◌&
 use Rattle.std.specs.Prelude.{if◌then◌else◌, ◌++◌}
 use Rattle.std.specs.List.{list_all}
 use Rattle.cjc_bytes.specs.Descriptor.{Part}
-use Rattle.cjc_bytes.specs.declared.names.Kind.{Kind as PartKind}
-use Rattle.cjc_bytes.specs.declared.names.Kind.TheVariants as part_kinds
+use Rattle.cjc_bytes.specs.declared.descriptor.Kind.{Kind as PartKind}
+use Rattle.cjc_bytes.specs.declared.descriptor.Kind.TheVariants as part_kinds
 use Rattle.cjc_range.specs.Span.{Span, Within, IsWord, short_range, byte_range, full}
 use Rattle.cjc_script.specs.Sorts.{Shape, Sort, Boolean, Byte, Short, shape_name, shape_named, sort_by, sort_of, reference_to, result_by}
 use Rattle.cjc_world.specs.Classes.{Class}

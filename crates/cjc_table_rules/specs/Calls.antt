@@ -3,8 +3,8 @@ use Rattle.std.specs.Prelude.{◌≡◌, ℕ, ◌+◌, Bool, true, false, not, L
 use Rattle.std.specs.List.{AllByRecursion}
 use Rattle.cjc_bytes.specs.AccessFlags.{is_static}
 use Rattle.cjc_bytes.specs.declared.fault.MemberId.{MemberId}
-use Rattle.cjc_bytes.specs.declared.names.Kind.{Kind as PartKind}
-use Rattle.cjc_bytes.specs.declared.names.Kind.TheVariants as part_kinds
+use Rattle.cjc_bytes.specs.declared.descriptor.Kind.{Kind as PartKind}
+use Rattle.cjc_bytes.specs.declared.descriptor.Kind.TheVariants as part_kinds
 use Rattle.cjc_code.specs.declared.insn.JOp.{JOp}
 use Rattle.cjc_code.specs.declared.insn.JOp.TheVariants as jop
 use Rattle.cjc_code.specs.Jvm as jvm

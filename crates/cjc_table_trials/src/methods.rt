@@ -49,7 +49,7 @@ method p/M <init> ()V";
 
 /// A static method: its descriptor, max_stack, max_locals, and the code with at most one handler of everything.
 #[derive(Clone, Copy)]
-struct Draft<'t> {
+struct TestMethod<'t> {
     desc: &'t str,
     max_stack: u16,
     max_locals: u16,
@@ -153,7 +153,7 @@ fn catches(alloc: Global, words: &str) -> Result<Row<Catch>, NoMemory> {
 }
 
 /// The method of a draft.
-fn drafted<'t>(alloc: Global, draft: Draft<'t>) -> Result<MethodTree<'t>, NoMemory> {
+fn drafted<'t>(alloc: Global, draft: TestMethod<'t>) -> Result<MethodTree<'t>, NoMemory> {
     Ok(MethodTree {
         flags: 9,
         name: text(alloc, "m")?,
@@ -181,7 +181,7 @@ fn private<'t>(alloc: Global) -> Result<MethodTree<'t>, NoMemory> {
 fn methods<'t>(
     alloc: Global,
     class: &str,
-    draft: Draft<'t>,
+    draft: TestMethod<'t>,
 ) -> Result<Row<MethodTree<'t>>, NoMemory> {
     let mut methods = Row::new(alloc);
     if class == "p/T" {
@@ -191,7 +191,7 @@ fn methods<'t>(
     Ok(methods)
 }
 
-fn class<'t>(alloc: Global, line: &str, draft: Draft<'t>) -> Result<ClassTree<'t>, NoMemory> {
+fn class<'t>(alloc: Global, line: &str, draft: TestMethod<'t>) -> Result<ClassTree<'t>, NoMemory> {
     let (name, words) = cut(line, " ");
     let (flags, interfaces) = cut(words, " ");
     Ok(ClassTree {
@@ -206,7 +206,7 @@ fn class<'t>(alloc: Global, line: &str, draft: Draft<'t>) -> Result<ClassTree<'t
     })
 }
 
-fn classes<'t>(alloc: Global, draft: Draft<'t>) -> Result<Row<ClassTree<'t>>, NoMemory> {
+fn classes<'t>(alloc: Global, draft: TestMethod<'t>) -> Result<Row<ClassTree<'t>>, NoMemory> {
     let mut classes = Row::new(alloc);
     for line in PACKAGE.lines() {
         classes.push(class(alloc, line, draft)?)?;
@@ -238,7 +238,7 @@ fn exports(alloc: Global) -> Result<Row<ExportTree>, NoMemory> {
 }
 
 /// A package of p/T, which has the method, and of p/M and p/N, which both implement p/I.
-fn package<'t>(alloc: Global, draft: Draft<'t>) -> Result<World<'t>, Fault> {
+fn package<'t>(alloc: Global, draft: TestMethod<'t>) -> Result<World<'t>, Fault> {
     let lines = lines(alloc)?;
     let classes = classes(alloc, draft)?;
     let exports = exports(alloc)?;
@@ -272,7 +272,7 @@ fn first_code(alloc: Global, world: &World<'_>) -> Result<MethodCode, Fault>
     })
 }
 
-fn types(alloc: Global, draft: Draft<'_>) -> Result<TypeTable, Fault> {
+fn types(alloc: Global, draft: TestMethod<'_>) -> Result<TypeTable, Fault> {
     let world = package(alloc, draft)?;
     let code = first_code(alloc, &world)?;
     infer(alloc, b"T.class", &world, &code)
@@ -308,12 +308,12 @@ fn code_and_catch(method: &str) -> (&str, &str) {
 }
 
 /// A method of these words, whose code has these bytes.
-fn draft_of<'t>(method: &'t str, code: &'t [u8]) -> Result<Draft<'t>, NoMemory> {
+fn draft_of<'t>(method: &'t str, code: &'t [u8]) -> Result<TestMethod<'t>, NoMemory> {
     let (desc, words) = cut(method, " ");
     let (max_stack, words) = cut(words, " ");
     let (max_locals, _) = cut(words, " ");
     let (_, catch) = code_and_catch(method);
-    Ok(Draft {
+    Ok(TestMethod {
         desc,
         max_stack: small_number(max_stack)?,
         max_locals: small_number(max_locals)?,
@@ -484,7 +484,7 @@ fn go_on(alloc: Global, walk: &mut TypeWalk<'_>, count: u32) -> Result<(), NoMem
 }
 
 /// Whether the frame before an instruction of a method has what is wanted.
-fn has(alloc: Global, draft: Draft<'_>, spot: &str, wanted: &str) -> Result<bool, Fault> {
+fn has(alloc: Global, draft: TestMethod<'_>, spot: &str, wanted: &str) -> Result<bool, Fault> {
     let (at, of) = cut(spot, " ");
     let world = package(alloc, draft)?;
     let code = first_code(alloc, &world)?;

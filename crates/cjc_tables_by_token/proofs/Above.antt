@@ -5,7 +5,7 @@ use Rattle.cjc_bytes.specs.AccessFlags.{is_interface}
 use Rattle.cjc_capread.specs.declared.tree.ClassRef.{ClassRef}
 use Rattle.cjc_export.specs.declared.tree.ExportClass.{ExportClass}
 use Rattle.cjc_export.specs.declared.tree.ExportTree.{ExportTree}
-use Rattle.cjc_card.specs.Classes.{Class as CardClass, IsInterface, IsClass, Own, Foreign, class_named as class_on_card, class_of, foreign_named, foreign, imported_class, number_of, object_class, offset_of, or_else}
+use Rattle.cjc_card.specs.Classes.{Class as CardClass, IsInterface, IsClass, Own, External, class_named as class_on_card, class_of, external_named, external, imported_class, number_of, object_class, offset_of, or_else}
 use Rattle.cjc_card.specs.Loaded.{OfFile}
 use Rattle.cjc_lower.specs.Naming.{IsClass as MeansClass}
 use Rattle.cjc_tokens.specs.Lines.{line_at}
@@ -15,7 +15,7 @@ use Rattle.cjc_vtable.specs.Tables.{interface_map}
 use Rattle.cjc_vtable.proofs.Filed.{Has, at_front, behind}
 use Rattle.cjc_world.specs.Classes.{Class, class_named}
 use Rattle.cjc_world.specs.Interfaces.{known}
-use Rattle.cjc_world.specs.Kin.{Above, directly, Lists, foremost, after}
+use Rattle.cjc_world.specs.Supertypes.{Above, directly, Lists, foremost, after}
 use Rattle.cjc_world.specs.Lookup.{object}
 use Rattle.cjc_world.specs.Order.{class_order}
 use Rattle.cjc_world.specs.Rules.{is_of_class_file}
@@ -105,7 +105,7 @@ module _ (list : List ℕ) (p : Package) (sound : IsSound list p.files) where
           let z : 0 + r.file ≡ r.file = omega arith in
           let import_is : slice_get (let q = part p in q.imports) r.file ≡ Some (OfFile r.file) = files_numbered 0 (let files = p.files in files.exports) r.file r.tree r.in_list ∙ ap (λ m. Some (OfFile m)) z in
           subst (λ z. class_of (loaded p) 0 (class_ref p z) ≡ Some (class_at p z)) (class_named-name w y c e)
-          (ap (class_of (loaded p) 0) r.ref ∙ ap (option_and_then (imported_class (loaded p) token)) import_is ∙ ap (λ o. if is_some o then Some (Foreign r.file token) else None) r.there ∙ ap (λ (v : CardClass). Some v) (sym r.on_card))
+          (ap (class_of (loaded p) 0) r.ref ∙ ap (option_and_then (imported_class (loaded p) token)) import_is ∙ ap (λ o. if is_some o then Some (External r.file token) else None) r.there ∙ ap (λ (v : CardClass). Some v) (sym r.on_card))
 
   -- ---- java/lang/Object
 
@@ -118,7 +118,7 @@ module _ (list : List ℕ) (p : Package) (sound : IsSound list p.files) where
       let r = entry_of_name object o.class o.there o.imported in
       let name_is = class_named-name w object o.class o.there in
       subst (λ x. class_on_card (loaded p) x ≡ Some (class_at p x)) name_is
-      (ap (λ n. or_else (or_else (option_and_then (λ k. option_map (Own 0) (offset_of (part p) k)) n) None) (foreign_named (loaded p) (let c = o.class in c.name))) r.has_no_info ∙ r.found ∙ ap (λ (v : CardClass). Some v) (sym r.on_card))
+      (ap (λ n. or_else (or_else (option_and_then (λ k. option_map (Own 0) (offset_of (part p) k)) n) None) (external_named (loaded p) (let c = o.class in c.name))) r.has_no_info ∙ r.found ∙ ap (λ (v : CardClass). Some v) (sym r.on_card))
 
   -- ---- two names are never one class
 
@@ -144,20 +144,20 @@ module _ (list : List ℕ) (p : Package) (sound : IsSound list p.files) where
       by c d e f false true i j same =
           let r = info_of_name x c e i in
           let s = entry_of_name y d f j in
-          let clash : Own 0 r.offset ≡ Foreign s.file (let q = s.entry in q.token) = sym r.on_card ∙ same ∙ s.on_card in
+          let clash : Own 0 r.offset ≡ External s.file (let q = s.entry in q.token) = sym r.on_card ∙ same ∙ s.on_card in
           cc
       by c d e f true false i j same =
           let r = entry_of_name x c e i in
           let s = info_of_name y d f j in
-          let clash : Foreign r.file (let q = r.entry in q.token) ≡ Own 0 s.offset = sym r.on_card ∙ same ∙ s.on_card in
+          let clash : External r.file (let q = r.entry in q.token) ≡ Own 0 s.offset = sym r.on_card ∙ same ∙ s.on_card in
           cc
       by c d e f true true i j same =
           let r = entry_of_name x c e i in
           let s = entry_of_name y d f j in
-          let place : Foreign r.file (let q = r.entry in q.token) ≡ Foreign s.file (let q = s.entry in q.token) = sym r.on_card ∙ same ∙ s.on_card in
+          let place : External r.file (let q = r.entry in q.token) ≡ External s.file (let q = s.entry in q.token) = sym r.on_card ∙ same ∙ s.on_card in
           let file : r.file ≡ s.file = cc in
           let token : (let q = r.entry in q.token) ≡ (let q = s.entry in q.token) = cc in
-          let both : Some r.entry ≡ Some s.entry = sym r.there ∙ ap (λ k. foreign (loaded p) k (let q = r.entry in q.token)) file ∙ ap (foreign (loaded p) s.file) token ∙ s.there in
+          let both : Some r.entry ≡ Some s.entry = sym r.there ∙ ap (λ k. external (loaded p) k (let q = r.entry in q.token)) file ∙ ap (external (loaded p) s.file) token ∙ s.there in
           let is : r.entry ≡ s.entry = cc in
           ap (λ (v : Class). v.name) r.class ∙ ap (λ (v : ExportClass). v.name) is ∙ ap (λ (v : Class). v.name) (sym s.class)
 
@@ -265,11 +265,11 @@ module _ (list : List ℕ) (p : Package) (sound : IsSound list p.files) where
             go true g = refl
             go false g = cc
 
-        by : (y : List ℕ) (o : Option Class) → class_named w y ≡ o → is_of_class_file o ≡ false → foreign_named (loaded p) y ≡ (if has_class w y then Some (class_at p y) else None)
+        by : (y : List ℕ) (o : Option Class) → class_named w y ≡ o → is_of_class_file o ≡ false → external_named (loaded p) y ≡ (if has_class w y then Some (class_at p y) else None)
         by y None f g = let r = has_none list p sound y f in r.in_no_file ∙ sym (ap (λ o. if is_some o then Some (class_at p y) else None) f)
         by y (Some d) f g =
             let r = entry_of_name y d f (imported_one d g) in
-            ap (foreign_named (loaded p)) (sym (class_named-name w y d f)) ∙ r.found ∙ ap (λ (v : CardClass). Some v) (sym r.on_card) ∙ ap (λ z. Some (class_at p z)) (class_named-name w y d f)
+            ap (external_named (loaded p)) (sym (class_named-name w y d f)) ∙ r.found ∙ ap (λ (v : CardClass). Some v) (sym r.on_card) ∙ ap (λ z. Some (class_at p z)) (class_named-name w y d f)
             ∙ sym (ap (λ o. if is_some o then Some (class_at p y) else None) f)
 
   all_supers : (x : List ℕ) (c : Class) → class_named w x ≡ Some c → SaysSupers w (naming p) x c

@@ -16,10 +16,10 @@ use Rattle.cjc_vtable.proofs.Filed.{Has}
 use Rattle.cjc_world.specs.declared.found.Found.{Found}
 use Rattle.cjc_world.specs.Classes.{Class, class_named, declared, field_of_class}
 use Rattle.cjc_world.specs.Exported.{is_exported}
-use Rattle.cjc_world.specs.Kin.{kin}
+use Rattle.cjc_world.specs.Supertypes.{supertypes}
 use Rattle.cjc_world.specs.Lookup.{field_in, find_field, is_called, member_at, or_else, own_field}
 use Rattle.cjc_world.specs.Rules.{is_earlier, is_twice}
-use Rattle.cjc_world.proofs.Settled.{bytes-refl, kin-known}
+use Rattle.cjc_world.proofs.Settled.{bytes-refl, supertypes-known}
 use Rattle.cjc_world.proofs.Unbroken.{unbroken_is_acyclic}
 use Rattle.cjc_ncode.specs.PoolOrder.{same_member}
 use Rattle.cjc_by_name.specs.OnePackage.{instance_fields, member_of}
@@ -111,9 +111,9 @@ module _ (list : List ℕ) (p : Package) (sound : IsSound list p.files) (n : ℕ
       let there = slice_get-map field_of_class t.fields i ∙ ap (option_map field_of_class) e in
       let keeps = kept list p.files sound c class_in in
       let own : own_field f.name f.desc c ≡ Some (member_at c i) = ap (option_map (λ k. member_at c k)) (first_here (λ m. is_called f.name f.desc m) c.fields i (field_of_class f) there (called f.name f.desc) (keeps.fields i (field_of_class f) there)) in
-      let tree = kin-known w (unbroken_is_acyclic list p.files sound.unbroken) t.name c named in
+      let tree = supertypes-known w (unbroken_is_acyclic list p.files sound.unbroken) t.name c named in
       ap (field_in (own_field f.name f.desc)) tree
-      ∙ ap (λ o. or_else (or_else o (or_else (field_in (own_field f.name f.desc) (kin w c.interfaces)) (field_in (own_field f.name f.desc) (kin w c.supers)))) None) own
+      ∙ ap (λ o. or_else (or_else o (or_else (field_in (own_field f.name f.desc) (supertypes w c.interfaces)) (field_in (own_field f.name f.desc) (supertypes w c.supers)))) None) own
     where
       called : (name desc : List ℕ) → (bytes_eq name name && bytes_eq desc desc) ≡ true
       called name desc = ap (λ b. b && bytes_eq desc desc) (bytes-refl name) ∙ bytes-refl desc

@@ -5,9 +5,9 @@ use Rattle.std.specs.Str.{bytes_eq}
 use Rattle.cjc_vtable.proofs.Filed.{Has, at_front, behind}
 use Rattle.cjc_world.specs.Classes.{Class, class_named}
 use Rattle.cjc_world.specs.Interfaces.{Interface, each_once, gathered, is_among, known, where_listed}
-use Rattle.cjc_world.specs.Kin.{Above, directly, onwards, IsAcyclic, IsKin, ends, unknown_here, known_here, Kin, Lists, foremost, after, kin}
+use Rattle.cjc_world.specs.Supertypes.{Above, directly, onwards, IsAcyclic, AreSupertypes, ends, unknown_here, known_here, Supertypes, Lists, foremost, after, supertypes}
 use Rattle.cjc_world.proofs.Cycles.{class_named-name}
-use Rattle.cjc_world.proofs.Settled.{bytes-true, kin-IsKin, lists-behind, lists-front}
+use Rattle.cjc_world.proofs.Settled.{bytes-true, supertypes-AreSupertypes, lists-behind, lists-front}
 use Rattle.cjc_tokens.specs.Methods.{interfaces_at}
 use Rattle.cjc_tables_by_token.proofs.Filed.{has-back, has-front}
 use Rattle.cjc_tables_by_token.proofs.Order.{has-either}
@@ -41,7 +41,7 @@ module _ (w : List Class) where
   listed_one true h i (behind g) = elim g [ ]
   listed_one false h i g = elim g [ ]
 
-  gathered_are : (listed : Bool) (xs : List (List ℕ)) (k : Kin) → IsKin w xs k → (i : Interface) → Has i (gathered listed k) → IsGathered xs i
+  gathered_are : (listed : Bool) (xs : List (List ℕ)) (k : Supertypes) → AreSupertypes w xs k → (i : Interface) → Has i (gathered listed k) → IsGathered xs i
   unfolding gathered
   gathered_are listed xs k ends i h = elim h [ ]
   gathered_are listed (x ∷ xs) k (unknown_here {next = next} e rest) i h =
@@ -68,7 +68,7 @@ module _ (w : List Class) where
       (has-either i (A ++ B ++ C) (gathered listed next) h)
 
   -- each listed one is gathered
-  gathered_has : (xs : List (List ℕ)) (k : Kin) → IsKin w xs k → (y : List ℕ) → Lists y xs → Has (record { name = y; class = class_named w y }) (gathered true k)
+  gathered_has : (xs : List (List ℕ)) (k : Supertypes) → AreSupertypes w xs k → (y : List ℕ) → Lists y xs → Has (record { name = y; class = class_named w y }) (gathered true k)
   unfolding gathered
   gathered_has xs k ends y l = elim l [ ]
   gathered_has (x ∷ xs) k (unknown_here {next = next} e rest) y foremost =
@@ -147,7 +147,7 @@ known_has (j ∷ is) i d (behind h) e = has-back d (option_to_list j.class) (kno
 
 module _ (w : List Class) (acyclic : IsAcyclic w) (c : Class) where
   abbrev all : List Interface
-  all = gathered false (kin w c.supers) ++ gathered true (kin w c.interfaces)
+  all = gathered false (supertypes w c.supers) ++ gathered true (supertypes w c.interfaces)
 
   -- an interface of the class is that of its name, and stands above the class
   pub interface_is : (x : List ℕ) (d : Class) → class_named w x ≡ Some c → Has d (known (interfaces_at w c)) → (class_named w d.name ≡ Some d) × Above w x d.name
@@ -155,9 +155,9 @@ module _ (w : List Class) (acyclic : IsAcyclic w) (c : Class) where
   interface_is x d e h =
       let i = known_in (each_once [] all) d h in
       let r = ⊎_elim {C = IsGathered w (c.supers ++ c.interfaces) i.0}
-      (λ g. let q = gathered_are w false c.supers (kin w c.supers) (kin-IsKin w acyclic c.supers) i.0 g in (q.0, from_front w c.supers c.interfaces i.0.name q.1))
-      (λ g. let q = gathered_are w true c.interfaces (kin w c.interfaces) (kin-IsKin w acyclic c.interfaces) i.0 g in (q.0, from_back w c.supers c.interfaces i.0.name q.1))
-      (has-either i.0 (gathered false (kin w c.supers)) (gathered true (kin w c.interfaces)) (once_in [] all i.0 i.1)) in
+      (λ g. let q = gathered_are w false c.supers (supertypes w c.supers) (supertypes-AreSupertypes w acyclic c.supers) i.0 g in (q.0, from_front w c.supers c.interfaces i.0.name q.1))
+      (λ g. let q = gathered_are w true c.interfaces (supertypes w c.interfaces) (supertypes-AreSupertypes w acyclic c.interfaces) i.0 g in (q.0, from_back w c.supers c.interfaces i.0.name q.1))
+      (has-either i.0 (gathered false (supertypes w c.supers)) (gathered true (supertypes w c.interfaces)) (once_in [] all i.0 i.1)) in
       let named : class_named w i.0.name ≡ Some d = sym r.0 ∙ i.2 in
       let name_is = class_named-name w i.0.name d named in
       (ap (class_named w) name_is ∙ named, subst (Above w x) (sym name_is) (from_class w x c i.0.name e r.1))
@@ -167,11 +167,11 @@ module _ (w : List Class) (acyclic : IsAcyclic w) (c : Class) where
   unfolding interfaces_at
   interface_has y d l e =
       let one : Interface = record { name = y; class = class_named w y } in
-      let there = has-back one (gathered false (kin w c.supers)) (gathered true (kin w c.interfaces)) (gathered_has w c.interfaces (kin w c.interfaces) (kin-IsKin w acyclic c.interfaces) y l) in
+      let there = has-back one (gathered false (supertypes w c.supers)) (gathered true (supertypes w c.interfaces)) (gathered_has w c.interfaces (supertypes w c.interfaces) (supertypes-AreSupertypes w acyclic c.interfaces) y l) in
       let j = once_has [] all one there refl in
       let r = ⊎_elim
-      (λ g. (gathered_are w false c.supers (kin w c.supers) (kin-IsKin w acyclic c.supers) j.0 g).0)
-      (λ g. (gathered_are w true c.interfaces (kin w c.interfaces) (kin-IsKin w acyclic c.interfaces) j.0 g).0)
-      (has-either j.0 (gathered false (kin w c.supers)) (gathered true (kin w c.interfaces)) (once_in [] all j.0 j.1)) in
+      (λ g. (gathered_are w false c.supers (supertypes w c.supers) (supertypes-AreSupertypes w acyclic c.supers) j.0 g).0)
+      (λ g. (gathered_are w true c.interfaces (supertypes w c.interfaces) (supertypes-AreSupertypes w acyclic c.interfaces) j.0 g).0)
+      (has-either j.0 (gathered false (supertypes w c.supers)) (gathered true (supertypes w c.interfaces)) (once_in [] all j.0 j.1)) in
       let class_is : j.0.class ≡ Some d = r ∙ ap (class_named w) j.2 ∙ e in
       (d, known_has (each_once [] all) j.0 d j.1 class_is, class_named-name w y d e)

@@ -7,7 +7,7 @@ use Rattle.std.proofs.lemmas.Bool.{eqb-true}
 use Rattle.cjc_bytes.specs.AccessFlags.{is_interface}
 use Rattle.cjc_by_token.specs.Supers.{has_class}
 use Rattle.cjc_world.specs.Classes.{Class, class_named}
-use Rattle.cjc_world.specs.Kin.{Lists, foremost, after}
+use Rattle.cjc_world.specs.Supertypes.{Lists, foremost, after}
 use Rattle.cjc_world.specs.Lookup.{object}
 use Rattle.cjc_world.specs.Rules.{is_class_of, is_interface_of, is_missing, is_none_of, is_of_class_file, is_of_package, is_part, is_slash_part, lists_missing, lists_wrong}
 use Rattle.cjc_world.specs.Subtype.{starts}

@@ -12,7 +12,7 @@ use Rattle.cjc_export.specs.ExportFile.{class_token, token_taken}
 use Rattle.cjc_export.specs.Writable.{ClassFits, EachAfter}
 use Rattle.cjc_export.specs.declared.tree.ExportClass.{ExportClass}
 use Rattle.cjc_export.specs.declared.tree.ExportTree.{ExportTree}
-use Rattle.cjc_card.specs.Classes.{Class as CardClass, IsInterface, IsClass, Own, Foreign, foreign_from, infos, number_of, offset_of, or_else, token_named, with_token}
+use Rattle.cjc_card.specs.Classes.{Class as CardClass, IsInterface, IsClass, Own, External, external_from, infos, number_of, offset_of, or_else, token_named, with_token}
 use Rattle.cjc_subset.specs.Members.{imports}
 use Rattle.cjc_vtable.proofs.Filed.{Has, at_front, behind, get-has, has-get, of-imports}
 use Rattle.cjc_vtable.proofs.SlotNames.{position-at}
@@ -64,30 +64,30 @@ record InFile (n : ℕ) (trees : List ExportTree) (x : List ℕ) (class : CardCl
   in_list : slice_get trees file ≡ Some tree
   in_file : Has entry tree.classes
   named : entry.name ≡ x
-  is : class ≡ Foreign (n + file) entry.token
+  is : class ≡ External (n + file) entry.token
 
-file_found : (n : ℕ) (trees : List ExportTree) (x : List ℕ) (class : CardClass) → foreign_from n trees x ≡ Some class → InFile n trees x class
+file_found : (n : ℕ) (trees : List ExportTree) (x : List ℕ) (class : CardClass) → external_from n trees x ≡ Some class → InFile n trees x class
 file_found n [] x class e = cc
 file_found n (t ∷ trees) x class e = by (token_named t.classes x) refl e (file_found (n + 1) trees x class)
   where
-    by : (o : Option ℕ) → token_named t.classes x ≡ o → or_else (option_map (Foreign n) o) (foreign_from (n + 1) trees x) ≡ Some class → (foreign_from (n + 1) trees x ≡ Some class → InFile (n + 1) trees x class) → InFile n (t ∷ trees) x class
+    by : (o : Option ℕ) → token_named t.classes x ≡ o → or_else (option_map (External n) o) (external_from (n + 1) trees x) ≡ Some class → (external_from (n + 1) trees x ≡ Some class → InFile (n + 1) trees x class) → InFile n (t ∷ trees) x class
     by (Some token) f g rest =
         let r = token_found t.classes x token f in
         let z : n ≡ n + 0 = omega arith in
-        let same : class ≡ Foreign n token = cc in
-        record { file = 0; tree = t; entry = r.0; in_list = refl; in_file = r.1; named = r.2; is = same ∙ ap (λ (q : ℕ). Foreign n q) (sym r.3) ∙ ap (λ m. Foreign m r.0.token) z }
+        let same : class ≡ External n token = cc in
+        record { file = 0; tree = t; entry = r.0; in_list = refl; in_file = r.1; named = r.2; is = same ∙ ap (λ (q : ℕ). External n q) (sym r.3) ∙ ap (λ m. External m r.0.token) z }
     by None f g rest =
         let r = rest g in
         let s : n + 1 + r.file ≡ n + suc r.file = omega arith in
-        record { file = suc r.file; tree = r.tree; entry = r.entry; in_list = r.in_list; in_file = r.in_file; named = r.named; is = r.is ∙ ap (λ m. Foreign m (let q = r.entry in q.token)) s }
+        record { file = suc r.file; tree = r.tree; entry = r.entry; in_list = r.in_list; in_file = r.in_file; named = r.named; is = r.is ∙ ap (λ m. External m (let q = r.entry in q.token)) s }
 
-file_there : (n : ℕ) (trees : List ExportTree) (t : ExportTree) (e : ExportClass) → Has t trees → Has e t.classes → (class : CardClass) × (foreign_from n trees e.name ≡ Some class)
+file_there : (n : ℕ) (trees : List ExportTree) (t : ExportTree) (e : ExportClass) → Has t trees → Has e t.classes → (class : CardClass) × (external_from n trees e.name ≡ Some class)
 file_there n [] t e h g = elim h [ ]
-file_there n (u ∷ trees) t e at_front g = let r = token_there t.classes e g in (Foreign n r.0, ap (λ o. or_else (option_map (Foreign n) o) (foreign_from (n + 1) trees e.name)) r.1)
+file_there n (u ∷ trees) t e at_front g = let r = token_there t.classes e g in (External n r.0, ap (λ o. or_else (option_map (External n) o) (external_from (n + 1) trees e.name)) r.1)
 file_there n (u ∷ trees) t e (behind h) g = by (token_named u.classes e.name) (file_there (n + 1) trees t e h g)
   where
-    by : (o : Option ℕ) → (class : CardClass) × (foreign_from (n + 1) trees e.name ≡ Some class) → (class : CardClass) × (or_else (option_map (Foreign n) o) (foreign_from (n + 1) trees e.name) ≡ Some class)
-    by (Some token) r = (Foreign n token, refl)
+    by : (o : Option ℕ) → (class : CardClass) × (external_from (n + 1) trees e.name ≡ Some class) → (class : CardClass) × (or_else (option_map (External n) o) (external_from (n + 1) trees e.name) ≡ Some class)
+    by (Some token) r = (External n token, refl)
     by None r = r
 
 -- ---- each token once
@@ -147,7 +147,7 @@ module _ (list : List ℕ) (p : Package) (sound : IsSound list p.files) where
   has_imports (u ∷ trees) t e at_front g = has-front e t.classes (imports trees) g
   has_imports (u ∷ trees) t e (behind h) g = has-back e u.classes (imports trees) (has_imports trees t e h g)
 
-  found_by : (x : List ℕ) (class : CardClass) → foreign_from 0 exports x ≡ Some class → Found x class
+  found_by : (x : List ℕ) (class : CardClass) → external_from 0 exports x ≡ Some class → Found x class
   found_by x class e =
       let r = file_found 0 exports x class e in
       let m = has-get r.entry (imports exports) (has_imports exports r.tree r.entry (get-has r.tree exports r.file r.in_list) r.in_file) in
@@ -173,10 +173,10 @@ module _ (list : List ℕ) (p : Package) (sound : IsSound list p.files) where
       no_interface true h = cc
       no_interface false h = refl
 
-  not_in_files : (c : Class) → Has c w → c.is_imported ≡ false → foreign_from 0 exports c.name ≡ None
-  not_in_files c h e = by (foreign_from 0 exports c.name) refl
+  not_in_files : (c : Class) → Has c w → c.is_imported ≡ false → external_from 0 exports c.name ≡ None
+  not_in_files c h e = by (external_from 0 exports c.name) refl
     where
-      by : (o : Option CardClass) → foreign_from 0 exports c.name ≡ o → o ≡ None
+      by : (o : Option CardClass) → external_from 0 exports c.name ≡ o → o ≡ None
       by None f = refl
       by (Some class) f =
           let r = found_by c.name class f in
@@ -198,7 +198,7 @@ module _ (list : List ℕ) (p : Package) (sound : IsSound list p.files) where
         number = k.0;
         offset = r.0;
         ordered = k.1;
-        on_card = ap (λ o. unwrap_or (or_else (option_map (Own 0) o) (foreign_from 0 exports c.name)) (Own 0 0)) offset;
+        on_card = ap (λ o. unwrap_or (or_else (option_map (Own 0) o) (external_from 0 exports c.name)) (Own 0 0)) offset;
         ref = r.2;
         numbered = numbered;
         at = at;
@@ -230,16 +230,16 @@ module _ (list : List ℕ) (p : Package) (sound : IsSound list p.files) where
       let t = of-imports r.1 exports (get-has r.1 (imports exports) r.0 r.2) in
       let name_is : (let q = r.1 in q.name) ≡ c.name = ap (λ (v : Class). v.name) (sym r.3) in
       let there = file_there 0 exports t.0 r.1 t.1 t.2 in
-      let found : foreign_from 0 exports c.name ≡ Some there.0 = ap (foreign_from 0 exports) (sym name_is) ∙ there.1 in
+      let found : external_from 0 exports c.name ≡ Some there.0 = ap (external_from 0 exports) (sym name_is) ∙ there.1 in
       let s = found_by c.name there.0 found in
       let f = s.in_file in
       let both : Some c ≡ Some (imported s.number f.entry) = sym (own_name list p.files sound c h) ∙ s.is in
       let is : c ≡ imported s.number f.entry = cc in
       let none = no_place c.name (λ d g i. (let one : Some c ≡ Some d = sym (own_name list p.files sound c h) ∙ g in let same : c ≡ d = cc in let clash = ap (λ (v : Class). v.is_imported) same in cc)) in
       let z : 0 + f.file ≡ f.file = omega arith in
-      let class_is : there.0 ≡ Foreign f.file f.entry.token = f.is ∙ ap (λ m. Foreign m (let q = f.entry in q.token)) z in
-      let on_card : class_at p c.name ≡ Foreign f.file f.entry.token =
-      ap (λ o. unwrap_or (or_else (option_map (Own 0) o) (foreign_from 0 exports c.name)) (Own 0 0)) (no_offset c.name none) ∙ ap (λ o. unwrap_or o (Own 0 0)) found ∙ class_is in
+      let class_is : there.0 ≡ External f.file f.entry.token = f.is ∙ ap (λ m. External m (let q = f.entry in q.token)) z in
+      let on_card : class_at p c.name ≡ External f.file f.entry.token =
+      ap (λ o. unwrap_or (or_else (option_map (Own 0) o) (external_from 0 exports c.name)) (Own 0 0)) (no_offset c.name none) ∙ ap (λ o. unwrap_or o (Own 0 0)) found ∙ class_is in
       let read = sound.read in
       let tree = read.exports f.file f.tree f.in_list in
       record {
@@ -259,13 +259,13 @@ module _ (list : List ℕ) (p : Package) (sound : IsSound list p.files) where
   pub has_none : (x : List ℕ) → class_named w x ≡ None → HasNone p x
   has_none x e =
       let none = no_place x (λ c f g. (let clash : None ≡ Some c = sym e ∙ f in cc)) in
-      let no_file = by (foreign_from 0 exports x) refl in
+      let no_file = by (external_from 0 exports x) refl in
       record {
-        on_card = ap (λ o. unwrap_or (or_else (option_map (Own 0) o) (foreign_from 0 exports x)) (Own 0 0)) (no_offset x none) ∙ ap (λ o. unwrap_or o (Own 0 0)) no_file;
+        on_card = ap (λ o. unwrap_or (or_else (option_map (Own 0) o) (external_from 0 exports x)) (Own 0 0)) (no_offset x none) ∙ ap (λ o. unwrap_or o (Own 0 0)) no_file;
         in_no_file = no_file;
         has_no_info = numbers_named p x ∙ none;
       }
     where
-      by : (o : Option CardClass) → foreign_from 0 exports x ≡ o → o ≡ None
+      by : (o : Option CardClass) → external_from 0 exports x ≡ o → o ≡ None
       by None f = refl
       by (Some class) f = let r = found_by x class f in let clash : None ≡ Some (imported r.number (let q = r.in_file in q.entry)) = sym e ∙ r.is in cc

@@ -9,17 +9,17 @@ use Rattle.cjc_bytes.specs.AccessFlags.{is_abstract, is_static, is_interface}
 use Rattle.cjc_bytes.specs.declared.fault.MemberId.{MemberId}
 use Rattle.cjc_classfile.specs.declared.tree.ClassTree.{ClassTree}
 use Rattle.cjc_classfile.specs.declared.tree.FieldTree.{FieldTree}
-use Rattle.cjc_card.specs.Classes.{Class as CardClass, Info, IsInterface, IsClass, Own, Foreign, class_of, depth, info_of, info_size, infos, offset_from, superclass as superclass_on_card, superclass_by}
+use Rattle.cjc_card.specs.Classes.{Class as CardClass, Info, IsInterface, IsClass, Own, External, class_of, depth, info_of, info_size, infos, offset_from, superclass as superclass_on_card, superclass_by}
 use Rattle.cjc_clinit.specs.Image.{field_id}
 use Rattle.cjc_script.specs.Sorts.{field_sort}
 use Rattle.cjc_tokens.specs.Fields.{instance_cells, instance_token, is_instance}
 use Rattle.cjc_vtable.proofs.Filed.{Has, at_front, behind}
 use Rattle.cjc_world.specs.Classes.{Class, class_named, declared, field_of_class}
-use Rattle.cjc_world.specs.Kin.{IsKin, ends, unknown_here, known_here, Kin, Lists, foremost, after, kin, line, upwards}
+use Rattle.cjc_world.specs.Supertypes.{AreSupertypes, ends, unknown_here, known_here, Supertypes, Lists, foremost, after, supertypes, line, upwards}
 use Rattle.cjc_world.specs.Order.{class_order}
 use Rattle.cjc_world.specs.Rules.{is_interface_of, is_of_class_file}
 use Rattle.cjc_world.proofs.Cycles.{class_named-name}
-use Rattle.cjc_world.proofs.Settled.{Settles, nothing, something, clear_settles, kin-IsKin, lists-front}
+use Rattle.cjc_world.proofs.Settled.{Settles, nothing, something, clear_settles, supertypes-AreSupertypes, lists-front}
 use Rattle.cjc_world.proofs.Unbroken.{unbroken_is_acyclic}
 use Rattle.cjc_world.proofs.Upwards.{line_goes_up}
 use Rattle.cjc_by_name.specs.OnePackage.{declared_fields, instance_fields, member_of, object_fields}
@@ -115,7 +115,7 @@ module _ (list : List ℕ) (p : Package) (sound : IsSound list p.files) (typed :
             by : (b : Bool) → d.is_imported ≡ b → (d.is_imported || is_one_of f (declared_fields d)) ≡ true → is_one_of f own_fields ≡ true
             by true im g =
                 let r = entry_of_name list p sound f.class d h im in
-                let clash : Foreign r.file (let q = r.entry in q.token) ≡ Own 0 (let r = own_entry in r.offset) = sym r.on_card ∙ ap (class_at p) (class_named-name w f.class d h) ∙ at in
+                let clash : External r.file (let q = r.entry in q.token) ≡ Own 0 (let r = own_entry in r.offset) = sym r.on_card ∙ ap (class_at p) (class_named-name w f.class d h) ∙ at in
                 cc
             by false im g =
                 let same = once list p sound f.class t.name (ap is_some h) (ap is_some by_name) (at ∙ sym (let i = own_entry in i.on_card)) in
@@ -130,7 +130,7 @@ module _ (list : List ℕ) (p : Package) (sound : IsSound list p.files) (typed :
   none_in f (d ∷ cs) h =
       ap (flat_map f) (reverse_onto cs d []) ∙ flat_map-append f (reverse cs) (d ∷ []) ∙ ap (λ xs. xs ++ (f d ++ [])) (none_in f cs (λ e g. h e (behind g))) ∙ ap (λ xs. xs ++ []) (h d at_front)
 
-  imports_up : (xs : List (List ℕ)) (k : Kin) → IsKin w xs k → ((y : List ℕ) (d : Class) → Lists y xs → class_named w y ≡ Some d → d.is_imported ≡ true) → (d : Class) → Has d (upwards k) → d.is_imported ≡ true
+  imports_up : (xs : List (List ℕ)) (k : Supertypes) → AreSupertypes w xs k → ((y : List ℕ) (d : Class) → Lists y xs → class_named w y ≡ Some d → d.is_imported ≡ true) → (d : Class) → Has d (upwards k) → d.is_imported ≡ true
   imports_up xs k ends h d g = elim g [ ]
   imports_up (x ∷ xs) k (unknown_here {next = next} e rest) h d g = imports_up xs next rest (λ y b l m. h y b (after l) m) d g
   imports_up (x ∷ xs) k (known_here {c = b} {supers = supers} {interfaces = interfaces} {next = next} e s i rest) h d g =
@@ -157,7 +157,7 @@ module _ (list : List ℕ) (p : Package) (sound : IsSound list p.files) (typed :
   imported_fields : (x : List ℕ) (c : Class) → class_named w x ≡ Some c → c.is_imported ≡ true → object_fields w x ≡ []
   unfolding line
   imported_fields x c e im =
-      none_in declared_fields (upwards (kin w (x ∷ []))) (λ d h. ap (λ b. if b then [] else instance_fields d.name d.fields) (imports_up (x ∷ []) (kin w (x ∷ [])) (kin-IsKin w (unbroken_is_acyclic list p.files sound.unbroken) (x ∷ [])) (λ y b l m. one y b l m) d h))
+      none_in declared_fields (upwards (supertypes w (x ∷ []))) (λ d h. ap (λ b. if b then [] else instance_fields d.name d.fields) (imports_up (x ∷ []) (supertypes w (x ∷ [])) (supertypes-AreSupertypes w (unbroken_is_acyclic list p.files sound.unbroken) (x ∷ [])) (λ y b l m. one y b l m) d h))
     where
       one : (y : List ℕ) (b : Class) → Lists y (x ∷ []) → class_named w y ≡ Some b → b.is_imported ≡ true
       one y b foremost m = let both : Some b ≡ Some c = sym m ∙ e in let is : b ≡ c = cc in ap (λ (v : Class). v.is_imported) is ∙ im
@@ -234,7 +234,7 @@ module _ (list : List ℕ) (p : Package) (sound : IsSound list p.files) (typed :
   of_import x c e im =
       let none = imported_fields x c e im in
       let r = entry_of_name list p sound x c e im in
-      let place : class_at p x ≡ Foreign r.file (let q = r.entry in q.token) = ap (class_at p) (sym (class_named-name w x c e)) ∙ r.on_card in
+      let place : class_at p x ≡ External r.file (let q = r.entry in q.token) = ap (class_at p) (sym (class_named-name w x c e)) ∙ r.on_card in
       record {
         height = 0;
         declared = subst (λ fs. Declares (naming p) (may_name w) 0 (Some (class_at p x)) fs) (sym none) (subst (λ q. Declares (naming p) (may_name w) 0 (Some q) []) (sym place) imported);
@@ -290,13 +290,13 @@ module _ (list : List ℕ) (p : Package) (sound : IsSound list p.files) (typed :
       height_at : (k : ℕ) → slice_get (class_order w) k ≡ Some c → suc h.height ≤ suc k
       height_at k q = go d.is_imported refl
         where
-          zero_height : (height : ℕ) (fs : List MemberId) (file token : ℕ) → Declares (naming p) (may_name w) height (Some (Foreign file token)) fs → height ≡ 0
+          zero_height : (height : ℕ) (fs : List MemberId) (file token : ℕ) → Declares (naming p) (may_name w) height (Some (External file token)) fs → height ≡ 0
           zero_height height fs file token imported = refl
 
           go : (b : Bool) → d.is_imported ≡ b → suc h.height ≤ suc k
           go true im =
               let r = entry_of_name list p sound s d f im in
-              let place : class_at p s ≡ Foreign r.file (let v = r.entry in v.token) = ap (class_at p) (sym (class_named-name w s d f)) ∙ r.on_card in
+              let place : class_at p s ≡ External r.file (let v = r.entry in v.token) = ap (class_at p) (sym (class_named-name w s d f)) ∙ r.on_card in
               let none = zero_height h.height (object_fields w s) r.file (let v = r.entry in v.token) (subst (λ v. Declares (naming p) (may_name w) h.height (Some v) (object_fields w s)) place h.declared) in
               omega (arith, none)
           go false im =
@@ -323,7 +323,7 @@ module _ (list : List ℕ) (p : Package) (sound : IsSound list p.files) (typed :
           go : (b : Bool) → d.is_imported ≡ b → StandsBefore 0 i.offset (Some q)
           go true im =
               let r = entry_of_name list p sound s d f im in
-              let place : q ≡ Foreign r.file (let v = r.entry in v.token) = sym g ∙ ap (class_at p) (sym (class_named-name w s d f)) ∙ r.on_card in
+              let place : q ≡ External r.file (let v = r.entry in v.token) = sym g ∙ ap (class_at p) (sym (class_named-name w s d f)) ∙ r.on_card in
               subst (λ v. StandsBefore 0 i.offset (Some v)) (sym place) stands_imported
           go false im =
               let r = info_of_name list p sound s d f im in

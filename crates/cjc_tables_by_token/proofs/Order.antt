@@ -12,7 +12,7 @@ use Rattle.cjc_vtable.proofs.Filed.{Has, at_front, behind, has-get}
 use Rattle.cjc_vtable.proofs.SlotNames.{get-behind}
 use Rattle.cjc_world.specs.Files.{Files}
 use Rattle.cjc_world.specs.Classes.{Class, all_classes, class_named}
-use Rattle.cjc_world.specs.Kin.{Lists, foremost, after}
+use Rattle.cjc_world.specs.Supertypes.{Lists, foremost, after}
 use Rattle.cjc_world.specs.Order.{and_then, class_order, in_order, is_in, is_of_kind, lined_up, may_stand, names_waiting, next, waits}
 use Rattle.cjc_world.proofs.Settled.{Settles, nothing, something, bytes-refl, bytes-true, clear_settles, lists-behind, lists-front}
 use Rattle.cjc_world.proofs.Unbroken.{unbroken_is_acyclic}

@@ -2,13 +2,13 @@
 use Rattle.std.proofs.Common.{◌≡◌, ℕ, zero, suc, ◌+◌, ◌^◌, refl, sym, ap, subst, ◌∙◌, arith, Bool, true, false, List, [], ◌∷◌, ◌++◌, length, length-append, inl, inr, ⊎_elim, take}
 use Rattle.std.specs.Prelude.{not, ◌&&◌, ◌||◌, ◌==◌, ◌-◌, ◌⊎◌, Option, Some, None, is_some, option_and_then, slice_get, unwrap_or, if◌then◌else◌}
 use Rattle.std.proofs.lemmas.Bool.{eqb-true, lt-ltb}
-use Rattle.cjc_bytes.specs.Breaks.{Break, Spot, at, each_from}
+use Rattle.cjc_bytes.specs.Breaks.{Break, RulePlace, at, each_from}
 use Rattle.cjc_bytes.specs.Order.{file_of}
 use Rattle.cjc_bytes.specs.Descriptor.{IsClassName, IsDescriptor, IsName, IsType, Part, Parts, array, base, base_kind, field, is_name_byte, method, object, plain}
 use Rattle.cjc_bytes.specs.Descriptor as spelling
 use Rattle.cjc_bytes.specs.Spots.{desc_of, part_of}
-use Rattle.cjc_bytes.specs.declared.names.Kind.{Kind}
-use Rattle.cjc_bytes.specs.declared.names.Kind.TheVariants as kinds
+use Rattle.cjc_bytes.specs.declared.descriptor.Kind.{Kind}
+use Rattle.cjc_bytes.specs.declared.descriptor.Kind.TheVariants as kinds
 use Rattle.cjc_bytes.proofs.DescriptorTypes.{desc_read, desc_spelt}
 use Rattle.cjc_card.specs.ByToken.{letter_of}
 use Rattle.cjc_code.specs.declared.method_code.MethodCode.{MethodCode}
@@ -19,7 +19,7 @@ use Rattle.cjc_subset.specs.Checks.{check_breaks, class_breaks, code_breaks, fie
 use Rattle.cjc_subset.specs.Flags.{is_unfit_field}
 use Rattle.cjc_subset.specs.Overriding.{overriding_breaks}
 use Rattle.cjc_subset.specs.Places.{at_field}
-use Rattle.cjc_subset.specs.Types.{is_any_foreign, is_foreign_desc, is_foreign_element, is_foreign_name, is_foreign_part, is_int_desc, is_other}
+use Rattle.cjc_subset.specs.Types.{is_any_unsupported, is_unsupported_desc, is_unsupported_element, is_unsupported_name, is_unsupported_part, is_int_desc, is_other}
 use Rattle.cjc_tokens.specs.Fields.{is_reference}
 use Rattle.cjc_by_token.specs.Objects.{is_reference as is_reference_sort}
 use Rattle.cjc_world.specs.Files.{Files}
@@ -43,20 +43,20 @@ is_plain kinds.Short = true
 is_plain kinds.Int = true
 is_plain _ = false
 
--- a letter is of a type that values have, or it is foreign
-letters : (b : ℕ) (kind : Kind) → base_kind b ≡ Some kind → (is_plain kind ≡ true) ⊎ ((is_other kind ≡ true) × (is_foreign_element (b ∷ []) ≡ true))
+-- a letter is of a type that values have, or it is unsupported
+letters : (b : ℕ) (kind : Kind) → base_kind b ≡ Some kind → (is_plain kind ≡ true) ⊎ ((is_other kind ≡ true) × (is_unsupported_element (b ∷ []) ≡ true))
 unfolding is_plain
 letters b kind e = go (b == 66) (b == 67) (b == 68) (b == 70) (b == 73) (b == 74) (b == 83) (b == 90) refl refl refl refl e
   where
-    good : (k : Kind) → Some k ≡ Some kind → is_plain k ≡ true → (is_plain kind ≡ true) ⊎ ((is_other kind ≡ true) × (is_foreign_element (b ∷ []) ≡ true))
+    good : (k : Kind) → Some k ≡ Some kind → is_plain k ≡ true → (is_plain kind ≡ true) ⊎ ((is_other kind ≡ true) × (is_unsupported_element (b ∷ []) ≡ true))
     good k same h = let is : k ≡ kind = cc in inl (ap is_plain (sym is) ∙ h)
 
-    bad : Some kinds.Other ≡ Some kind → (c : ℕ) → (b == c) ≡ true → is_foreign_element (c ∷ []) ≡ true → (is_plain kind ≡ true) ⊎ ((is_other kind ≡ true) × (is_foreign_element (b ∷ []) ≡ true))
-    bad same c at h = let is : kinds.Other ≡ kind = cc in inr (ap is_other (sym is), ap (λ x. is_foreign_element (x ∷ [])) (eqb-true b c at) ∙ h)
+    bad : Some kinds.Other ≡ Some kind → (c : ℕ) → (b == c) ≡ true → is_unsupported_element (c ∷ []) ≡ true → (is_plain kind ≡ true) ⊎ ((is_other kind ≡ true) × (is_unsupported_element (b ∷ []) ≡ true))
+    bad same c at h = let is : kinds.Other ≡ kind = cc in inr (ap is_other (sym is), ap (λ x. is_unsupported_element (x ∷ [])) (eqb-true b c at) ∙ h)
 
     go : (x1 x2 x3 x4 x5 x6 x7 x8 : Bool) → (b == 67) ≡ x2 → (b == 68) ≡ x3 → (b == 70) ≡ x4 → (b == 74) ≡ x6
         → (if x1 then Some kinds.Byte else if x2 then Some kinds.Other else if x3 then Some kinds.Other else if x4 then Some kinds.Other else if x5 then Some kinds.Int else if x6 then Some kinds.Other else if x7 then Some kinds.Short else if x8 then Some kinds.Bool else None) ≡ Some kind
-        → (is_plain kind ≡ true) ⊎ ((is_other kind ≡ true) × (is_foreign_element (b ∷ []) ≡ true))
+        → (is_plain kind ≡ true) ⊎ ((is_other kind ≡ true) × (is_unsupported_element (b ∷ []) ≡ true))
     go true x2 x3 x4 x5 x6 x7 x8 p q r s f = good kinds.Byte f refl
     go false true x3 x4 x5 x6 x7 x8 p q r s f = bad f 67 p refl
     go false false true x4 x5 x6 x7 x8 p q r s f = bad f 68 q refl
@@ -141,7 +141,7 @@ some_shape (Some x) e = (x, refl)
 array_typed : (bytes : List ℕ) → is_some (shape_named (91 ∷ bytes)) ≡ true → Typed (record { kind = kinds.Ref; class = 91 ∷ bytes }) (91 ∷ bytes)
 array_typed bytes e = let r = some_shape (shape_named (91 ∷ bytes)) e in (ap (λ o. is_some (letter_of (reference_to o))) r.1, ap (λ o. is_reference_sort (reference_to o)) r.1)
 
-element_shape : {d : Part} {bytes : List ℕ} → IsType d bytes → is_foreign_element bytes ≡ false → is_some (shape_named (91 ∷ bytes)) ≡ true
+element_shape : {d : Part} {bytes : List ℕ} → IsType d bytes → is_unsupported_element bytes ≡ false → is_some (shape_named (91 ∷ bytes)) ≡ true
 element_shape (base {b = b} {kind = kind} e) f =
     let described = desc_read _ (91 ∷ b ∷ []) (field (array (base e))) in
     let n = no_reference b kind e in
@@ -158,11 +158,11 @@ element_shape (object {name = name} spelt) f =
     ∙ ap (λ q. is_some (if q then None else Some (OfReferences (h.byte ∷ h.more)))) h.no_array
 element_shape (array t) f = cc
 
-type_typed : {d : Part} {bytes : List ℕ} → IsType d bytes → is_foreign_part d ≡ false → Typed d bytes
+type_typed : {d : Part} {bytes : List ℕ} → IsType d bytes → is_unsupported_part d ≡ false → Typed d bytes
 type_typed (base {b = b} {kind = kind} e) f =
     let n = no_reference b kind e in
     let nothing : is_reference (b ∷ []) ≡ false = ap (λ q. q || (b == 91)) n.0 ∙ n.1 in
-    ⊎_elim {C = Typed (plain kind) (b ∷ [])} (λ p. (let r = plain_sort kind p in (r.0, r.1 ∙ sym nothing))) (λ r. (let clash : true ≡ false = sym r.0 ∙ or_left (is_other kind) (is_foreign_name []) f in absurd (cc))) (letters b kind e)
+    ⊎_elim {C = Typed (plain kind) (b ∷ [])} (λ p. (let r = plain_sort kind p in (r.0, r.1 ∙ sym nothing))) (λ r. (let clash : true ≡ false = sym r.0 ∙ or_left (is_other kind) (is_unsupported_name []) f in absurd (cc))) (letters b kind e)
 type_typed (object {name = name} spelt) f =
     let h = class_begins name spelt in
     let shape : shape_named name ≡ Some (OfClass (h.byte ∷ h.more)) = ap shape_named h.is ∙ ap (λ q. if q then option_and_then (λ d. array_by (part_of h.more)) (desc_of (h.byte ∷ h.more)) else Some (OfClass (h.byte ∷ h.more))) h.no_array in
@@ -171,15 +171,15 @@ type_typed (array {bytes = bytes} t) f = array_typed bytes (element_shape t f)
 
 -- ---- a descriptor
 
-result_typed : {d : Parts} {desc : List ℕ} → IsDescriptor d desc → d.is_method ≡ false → is_any_foreign (Some d) ≡ false → Typed d.result desc
-result_typed (field {p = part} t) m f = type_typed t (or_left (is_foreign_part part) false f)
+result_typed : {d : Parts} {desc : List ℕ} → IsDescriptor d desc → d.is_method ≡ false → is_any_unsupported (Some d) ≡ false → Typed d.result desc
+result_typed (field {p = part} t) m f = type_typed t (or_left (is_unsupported_part part) false f)
 result_typed (method ts r) m f = cc
 
-desc_typed : (desc : List ℕ) → IsFieldDesc desc → is_foreign_desc desc ≡ false → IsTyped desc
-unfolding is_foreign_desc
-desc_typed desc h foreign =
-    let parts : is_any_foreign (desc_of desc) ≡ false = ap (λ b. b && is_any_foreign (desc_of desc)) (sym (lt-ltb (length desc) (2 ^ 32) h.short)) ∙ foreign in
-    let r = result_typed (desc_spelt h.parts desc h.is_desc) h.is_field (ap is_any_foreign (sym h.is_desc) ∙ parts) in
+desc_typed : (desc : List ℕ) → IsFieldDesc desc → is_unsupported_desc desc ≡ false → IsTyped desc
+unfolding is_unsupported_desc
+desc_typed desc h external =
+    let parts : is_any_unsupported (desc_of desc) ≡ false = ap (λ b. b && is_any_unsupported (desc_of desc)) (sym (lt-ltb (length desc) (2 ^ 32) h.short)) ∙ external in
+    let r = result_typed (desc_spelt h.parts desc h.is_desc) h.is_field (ap is_any_unsupported (sym h.is_desc) ∙ parts) in
     record { some = ap (λ o. is_some (letter_of (sort_or_none o))) h.is_desc ∙ r.0; reference = ap (λ o. is_reference_sort (sort_or_none o)) h.is_desc ∙ r.1 }
 
 -- ---- 301
@@ -190,7 +190,7 @@ each_none f i [] e k x h = cc
 each_none f i (y ∷ xs) e zero x h = let is : y ≡ x = cc in let z : i + 0 ≡ i = omega arith in ap (λ j. f j x) z ∙ ap (f i) (sym is) ∙ nil_front (f i y) (each_from f (i + 1) xs) e
 each_none f i (y ∷ xs) e (suc k) x h = let s : i + suc k ≡ i + 1 + k = omega arith in ap (λ j. f j x) s ∙ each_none f (i + 1) xs (nil_back (f i y) (each_from f (i + 1) xs) e) k x h
 
-not_at : (b : Bool) (s : Spot) (rule : ℕ) → at b s rule ≡ [] → b ≡ false
+not_at : (b : Bool) (s : RulePlace) (rule : ℕ) → at b s rule ≡ [] → b ≡ false
 not_at true s rule e = cc
 not_at false s rule e = refl
 
@@ -210,7 +210,7 @@ fields_typed list files codes settings read e n k c f is_class is_field =
     let M = each_from (λ i m. method_breaks settings p c i m) 0 c.methods in
     let fields = each_none (λ i m. field_breaks settings p c i m) 0 c.fields (nil_back O F (nil_front (O ++ F) M (nil_front (O ++ F ++ M) (overriding_breaks files p c) here))) k f is_field in
     let one : field_breaks settings p c k f ≡ [] = subst (λ m. field_breaks settings p c m f ≡ []) y fields in
-    let X = at (is_foreign_desc f.desc) (at_field p c k f) 301 in
+    let X = at (is_unsupported_desc f.desc) (at_field p c k f) 301 in
     let Y = at (not settings.ints && is_int_desc f.desc) (at_field p c k f) 302 in
     let Z = at (is_unfit_field (is_interface c.flags) f.flags) (at_field p c k f) 304 in
-    desc_typed f.desc (read n k c f is_class is_field) (not_at (is_foreign_desc f.desc) (at_field p c k f) 301 (nil_front X Y (nil_front (X ++ Y) Z one)))
+    desc_typed f.desc (read n k c f is_class is_field) (not_at (is_unsupported_desc f.desc) (at_field p c k f) 301 (nil_front X Y (nil_front (X ++ Y) Z one)))

@@ -2,7 +2,7 @@
 use Rattle.std.specs.Prelude.{◌≡◌, ℕ, List, Some, None, slice_get}
 use Rattle.cjc_export.specs.declared.tree.ExportClass.{ExportClass}
 use Rattle.cjc_export.specs.declared.tree.ExportTree.{ExportTree}
-use Rattle.cjc_card.specs.Classes.{Own, Foreign, foreign, foreign_named, info_of, names_of, number_named, number_of, offset_of}
+use Rattle.cjc_card.specs.Classes.{Own, External, external, external_named, info_of, names_of, number_named, number_of, offset_of}
 use Rattle.cjc_capread.specs.declared.tree.ClassRef.TheVariants.{Inside, Outside}
 use Rattle.cjc_world.specs.Classes.{Class, imported}
 use Rattle.cjc_world.specs.Order.{class_order}
@@ -23,7 +23,7 @@ pub record HasInfo (p : Package) (c : Class) : Type 0 where
   pub named : (let q = part p in number_named q.classes c.name ≡ Some number)
   pub info : info_of (loaded p) 0 offset ≡ Some (info_for p c)
   pub names : names_of (loaded p) 0 offset ≡ Some (class_names p.files (tokens p) c)
-  pub in_no_file : foreign_named (loaded p) c.name ≡ None
+  pub in_no_file : external_named (loaded p) c.name ≡ None
 
 -- A class of an export file is found there by its name and by its token, and no info has its name.
 pub record HasEntry (p : Package) (c : Class) : Type 0 where
@@ -32,15 +32,15 @@ pub record HasEntry (p : Package) (c : Class) : Type 0 where
   pub entry : ExportClass
   pub number : ℕ
   pub in_list : (let files = p.files in slice_get files.exports file ≡ Some tree)
-  pub on_card : class_at p c.name ≡ Foreign file entry.token
+  pub on_card : class_at p c.name ≡ External file entry.token
   pub ref : class_ref p c.name ≡ Outside file entry.token
-  pub found : foreign_named (loaded p) c.name ≡ Some (Foreign file entry.token)
-  pub there : foreign (loaded p) file entry.token ≡ Some entry
+  pub found : external_named (loaded p) c.name ≡ Some (External file entry.token)
+  pub there : external (loaded p) file entry.token ≡ Some entry
   pub class : c ≡ imported number entry
   pub has_no_info : (let q = part p in number_named q.classes c.name ≡ None)
 
 -- A name of no file is no class on the card.
 pub record HasNone (p : Package) (x : List ℕ) : Type 0 where
   pub on_card : class_at p x ≡ Own 0 0
-  pub in_no_file : foreign_named (loaded p) x ≡ None
+  pub in_no_file : external_named (loaded p) x ≡ None
   pub has_no_info : (let q = part p in number_named q.classes x ≡ None)

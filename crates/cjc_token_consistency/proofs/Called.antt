@@ -13,7 +13,7 @@ use Rattle.cjc_sentences.specs.Classes.{first_class}
 use Rattle.cjc_sentences.specs.Members.{has_above, has_virtual, superclass_has}
 use Rattle.cjc_sentences.specs.PoolEntries.{names_member}
 use Rattle.cjc_world.specs.Classes.{Class, class_named}
-use Rattle.cjc_world.specs.Kin.{IsKin, Kin, Lists, foremost, kin}
+use Rattle.cjc_world.specs.Supertypes.{AreSupertypes, Supertypes, Lists, foremost, supertypes}
 use Rattle.cjc_world.specs.Order.{in_order}
 use Rattle.cjc_world.specs.Rules.{is_interface_of}
 use Rattle.cjc_world.proofs.Cycles.{class_named-name}
@@ -61,7 +61,7 @@ item_there size some from (y ∷ xs) (suc k) s x e f =
     let other : (from == s) ≡ false = grind (arith, nat_tests, low, more) in
     ap (λ b. option_map (λ q. q.item) (cond b (Some (record { at = from; item = y })) (find (λ q. q.at == s) (placed size (from + size y) xs)))) other ∙ item_there size some (from + size y) xs k s x e f
 
-module _ (list : List ℕ) (p : Package) (sound : IsSound list p.files) (is_kin : (xs : List (List ℕ)) → IsKin (world p) xs (kin (world p) xs)) (one_kin : (xs : List (List ℕ)) (j k : Kin) → IsKin (world p) xs j → IsKin (world p) xs k → j ≡ k)
+module _ (list : List ℕ) (p : Package) (sound : IsSound list p.files) (are_supertypes : (xs : List (List ℕ)) → AreSupertypes (world p) xs (supertypes (world p) xs)) (one_supertypes : (xs : List (List ℕ)) (j k : Supertypes) → AreSupertypes (world p) xs j → AreSupertypes (world p) xs k → j ≡ k)
     (rules : KeepsRules (world p)) (tokens : KeepsTokens (world p)) (mean : TokensMean (world p)) (mean_here : PackageTokensMean (world p)) (virtual_calls : VirtualCallsAgree (world p)) (once : TokensAreOnce (world p)) where
   abbrev w : List Class
   w = world p
@@ -80,7 +80,7 @@ module _ (list : List ℕ) (p : Package) (sound : IsSound list p.files) (is_kin 
         let r = mean m.class d known class_here (signature m) t e in
         record {
           number = t;
-          there = open_there list p sound is_kin one_kin rules m.class d known class_here t (tokens m.class d (signature m) t known class_here e) r.method r.by_token;
+          there = open_there list p sound are_supertypes one_supertypes rules m.class d known class_here t (tokens m.class d (signature m) t known class_here e) r.method r.by_token;
           is = λ line alike open_same hidden_same.
               ap (λ b. if b then with_high_bit (or_zero (token (hidden_slots line) (signature m))) else or_zero (token (slots line) (signature m))) (alike ∙ none)
               ∙ ap or_zero (open_same t e);
@@ -91,7 +91,7 @@ module _ (list : List ℕ) (p : Package) (sound : IsSound list p.files) (is_kin 
         let r = mean_here m.class d known (signature m) t e in
         record {
           number = t + 128;
-          there = package_there list p sound is_kin one_kin rules m.class d known class_here t r.method r.by_token;
+          there = package_there list p sound are_supertypes one_supertypes rules m.class d known class_here t r.method r.by_token;
           is = λ line alike open_same hidden_same.
               ap (λ b. if b then with_high_bit (or_zero (token (hidden_slots line) (signature m))) else or_zero (token (slots line) (signature m))) (alike ∙ finds)
               ∙ ap (λ o. with_high_bit (or_zero o)) (hidden_same t e);

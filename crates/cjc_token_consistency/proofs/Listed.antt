@@ -14,8 +14,8 @@ use Rattle.cjc_export.proofs.Upwards.{all_found, each_own}
 use Rattle.cjc_sentences.specs.Members.{class_has, in_imported}
 use Rattle.cjc_world.specs.declared.found.Found.{Found}
 use Rattle.cjc_world.specs.Classes.{Class, Member, class_named, imported, method_of_export}
-use Rattle.cjc_world.specs.Kin.{IsKin, Kin, Lists, after, ends, foremost, kin, known_here, unknown_here}
-use Rattle.cjc_world.specs.Kin as kins
+use Rattle.cjc_world.specs.Supertypes.{AreSupertypes, Supertypes, Lists, after, ends, foremost, supertypes, known_here, unknown_here}
+use Rattle.cjc_world.specs.Supertypes as supertype_trees
 use Rattle.cjc_world.specs.Lookup.{first, member_at, or_else}
 use Rattle.cjc_world.proofs.Cycles.{class_named-name}
 use Rattle.cjc_world.proofs.Settled.{bytes-true}
@@ -95,7 +95,7 @@ any_named es test (u ∷ us) y e all passes = by (bytes_eq u.name y) refl e (λ 
     by true f g rest = ap (λ b. b || list_any test us) (passes u (ap (exports.class_named es) (sym (bytes-true u.name y f)) ∙ all.0))
     by false f g rest = second (test u) (list_any test us) (rest g)
 
-module _ (list : List ℕ) (p : Package) (sound : IsSound list p.files) (is_kin : (xs : List (List ℕ)) → IsKin (world p) xs (kin (world p) xs)) (rules : KeepsRules (world p)) where
+module _ (list : List ℕ) (p : Package) (sound : IsSound list p.files) (are_supertypes : (xs : List (List ℕ)) → AreSupertypes (world p) xs (supertypes (world p) xs)) (rules : KeepsRules (world p)) where
   abbrev w : List Class
   w = world p
 
@@ -110,7 +110,7 @@ module _ (list : List ℕ) (p : Package) (sound : IsSound list p.files) (is_kin 
     stands : IsAtOrAbove es names class.name
     lists : In m class.methods
 
-  far : (names xs : List (List ℕ)) (k : Kin) → IsKin w xs k → ((x : List ℕ) → Lists x xs → IsAtOrAbove es names x) → ((x : List ℕ) (d : Class) → Lists x xs → class_named w x ≡ Some d → d.is_imported ≡ true) → (m : Member) → In m (all_methods (kins.upwards k)) → IsFar names m
+  far : (names xs : List (List ℕ)) (k : Supertypes) → AreSupertypes w xs k → ((x : List ℕ) → Lists x xs → IsAtOrAbove es names x) → ((x : List ℕ) (d : Class) → Lists x xs → class_named w x ≡ Some d → d.is_imported ≡ true) → (m : Member) → In m (all_methods (supertype_trees.upwards k)) → IsFar names m
   far names xs k ends start own m i = elim i [ ]
   far names xs k (unknown_here e next) start own m i = far names _ _ next (λ x h. start x (after h)) (λ x d h. own x d (after h)) m i
   far names xs k (known_here {x = x} {xs = xs'} {c = c} {supers = supers} {interfaces = interfaces} {next = next} e ks ki kn) start own m i =
@@ -122,19 +122,19 @@ module _ (list : List ℕ) (p : Package) (sound : IsSound list p.files) (is_kin 
       (λ j. ⊎_elim
       (λ h. far names c.supers supers ks (λ y l. above file.1 (start x foremost) file.2 (ap (λ (q : Class). is_one_of q.supers y) (sym file.3) ∙ lists_one y c.supers l)) (λ y d l n. rules.apart x y c d e is l n) m h)
       (λ h. far names xs' next kn (λ y l. start y (after l)) (λ y d l. own y d (after l)) m h)
-      (all_methods-append (kins.upwards supers) (kins.upwards next) m j))
-      (In-split m c.methods (all_methods (kins.upwards supers ++ kins.upwards next)) i)
+      (all_methods-append (supertype_trees.upwards supers) (supertype_trees.upwards next) m j))
+      (In-split m c.methods (all_methods (supertype_trees.upwards supers ++ supertype_trees.upwards next)) i)
 
   -- an imported class has each virtual method that it or a super lists
   module _ (x : List ℕ) (c : Class) (e : class_named w x ≡ Some c) (im : c.is_imported ≡ true) where
     pub entry : HasEntry p c
     entry = has_entry list p sound c (has_named w x c e) im
 
-    pub has_listed : (t : ℕ) (m : Member) → In m (all_methods (c ∷ kins.upwards (kin w c.supers))) → is_virtual m ≡ true → m.token ≡ t → has_virtual es t entry.entry ≡ true
+    pub has_listed : (t : ℕ) (m : Member) → In m (all_methods (c ∷ supertype_trees.upwards (supertypes w c.supers))) → is_virtual m ≡ true → m.token ≡ t → has_virtual es t entry.entry ≡ true
     has_listed t m i virtual token = ⊎_elim
         (λ j. ap (λ b. b || inherits_virtual es t entry.entry) (listed t entry.number entry.entry m (subst (λ (q : Class). In m q.methods) entry.class j) virtual token))
-        (λ j. second (lists_virtual t entry.entry) (inherits_virtual es t entry.entry) (inherited (far c.supers c.supers (kin w c.supers) (is_kin c.supers) (λ y l. at (lists_one y c.supers l)) (λ y d l n. rules.apart x y c d e im l n) m j)))
-        (In-split m c.methods (all_methods (kins.upwards (kin w c.supers))) i)
+        (λ j. second (lists_virtual t entry.entry) (inherits_virtual es t entry.entry) (inherited (far c.supers c.supers (supertypes w c.supers) (are_supertypes c.supers) (λ y l. at (lists_one y c.supers l)) (λ y d l n. rules.apart x y c d e im l n) m j)))
+        (In-split m c.methods (all_methods (supertype_trees.upwards (supertypes w c.supers))) i)
       where
         second : (a b : Bool) → b ≡ true → (a || b) ≡ true
         second true b f = refl
@@ -151,9 +151,9 @@ module _ (list : List ℕ) (p : Package) (sound : IsSound list p.files) (is_kin 
             ap (lists_virtual t) (sym one) ∙ listed t file.0 file.1 m (subst (λ (q : Class). In m q.methods) file.3 f.lists) virtual token))
 
     -- so where it is no interface, its class_ref has it
-    pub imported_has : is_interface c.flags ≡ false → (t : ℕ) (f : Found) → first (own_by_token t) (c ∷ kins.upwards (kin w c.supers)) ≡ Some f → in_imported (exports_of p) (class_ref p x) t ≡ true
+    pub imported_has : is_interface c.flags ≡ false → (t : ℕ) (f : Found) → first (own_by_token t) (c ∷ supertype_trees.upwards (supertypes w c.supers)) ≡ Some f → in_imported (exports_of p) (class_ref p x) t ≡ true
     imported_has class_here t f found =
-        let m = first_by_token t (c ∷ kins.upwards (kin w c.supers)) f found in
+        let m = first_by_token t (c ∷ supertype_trees.upwards (supertypes w c.supers)) f found in
         ap (λ y. in_imported (exports_of p) (class_ref p y) t) (sym (class_named-name w x c e))
         ∙ ap (λ q. in_imported (exports_of p) q t) entry.ref
         ∙ ap (λ o. class_has (exports_of p) o t) (entry_there list p sound c entry)

@@ -14,13 +14,13 @@ use Rattle.cjc_sentences.specs.Members.{has_virtual}
 use Rattle.cjc_sentences.specs.Tables.{in_all_maps, in_map, is_index, is_long_enough, map_spots}
 use Rattle.cjc_world.specs.Classes.{Class, class_named}
 use Rattle.cjc_world.specs.Interfaces.{known}
-use Rattle.cjc_world.specs.Kin.{IsKin, Kin, kin}
+use Rattle.cjc_world.specs.Supertypes.{AreSupertypes, Supertypes, supertypes}
 use Rattle.cjc_world.specs.Order.{in_order}
 use Rattle.cjc_tokens.specs.Lines.{line_at, line_in}
 use Rattle.cjc_tokens.specs.Members.{Signature}
 use Rattle.cjc_tokens.specs.Methods.{interface_methods, interfaces_at}
 use Rattle.cjc_tokens.specs.Slots.{slots, token}
-use Rattle.cjc_tokens.proofs.Walks.{kin-known}
+use Rattle.cjc_tokens.proofs.Walks.{supertypes-known}
 use Rattle.cjc_vtable.specs.declared.table.InterfaceMap.{InterfaceMap}
 use Rattle.cjc_vtable.specs.Laws.{KeepsRules}
 use Rattle.cjc_vtable.specs.Tables.{interface_map, or_zero, table_of}
@@ -48,7 +48,7 @@ plain : (b : Bool) → not b ≡ true → b ≡ false
 plain true e = absurd (cc)
 plain false e = refl
 
-module _ (list : List ℕ) (p : Package) (sound : IsSound list p.files) (is_kin : (xs : List (List ℕ)) → IsKin (world p) xs (kin (world p) xs)) (one_kin : (xs : List (List ℕ)) (j k : Kin) → IsKin (world p) xs j → IsKin (world p) xs k → j ≡ k)
+module _ (list : List ℕ) (p : Package) (sound : IsSound list p.files) (are_supertypes : (xs : List (List ℕ)) → AreSupertypes (world p) xs (supertypes (world p) xs)) (one_supertypes : (xs : List (List ℕ)) (j k : Supertypes) → AreSupertypes (world p) xs j → AreSupertypes (world p) xs k → j ≡ k)
     (rules : KeepsRules (world p)) (tokens : KeepsTokens (world p)) (long : AreLong p) (mean : TokensMean (world p)) (asked : AskedHaveTokens (world p)) where
   abbrev w : List Class
   w = world p
@@ -76,14 +76,14 @@ module _ (list : List ℕ) (p : Package) (sound : IsSound list p.files) (is_kin 
         let j = has-get i (known (interfaces_at w c)) h in
         let n = has-get q (interface_methods w i) g in
         let t = asked c.name c named m.1 class_here j.0 i j.1 n.0 q n.1 in
-        let here : token (slots (line_at w c)) q ≡ Some t.0 = ap (λ x. token (slots (line_in w x)) q) (sym (kin-known w is_kin one_kin c.name c named)) ∙ t.1 in
+        let here : token (slots (line_at w c)) q ≡ Some t.0 = ap (λ x. token (slots (line_in w x)) q) (sym (supertypes-known w are_supertypes one_supertypes c.name c named)) ∙ t.1 in
         let low = tokens c.name c q t.0 named class_here t.1 in
         let other : (t.0 == 0xFF) ≡ false = grind (arith, nat_tests, low) in
         let is = mean c.name c named class_here q t.0 t.1 in
         ap (λ o. is_index (whole p) (exports_of p) s (or_zero o)) here
         ∙ ap (λ b. not b && has_virtual (whole p) (exports_of p) (Inside s) t.0) other
         ∙ ap (λ r. has_virtual (whole p) (exports_of p) r t.0) (sym stands)
-        ∙ open_there list p sound is_kin one_kin rules c.name c named class_here t.0 low is.method is.by_token
+        ∙ open_there list p sound are_supertypes one_supertypes rules c.name c named class_here t.0 low is.method is.by_token
 
     one_map : (at : ℕ) (x : InterfaceMap) → Has x (let table = table_of w c in table.maps) → in_map (whole p) (exports_of p) s at (implemented (class_ref p) x) ≡ []
     one_map at x h =

@@ -12,12 +12,12 @@ use Rattle.cjc_sentences.specs.Classes.{classes_at, first_class}
 use Rattle.cjc_sentences.specs.Members.{base_of, has_token, has_virtual, in_imported, place_of, table_of}
 use Rattle.cjc_world.specs.declared.found.Found.{Found}
 use Rattle.cjc_world.specs.Classes.{Class, class_named}
-use Rattle.cjc_world.specs.Kin.{IsKin, Kin, Lists, foremost, kin}
-use Rattle.cjc_world.specs.Kin as kins
+use Rattle.cjc_world.specs.Supertypes.{AreSupertypes, Supertypes, Lists, foremost, supertypes}
+use Rattle.cjc_world.specs.Supertypes as supertype_trees
 use Rattle.cjc_world.specs.Order.{in_order}
 use Rattle.cjc_world.specs.Rules.{is_interface_of}
 use Rattle.cjc_world.proofs.Cycles.{class_named-name}
-use Rattle.cjc_tokens.proofs.Walks.{kin-known}
+use Rattle.cjc_tokens.proofs.Walks.{supertypes-known}
 use Rattle.cjc_vtable.specs.declared.table.ClassTable.{ClassTable}
 use Rattle.cjc_vtable.specs.Dispatch.{Exported, Info, dispatched, dispatched_hidden, held, tower_in, tower_of}
 use Rattle.cjc_vtable.specs.Laws.{KeepsRules}
@@ -46,7 +46,7 @@ some_of : (o : Option Class) → Rattle.std.specs.Prelude.is_some o ≡ true →
 some_of None e = absurd (cc)
 some_of (Some d) e = (d, refl)
 
-module _ (list : List ℕ) (p : Package) (sound : IsSound list p.files) (is_kin : (xs : List (List ℕ)) → IsKin (world p) xs (kin (world p) xs)) (one_kin : (xs : List (List ℕ)) (j k : Kin) → IsKin (world p) xs j → IsKin (world p) xs k → j ≡ k) (rules : KeepsRules (world p)) where
+module _ (list : List ℕ) (p : Package) (sound : IsSound list p.files) (are_supertypes : (xs : List (List ℕ)) → AreSupertypes (world p) xs (supertypes (world p) xs)) (one_supertypes : (xs : List (List ℕ)) (j k : Supertypes) → AreSupertypes (world p) xs j → AreSupertypes (world p) xs k → j ≡ k) (rules : KeepsRules (world p)) where
   abbrev w : List Class
   w = world p
 
@@ -83,19 +83,19 @@ module _ (list : List ℕ) (p : Package) (sound : IsSound list p.files) (is_kin 
 
   -- ---- towers
 
-  line_of_super : (c : Class) (super : List ℕ) → c.supers ≡ super ∷ [] → tower_in w (kin w c.supers) ≡ tower_of w super
-  line_of_super c super e = ap (λ ns. tower_in w (kin w ns)) e
+  line_of_super : (c : Class) (super : List ℕ) → c.supers ≡ super ∷ [] → tower_in w (supertypes w c.supers) ≡ tower_of w super
+  line_of_super c super e = ap (λ ns. tower_in w (supertypes w ns)) e
 
   tower_own : (x super : List ℕ) (c : Class) → class_named w x ≡ Some c → c.is_imported ≡ false → c.supers ≡ super ∷ [] → tower_of w x ≡ Info (tables.table_of w c) (tower_of w super)
   tower_own x super c e own supers =
-      ap (tower_in w) (kin-known w is_kin one_kin x c e)
-      ∙ ap (λ b. if b then Exported (c ∷ kins.upwards (kin w c.supers)) else Info (tables.table_of w c) (tower_in w (kin w c.supers))) own
+      ap (tower_in w) (supertypes-known w are_supertypes one_supertypes x c e)
+      ∙ ap (λ b. if b then Exported (c ∷ supertype_trees.upwards (supertypes w c.supers)) else Info (tables.table_of w c) (tower_in w (supertypes w c.supers))) own
       ∙ ap (Info (tables.table_of w c)) (line_of_super c super supers)
 
-  tower_import : (x : List ℕ) (c : Class) → class_named w x ≡ Some c → c.is_imported ≡ true → tower_of w x ≡ Exported (c ∷ kins.upwards (kin w c.supers))
+  tower_import : (x : List ℕ) (c : Class) → class_named w x ≡ Some c → c.is_imported ≡ true → tower_of w x ≡ Exported (c ∷ supertype_trees.upwards (supertypes w c.supers))
   tower_import x c e im =
-      ap (tower_in w) (kin-known w is_kin one_kin x c e)
-      ∙ ap (λ b. if b then Exported (c ∷ kins.upwards (kin w c.supers)) else Info (tables.table_of w c) (tower_in w (kin w c.supers))) im
+      ap (tower_in w) (supertypes-known w are_supertypes one_supertypes x c e)
+      ∙ ap (λ b. if b then Exported (c ∷ supertype_trees.upwards (supertypes w c.supers)) else Info (tables.table_of w c) (tower_in w (supertypes w c.supers))) im
 
   -- ---- upwards
 
@@ -108,7 +108,7 @@ module _ (list : List ℕ) (p : Package) (sound : IsSound list p.files) (is_kin 
       (outside : (x : List ℕ) (c : Class) → class_named w x ≡ Some c → c.is_imported ≡ true → is_interface c.flags ≡ false → Finds x → in_imported (exports_of p) (class_ref p x) token ≡ true) where
     outside_token : (all : List (Placed ClassEntry)) (x : List ℕ) (c : Class) → class_named w x ≡ Some c → c.is_imported ≡ true → is_interface c.flags ≡ false → Finds x → has_token all (exports_of p) (class_ref p x) token ≡ true
     outside_token all x c e im class_here finds =
-        let o = is_outside list p sound is_kin rules x c e im in
+        let o = is_outside list p sound are_supertypes rules x c e im in
         ap (λ q. has_token all (exports_of p) q token) o.2
         ∙ outside_has p all o.0 o.1 token
         ∙ ap (λ q. in_imported (exports_of p) q token) (sym o.2)
@@ -258,7 +258,7 @@ module _ (list : List ℕ) (p : Package) (sound : IsSound list p.files) (is_kin 
           by false g h = inl (at_entry (slice_get table.public (t - table.public_base)) refl g h)
 
       out : (x : List ℕ) (c : Class) → class_named w x ≡ Some c → c.is_imported ≡ true → is_interface c.flags ≡ false → Finds x → in_imported (exports_of p) (class_ref p x) t ≡ true
-      out x c e im here finds = imported_has list p sound is_kin rules x c e im here t finds.0 (sym (ap (λ q. dispatched q t) (tower_import x c e im)) ∙ finds.1)
+      out x c e im here finds = imported_has list p sound are_supertypes rules x c e im here t finds.0 (sym (ap (λ q. dispatched q t) (tower_import x c e im)) ∙ finds.1)
 
   pub package_there : (x : List ℕ) (c : Class) → class_named w x ≡ Some c → is_interface c.flags ≡ false → (t : ℕ) (f : Found) → dispatched_hidden (tower_of w x) t ≡ Some f → has_virtual (whole p) (exports_of p) (class_ref p x) (t + 128) ≡ true
   package_there x c e class_here t f finds = token_there (t + 128) Finds step out x c e class_here (f, finds)

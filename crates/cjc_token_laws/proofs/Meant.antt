@@ -14,9 +14,9 @@ use Rattle.cjc_world.specs.Added.{with_token, by_token, without_initialiser, own
 use Rattle.cjc_world.specs.Classes.{Class, Member, all_classes, class_named, declared}
 use Rattle.cjc_world.specs.Files.{Files}
 use Rattle.cjc_world.specs.Interfaces.{Interface, gathered, known}
-use Rattle.cjc_world.specs.Kin.{Kin, End, Known, IsAcyclic, kin}
+use Rattle.cjc_world.specs.Supertypes.{Supertypes, End, Known, IsAcyclic, supertypes}
 use Rattle.cjc_world.specs.Lookup.{or_else, first, is_called, is_wanted, own_method, own_of, method_of_interface, member_at}
-use Rattle.cjc_world.proofs.Settled.{kin-known}
+use Rattle.cjc_world.proofs.Settled.{supertypes-known}
 use Rattle.cjc_tokens.specs.Members.{Signature, signature_of, same}
 use Rattle.cjc_tokens.specs.Methods.{interface_methods}
 use Rattle.cjc_tokens.specs.Slots.{Slots, holds, has_slot, new_in}
@@ -135,38 +135,38 @@ unfolding known
 known_append [] ys = refl
 known_append (x ∷ xs) ys = ap (λ cs. option_to_list x.class ++ cs) (known_append xs ys) ∙ sym (append_assoc (option_to_list x.class) (known xs) (known ys))
 
-above : (c : Class) (supers interfaces : Kin) → gathered false (Known c supers interfaces End) ≡ gathered false supers ++ gathered true interfaces
+above : (c : Class) (supers interfaces : Supertypes) → gathered false (Known c supers interfaces End) ≡ gathered false supers ++ gathered true interfaces
 unfolding gathered
 above c supers interfaces = append-nil ((gathered false supers ++ gathered true interfaces) ++ []) ∙ append-nil (gathered false supers ++ gathered true interfaces)
 
 module _ (w : List Class) (acyclic : IsAcyclic w) (c : Class) (named : class_named w c.name ≡ Some c) where
-  above_is : gathered false (kin w (c.name ∷ [])) ≡ gathered false (kin w c.supers) ++ gathered true (kin w c.interfaces)
-  above_is = ap (gathered false) (kin-known w acyclic c.name c named) ∙ above c (kin w c.supers) (kin w c.interfaces)
+  above_is : gathered false (supertypes w (c.name ∷ [])) ≡ gathered false (supertypes w c.supers) ++ gathered true (supertypes w c.interfaces)
+  above_is = ap (gathered false) (supertypes-known w acyclic c.name c named) ∙ above c (supertypes w c.supers) (supertypes w c.interfaces)
 
   own_found : (m : Member) → Contains (own_methods c) m → IsFound (method_of_interface w c.name m.name m.desc)
   unfolding method_of_interface
   own_found m h =
       let r = declared_found c m (own_in c m h) in (
         r.0,
-        ap (λ o. or_else (own_of m.name m.desc o) (first (own_method false m.name m.desc) (known (gathered false (kin w (c.name ∷ [])))))) named
-            ∙ ap (λ o. or_else o (first (own_method false m.name m.desc) (known (gathered false (kin w (c.name ∷ [])))))) r.1,
+        ap (λ o. or_else (own_of m.name m.desc o) (first (own_method false m.name m.desc) (known (gathered false (supertypes w (c.name ∷ [])))))) named
+            ∙ ap (λ o. or_else o (first (own_method false m.name m.desc) (known (gathered false (supertypes w (c.name ∷ [])))))) r.1,
       )
 
   either : (o p : Option Found) → IsFound p → IsFound (or_else o p)
   either (Some f) p h = (f, refl)
   either None p h = h
 
-  asked_found : (m : Member) → Contains (asked_by (kin w c.supers) (kin w c.interfaces)) m → IsFound (method_of_interface w c.name m.name m.desc)
+  asked_found : (m : Member) → Contains (asked_by (supertypes w c.supers) (supertypes w c.interfaces)) m → IsFound (method_of_interface w c.name m.name m.desc)
   unfolding method_of_interface asked_by
   asked_found m h =
-      let r = asked_in (known (gathered false (kin w c.supers) ++ gathered true (kin w c.interfaces))) m h in
-      let there : Contains (known (gathered false (kin w (c.name ∷ [])))) r.0 = subst (λ is. Contains (known is) r.0) (sym above_is) r.1 in
-      either (own_of m.name m.desc (class_named w c.name)) (first (own_method false m.name m.desc) (known (gathered false (kin w (c.name ∷ [])))))
-      (first_found (own_method false m.name m.desc) (known (gathered false (kin w (c.name ∷ [])))) r.0 there (declared_found r.0 m (own_in r.0 m r.2)))
+      let r = asked_in (known (gathered false (supertypes w c.supers) ++ gathered true (supertypes w c.interfaces))) m h in
+      let there : Contains (known (gathered false (supertypes w (c.name ∷ [])))) r.0 = subst (λ is. Contains (known is) r.0) (sym above_is) r.1 in
+      either (own_of m.name m.desc (class_named w c.name)) (first (own_method false m.name m.desc) (known (gathered false (supertypes w (c.name ∷ [])))))
+      (first_found (own_method false m.name m.desc) (known (gathered false (supertypes w (c.name ∷ [])))) r.0 there (declared_found r.0 m (own_in r.0 m r.2)))
 
-  member_found : (b : Bool) (m : Member) → Contains (cond b (own_methods c) (asked_by (kin w c.supers) (kin w c.interfaces) ++ own_methods c)) m → IsFound (method_of_interface w c.name m.name m.desc)
+  member_found : (b : Bool) (m : Member) → Contains (cond b (own_methods c) (asked_by (supertypes w c.supers) (supertypes w c.interfaces) ++ own_methods c)) m → IsFound (method_of_interface w c.name m.name m.desc)
   member_found true m h = own_found m h
-  member_found false m h = elim (Contains-append_cases (asked_by (kin w c.supers) (kin w c.interfaces)) (own_methods c) m h) [
+  member_found false m h = elim (Contains-append_cases (asked_by (supertypes w c.supers) (supertypes w c.interfaces)) (own_methods c) m h) [
     | inl asked ↦ asked_found m asked
     | inr own ↦ own_found m own
   ]
@@ -174,7 +174,7 @@ module _ (w : List Class) (acyclic : IsAcyclic w) (c : Class) (named : class_nam
   pub found_in : (t : ℕ) (s : Signature) → slice_get (interface_methods w c) t ≡ Some s → IsFound (method_of_interface w c.name s.name s.desc)
   unfolding interface_methods
   found_in t s e =
-      let ms = cond c.is_imported (own_methods c) (asked_by (kin w c.supers) (kin w c.interfaces) ++ own_methods c) in
+      let ms = cond c.is_imported (own_methods c) (asked_by (supertypes w c.supers) (supertypes w c.interfaces) ++ own_methods c) in
       let r = of_mapped ms s (new_from [] (map signature_of ms) t s e) in
       subst (λ (q : Signature). IsFound (method_of_interface w c.name q.name q.desc)) r.2 (member_found c.is_imported r.0 r.1)
 
@@ -251,10 +251,10 @@ contains_mapped (x ∷ ms) m is = elim (contains_cons x ms m is) [
   | inr later ↦ contains_tail (signature_of x) (map signature_of ms) (signature_of m) (contains_mapped ms m later)
 ]
 
-pub has_token : (w : List Class) (c : Class) (m : Member) → Contains (cond c.is_imported (own_methods c) (asked_by (kin w c.supers) (kin w c.interfaces) ++ own_methods c)) m → (t : ℕ) × (slice_get (interface_methods w c) t ≡ Some (signature_of m))
+pub has_token : (w : List Class) (c : Class) (m : Member) → Contains (cond c.is_imported (own_methods c) (asked_by (supertypes w c.supers) (supertypes w c.interfaces) ++ own_methods c)) m → (t : ℕ) × (slice_get (interface_methods w c) t ≡ Some (signature_of m))
 unfolding interface_methods
 has_token w c m is =
-    let ms = cond c.is_imported (own_methods c) (asked_by (kin w c.supers) (kin w c.interfaces) ++ own_methods c) in
+    let ms = cond c.is_imported (own_methods c) (asked_by (supertypes w c.supers) (supertypes w c.interfaces) ++ own_methods c) in
     elim (new_or_there [] (map signature_of ms) (signature_of m) (contains_mapped ms m is)) [
       | inl there ↦ absurd cc
       | inr new ↦ new

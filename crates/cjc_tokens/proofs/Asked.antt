@@ -4,7 +4,7 @@ use Rattle.std.specs.Prelude.{map, Option, Some, None, option_map, position, ◌
 use Rattle.cjc_classfile.specs.declared.tree.MethodTree.{MethodTree}
 use Rattle.cjc_export.specs.declared.tree.ExportMethod.{ExportMethod}
 use Rattle.cjc_world.specs.Classes.{Member, Class, method_of_class, method_of_export}
-use Rattle.cjc_world.specs.Kin.{kin}
+use Rattle.cjc_world.specs.Supertypes.{supertypes}
 use Rattle.cjc_world.specs.Interfaces.{Interface, gathered, known}
 use Rattle.cjc_world.specs.Added.{asked_by, by_token, with_token, methods_of, own_methods, without_initialiser}
 use Rattle.std.proofs.lemmas.List.{length-map}
@@ -133,9 +133,9 @@ own-imported k n c is =
     ap (λ l. without_initialiser (by_token l 0 (map method_of_export c.now.methods))) (sym e) ∙ ap (λ (q : AnyClass). own_methods (class_of q)) (sym is)
 
 -- what a class asks for, its supers' first
-above-asked : (w : List Class) (c : Class) → asked false (kin w c.supers) ++ asked true (kin w c.interfaces) ≡ map signature_of (asked_by (kin w c.supers) (kin w c.interfaces))
+above-asked : (w : List Class) (c : Class) → asked false (supertypes w c.supers) ++ asked true (supertypes w c.interfaces) ≡ map signature_of (asked_by (supertypes w c.supers) (supertypes w c.interfaces))
 unfolding asked_by of
-above-asked w c = sym (of-append (gathered false (kin w c.supers)) (gathered true (kin w c.interfaces)))
+above-asked w c = sym (of-append (gathered false (supertypes w c.supers)) (gathered true (supertypes w c.interfaces)))
 
 pub methods-are : (w : List Class) (c : Class) (row one two : Slots) → row ≡ [] → one ≡ with_new row (above_where w c) → two ≡ with_new one (map signature_of (own_methods c)) → two ≡ map Some (interface_methods w c)
 unfolding interface_methods
@@ -144,6 +144,6 @@ methods-are w c row one two z p q =
     ∙ with_new-append [] (above_where w c) (map signature_of (own_methods c))
     ∙ by c.is_imported
   where
-    by : (b : Bool) → with_new [] ((if b then [] else asked false (kin w c.supers) ++ asked true (kin w c.interfaces)) ++ map signature_of (own_methods c)) ≡ map Some (new_in [] (map signature_of (if b then own_methods c else asked_by (kin w c.supers) (kin w c.interfaces) ++ own_methods c)))
+    by : (b : Bool) → with_new [] ((if b then [] else asked false (supertypes w c.supers) ++ asked true (supertypes w c.interfaces)) ++ map signature_of (own_methods c)) ≡ map Some (new_in [] (map signature_of (if b then own_methods c else asked_by (supertypes w c.supers) (supertypes w c.interfaces) ++ own_methods c)))
     by true = refl
-    by false = ap (λ r. with_new [] r) (ap (λ r. r ++ map signature_of (own_methods c)) (above-asked w c) ∙ sym (map_append signature_of (asked_by (kin w c.supers) (kin w c.interfaces)) (own_methods c)))
+    by false = ap (λ r. with_new [] r) (ap (λ r. r ++ map signature_of (own_methods c)) (above-asked w c) ∙ sym (map_append signature_of (asked_by (supertypes w c.supers) (supertypes w c.interfaces)) (own_methods c)))

@@ -6,7 +6,7 @@ use Rattle.std.proofs.Math.Seq.{drop-cons}
 use Rattle.std.proofs.lemmas.Slice.Eq.{bytes_eq-Decides}
 use Rattle.cjc_world.specs.declared.found.Found.{Found}
 use Rattle.cjc_world.specs.Classes.{Class, class_named}
-use Rattle.cjc_world.specs.Kin.{Kin, IsKin, ends, unknown_here, known_here, kin, upwards, is_one_named, once}
+use Rattle.cjc_world.specs.Supertypes.{Supertypes, AreSupertypes, ends, unknown_here, known_here, supertypes, upwards, is_one_named, once}
 use Rattle.cjc_world.specs.Interfaces.{Interface, where_listed, gathered, is_among, each_once, known}
 use Rattle.cjc_world.specs.Added.{methods_of, own_methods}
 use Rattle.cjc_world.specs.Lookup.{first, or_else}
@@ -81,13 +81,13 @@ module _ (w : List Class) where
   itself : (x : List ℕ) (c : Class) → class_named w x ≡ Some c → class_named w c.name ≡ Some c
   itself x c e = ap (class_named w) (named-name w x c e) ∙ e
 
-  named-upwards : (xs : List (List ℕ)) (k : Kin) → IsKin w xs k → AreNamed w (upwards k)
+  named-upwards : (xs : List (List ℕ)) (k : Supertypes) → AreSupertypes w xs k → AreNamed w (upwards k)
   named-upwards xs k ends = tt
   named-upwards xs k (unknown_here {xs = rest} {next = next} e n) = named-upwards rest next n
   named-upwards xs k (known_here {x = x} {xs = rest} {c = c} {supers = s} {next = next} e sk ik n) =
       (itself x c e, named-append w (upwards s) (upwards next) (named-upwards c.supers s sk) (named-upwards rest next n))
 
-  told-gathered : (listed : Bool) (xs : List (List ℕ)) (k : Kin) → IsKin w xs k → AreTold w (gathered listed k)
+  told-gathered : (listed : Bool) (xs : List (List ℕ)) (k : Supertypes) → AreSupertypes w xs k → AreTold w (gathered listed k)
   unfolding gathered
   told-gathered listed xs k ends = tt
   told-gathered true xs k (unknown_here {xs = rest} {next = next} e n) = (sym e, told-gathered true rest next n)
@@ -232,13 +232,13 @@ meant-same f g (None ∷ all) e = ap (λ q. None ∷ q) (meant-same f g all e)
 meant-same f g (Some s ∷ all) e = ap (λ o. o ∷ map (meant_by f) all) (e s) ∙ ap (λ q. g s ∷ q) (meant-same f g all e)
 
 -- the slots of a class and its supers are those of each once
-pub slots-once : (w : List Class) (c : Class) (xs : List (List ℕ)) (k : Kin) → IsKin w xs k → listed_slots (all_methods (c ∷ once [] (upwards k))) ≡ listed_slots (all_methods (c ∷ upwards k))
+pub slots-once : (w : List Class) (c : Class) (xs : List (List ℕ)) (k : Supertypes) → AreSupertypes w xs k → listed_slots (all_methods (c ∷ once [] (upwards k))) ≡ listed_slots (all_methods (c ∷ upwards k))
 slots-once w c xs k is =
     listed_slots-append c.methods (all_methods (once [] (upwards k)))
     ∙ ap (overlay (listed_slots c.methods)) (listed-once w (upwards k) (named-upwards w xs k is))
     ∙ sym (listed_slots-append c.methods (all_methods (upwards k)))
 
-pub rows-once : (w : List Class) (c : Class) (xs : List (List ℕ)) (k : Kin) (r : Rows) → IsKin w xs k → AreRowsOf (Imported (c ∷ once [] (upwards k))) r → AreRowsOf (Imported (c ∷ upwards k)) r
+pub rows-once : (w : List Class) (c : Class) (xs : List (List ℕ)) (k : Supertypes) (r : Rows) → AreSupertypes w xs k → AreRowsOf (Imported (c ∷ once [] (upwards k))) r → AreRowsOf (Imported (c ∷ upwards k)) r
 unfolding first
 rows-once w c xs k r is a = record {
   shown_slots = a.shown_slots ∙ slots_same;
@@ -288,14 +288,14 @@ offers-again s c ds =
     ∙ sym (offers-all (offers s c) ds)
 
 -- each once, they offer the same
-pub asked-once : (w : List Class) (s i : List (List ℕ)) → IsKin w s (kin w s) → IsKin w i (kin w i) → (all : Slots)
-    → with_new all (map signature_of (methods_of (known (each_once [] (gathered false (kin w s) ++ gathered true (kin w i)))))) ≡ with_new all (asked false (kin w s) ++ asked true (kin w i))
+pub asked-once : (w : List Class) (s i : List (List ℕ)) → AreSupertypes w s (supertypes w s) → AreSupertypes w i (supertypes w i) → (all : Slots)
+    → with_new all (map signature_of (methods_of (known (each_once [] (gathered false (supertypes w s) ++ gathered true (supertypes w i)))))) ≡ with_new all (asked false (supertypes w s) ++ asked true (supertypes w i))
 unfolding known of
 asked-once w s i a b all =
-    let A = gathered false (kin w s) in
-    let B = gathered true (kin w i) in
+    let A = gathered false (supertypes w s) in
+    let B = gathered true (supertypes w i) in
     sym (offers-all all (known (each_once [] (A ++ B))))
-    ∙ acts-known offers offers-again w all [] (A ++ B) tt (told-append w A B (told-gathered w false s (kin w s) a) (told-gathered w true i (kin w i) b))
+    ∙ acts-known offers offers-again w all [] (A ++ B) tt (told-append w A B (told-gathered w false s (supertypes w s) a) (told-gathered w true i (supertypes w i) b))
     ∙ offers-all all (known (A ++ B))
     ∙ ap (with_new all) (of-append A B)
 

@@ -8,12 +8,12 @@ use Rattle.cjc_export.specs.declared.tree.ExportClass.{ExportClass}
 use Rattle.cjc_export.specs.declared.tree.ExportTree.{ExportTree}
 use Rattle.cjc_world.specs.Files.{Files}
 use Rattle.cjc_world.specs.Classes.{Class, declared, imported, numbered, size, of_class_file, of_export_file, classes_from, all_classes, class_named}
-use Rattle.cjc_world.specs.Kin.{Kin, kin, IsKin, upwards}
+use Rattle.cjc_world.specs.Supertypes.{Supertypes, supertypes, AreSupertypes, upwards}
 use Rattle.cjc_world.specs.Added.{added}
 use Rattle.cjc_tokens.specs.declared.slot.Rows.{Rows}
 use Rattle.cjc_tokens.specs.Lines.{Line, Imported, Declared, line_in, line_at}
 use Rattle.cjc_tokens.specs.Working.{AreRowsOf, IsKept, SameRows, methods_in, signs}
-use Rattle.cjc_tokens.proofs.Walks.{slice_get-set, kin-known, kin-unknown}
+use Rattle.cjc_tokens.proofs.Walks.{slice_get-set, supertypes-known, supertypes-unknown}
 
 -- ---- a class of the package is the tree at its number
 
@@ -81,30 +81,30 @@ same-rows line r s a e = record {
   hidden_methods = ap methods_in e.hidden ∙ a.hidden_methods;
 }
 
-module _ (files : Files) (is_kin : (xs : List (List ℕ)) → IsKin (all_classes files) xs (kin (all_classes files) xs)) (one_kin : (xs : List (List ℕ)) (j k : Kin) → IsKin (all_classes files) xs j → IsKin (all_classes files) xs k → j ≡ k) where
+module _ (files : Files) (are_supertypes : (xs : List (List ℕ)) → AreSupertypes (all_classes files) xs (supertypes (all_classes files) xs)) (one_supertypes : (xs : List (List ℕ)) (j k : Supertypes) → AreSupertypes (all_classes files) xs j → AreSupertypes (all_classes files) xs k → j ≡ k) where
   w : List Class
   w = all_classes files
 
-  pub line-known : (x : List ℕ) (d : Class) → class_named (all_classes files) x ≡ Some d → line_in (all_classes files) (kin (all_classes files) (x ∷ [])) ≡ line_at (all_classes files) d
-  line-known x d e = ap (line_in (all_classes files)) (kin-known (all_classes files) is_kin one_kin x d e)
+  pub line-known : (x : List ℕ) (d : Class) → class_named (all_classes files) x ≡ Some d → line_in (all_classes files) (supertypes (all_classes files) (x ∷ [])) ≡ line_at (all_classes files) d
+  line-known x d e = ap (line_in (all_classes files)) (supertypes-known (all_classes files) are_supertypes one_supertypes x d e)
 
-  pub super-unknown : (x : List ℕ) (r : Rows) → class_named (all_classes files) x ≡ None → r.shown.items ≡ [] → r.hidden.items ≡ [] → AreRowsOf (line_in (all_classes files) (kin (all_classes files) (x ∷ []))) r
-  super-unknown x r e s h = subst (λ (q : Line). AreRowsOf q r) (sym (ap (line_in (all_classes files)) (kin-unknown (all_classes files) is_kin one_kin x e))) (record {
+  pub super-unknown : (x : List ℕ) (r : Rows) → class_named (all_classes files) x ≡ None → r.shown.items ≡ [] → r.hidden.items ≡ [] → AreRowsOf (line_in (all_classes files) (supertypes (all_classes files) (x ∷ []))) r
+  super-unknown x r e s h = subst (λ (q : Line). AreRowsOf q r) (sym (ap (line_in (all_classes files)) (supertypes-unknown (all_classes files) are_supertypes one_supertypes x e))) (record {
     shown_slots = ap signs s;
     shown_methods = ap methods_in s;
     hidden_slots_are = ap signs h;
     hidden_methods = ap methods_in h;
   })
 
-  pub super-declared : (x : List ℕ) (n : ℕ) (t : ClassTree) (kept : List (Option Rows)) (r s : Rows) → class_named (all_classes files) x ≡ Some (declared n t) → IsKept (all_classes files) files.classes kept → slice_get kept n ≡ Some (Some r) → SameRows r s → AreRowsOf (line_in (all_classes files) (kin (all_classes files) (x ∷ []))) s
+  pub super-declared : (x : List ℕ) (n : ℕ) (t : ClassTree) (kept : List (Option Rows)) (r s : Rows) → class_named (all_classes files) x ≡ Some (declared n t) → IsKept (all_classes files) files.classes kept → slice_get kept n ≡ Some (Some r) → SameRows r s → AreRowsOf (line_in (all_classes files) (supertypes (all_classes files) (x ∷ []))) s
   super-declared x n t kept r s e k g same =
       let a = class_at-number files x (declared n t) e refl in
       subst (λ (q : Line). AreRowsOf q s) (sym (line-known x (declared n t) e ∙ ap (line_at (all_classes files)) a.2)) (same-rows (line_at (all_classes files) (declared n a.0)) r s (k n a.0 r a.1 g) same)
 
-  pub super-imported : (x : List ℕ) (d : Class) (s : Rows) → class_named (all_classes files) x ≡ Some d → d.is_imported ≡ true → AreRowsOf (Imported (d ∷ upwards (kin (all_classes files) d.supers))) s → AreRowsOf (line_in (all_classes files) (kin (all_classes files) (x ∷ []))) s
+  pub super-imported : (x : List ℕ) (d : Class) (s : Rows) → class_named (all_classes files) x ≡ Some d → d.is_imported ≡ true → AreRowsOf (Imported (d ∷ upwards (supertypes (all_classes files) d.supers))) s → AreRowsOf (line_in (all_classes files) (supertypes (all_classes files) (x ∷ []))) s
   super-imported x d s e im a =
       subst (λ (q : Line). AreRowsOf q s)
-      (sym (line-known x d e ∙ ap (λ b. if b then Imported (d ∷ upwards (kin (all_classes files) d.supers)) else Declared d (added (all_classes files) d) (line_in (all_classes files) (kin (all_classes files) d.supers))) im)) a
+      (sym (line-known x d e ∙ ap (λ b. if b then Imported (d ∷ upwards (supertypes (all_classes files) d.supers)) else Declared d (added (all_classes files) d) (line_in (all_classes files) (supertypes (all_classes files) d.supers))) im)) a
 
 -- one class more has its rows
 pub kept-set : (w : List Class) (trees : List ClassTree) (kept : List (Option Rows)) (i : ℕ) (r : Rows) → IsKept w trees kept → ((c : ClassTree) → slice_get trees i ≡ Some c → AreRowsOf (line_at w (declared i c)) r) → IsKept w trees (set kept i (Some r))

@@ -6,7 +6,7 @@ use Rattle.std.specs.Prelude.{map, slice_get, ◌⊎◌, Option, Some, None}
 use Rattle.cjc_world.specs.declared.found.Found.{Found}
 use Rattle.cjc_world.specs.declared.class.Known.{Known as AnyClass}
 use Rattle.cjc_world.specs.Classes.{Class, class_named}
-use Rattle.cjc_world.specs.Kin.{Kin, End, Unknown, Known, kin, IsKin, ends, unknown_here, known_here}
+use Rattle.cjc_world.specs.Supertypes.{Supertypes, End, Unknown, Known, supertypes, AreSupertypes, ends, unknown_here, known_here}
 use Rattle.cjc_world.specs.Working.Known.{class_of}
 use Rattle.cjc_world.specs.Lookup.{first, or_else}
 
@@ -34,12 +34,12 @@ first-ended f cs i le inv = sym (ap (λ q. first f (map class_of q)) (drop-past 
 
 -- ---- the tree of a name
 
-module _ (w : List Class) (is_kin : (xs : List (List ℕ)) → IsKin w xs (kin w xs)) (one_kin : (xs : List (List ℕ)) (j k : Kin) → IsKin w xs j → IsKin w xs k → j ≡ k) where
-  pub kin-known : (x : List ℕ) (c : Class) → class_named w x ≡ Some c → kin w (x ∷ []) ≡ Known c (kin w c.supers) (kin w c.interfaces) End
-  kin-known x c e = one_kin (x ∷ []) (kin w (x ∷ [])) (Known c (kin w c.supers) (kin w c.interfaces) End) (is_kin (x ∷ [])) (known_here e (is_kin c.supers) (is_kin c.interfaces) ends)
+module _ (w : List Class) (are_supertypes : (xs : List (List ℕ)) → AreSupertypes w xs (supertypes w xs)) (one_supertypes : (xs : List (List ℕ)) (j k : Supertypes) → AreSupertypes w xs j → AreSupertypes w xs k → j ≡ k) where
+  pub supertypes-known : (x : List ℕ) (c : Class) → class_named w x ≡ Some c → supertypes w (x ∷ []) ≡ Known c (supertypes w c.supers) (supertypes w c.interfaces) End
+  supertypes-known x c e = one_supertypes (x ∷ []) (supertypes w (x ∷ [])) (Known c (supertypes w c.supers) (supertypes w c.interfaces) End) (are_supertypes (x ∷ [])) (known_here e (are_supertypes c.supers) (are_supertypes c.interfaces) ends)
 
-  pub kin-unknown : (x : List ℕ) → class_named w x ≡ None → kin w (x ∷ []) ≡ Unknown x End
-  kin-unknown x e = one_kin (x ∷ []) (kin w (x ∷ [])) (Unknown x End) (is_kin (x ∷ [])) (unknown_here e ends)
+  pub supertypes-unknown : (x : List ℕ) → class_named w x ≡ None → supertypes w (x ∷ []) ≡ Unknown x End
+  supertypes-unknown x e = one_supertypes (x ∷ []) (supertypes w (x ∷ [])) (Unknown x End) (are_supertypes (x ∷ [])) (unknown_here e ends)
 
 -- ---- the item at a place
 

@@ -3,7 +3,7 @@ use Rattle.std.specs.Prelude.{ℕ, ◌+◌, List, [], ◌∷◌, ◌++◌, map, 
 use Rattle.cjc_world.specs.Classes.{Member, Class}
 use Rattle.cjc_bytes.specs.AccessFlags.{is_static}
 use Rattle.cjc_world.specs.declared.found.Found.{Found}
-use Rattle.cjc_world.specs.Kin.{kin}
+use Rattle.cjc_world.specs.Supertypes.{supertypes}
 use Rattle.cjc_world.specs.Interfaces.{Interface, gathered, each_once}
 use Rattle.cjc_world.specs.Added.{own_methods, asked_by}
 use Rattle.cjc_world.specs.Lookup.{method_of_interface}
@@ -14,12 +14,12 @@ use Rattle.cjc_tokens.specs.Slots.{Slots, new_in, token}
 
 -- the interfaces of a class, in order
 unfoldable pub interfaces_at : List Class → Class → List Interface
-interfaces_at w c = each_once [] (gathered false (kin w c.supers) ++ gathered true (kin w c.interfaces))
+interfaces_at w c = each_once [] (gathered false (supertypes w c.supers) ++ gathered true (supertypes w c.interfaces))
 
 -- Those of its superinterfaces first, in order, each name and descriptor once, then its own. An export file lists all
 -- methods of its interfaces.
 unfoldable pub interface_methods : List Class → Class → List Signature
-interface_methods w c = new_in [] (map signature_of (if c.is_imported then own_methods c else asked_by (kin w c.supers) (kin w c.interfaces) ++ own_methods c))
+interface_methods w c = new_in [] (map signature_of (if c.is_imported then own_methods c else asked_by (supertypes w c.supers) (supertypes w c.interfaces) ++ own_methods c))
 
 -- the method that each of its tokens means
 abbrev pub interface_row : List Class → Class → List (Option Found)

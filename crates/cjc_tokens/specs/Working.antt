@@ -7,7 +7,7 @@ use Rattle.cjc_world.specs.declared.found.Found.{Found}
 use Rattle.cjc_world.specs.Files.{Files}
 use Rattle.cjc_bytes.specs.Breaks.{IsFirst}
 use Rattle.cjc_world.specs.Classes.{Member, Class, all_classes, declared, method_of_class}
-use Rattle.cjc_world.specs.Kin.{Kin, kin}
+use Rattle.cjc_world.specs.Supertypes.{Supertypes, supertypes}
 use Rattle.cjc_world.specs.Interfaces.{gathered, known}
 use Rattle.cjc_world.specs.Added.{methods_of}
 use Rattle.cjc_world.specs.Lookup.{or_else}
@@ -116,12 +116,12 @@ abbrev pub listed_method : (name desc : List ℕ) → List Signature
 listed_method name desc = if is_initialiser name then [] else record { name = name; desc = desc } ∷ []
 
 -- the methods of the interfaces of some classes
-abbrev pub asked : (listed : Bool) → Kin → List Signature
+abbrev pub asked : (listed : Bool) → Supertypes → List Signature
 asked listed k = map signature_of (methods_of (known (gathered listed k)))
 
 -- what stands before its own: an export file lists all
 abbrev pub above_where : List Class → Class → List Signature
-above_where w c = if c.is_imported then [] else asked false (kin w c.supers) ++ asked true (kin w c.interfaces)
+above_where w c = if c.is_imported then [] else asked false (supertypes w c.supers) ++ asked true (supertypes w c.interfaces)
 
 -- whether a class that is no interface breaks 413, from its slots
 abbrev pub is_high_class : (exported : Bool) → (shown hidden : Slots) → ClassTree → (added : List MemberId) → Bool

@@ -20,7 +20,9 @@ use crate::imports::import_tokens;
 use crate::line::{added_to, keep};
 use crate::slot::Rows;
 use crate::tokens::{ClassTokens, Tokens};
-use cjc_bytes::{Break, Fault, NoMemory, Row, Settings, Spot, file_of, is_interface, refused_at};
+use cjc_bytes::{
+    Break, Fault, NoMemory, Row, RulePlace, Settings, file_of, is_interface, refused_at,
+};
 use cjc_classfile::ClassTree;
 use cjc_world::{Known, World};
 use std::alloc::Global;
@@ -155,7 +157,7 @@ fn high_break<'w>(world: &'w World<'_>, number: u32, class: &'w ClassTree<'_>) -
     let file = file_of(world.lines().items(), number as usize);
     Break {
         rule: 413,
-        spot: Spot::of_class(file, 1, class.name.items()),
+        spot: RulePlace::of_class(file, 1, class.name.items()),
     }
 }
 

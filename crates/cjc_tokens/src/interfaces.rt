@@ -3,7 +3,7 @@
 
 ghost use Rattle.std.specs.Prelude.{◌≡◌, ◌+◌, ◌<◌, ◌++◌, ◌==◌, [], ◌∷◌, map, length, position, if◌then◌else◌, false, true, IfOk, IfSome, OnOk, Some};
 ghost use Rattle.cjc_world.specs.Classes.{all_classes, method_of_class, method_of_export};
-ghost use Rattle.cjc_world.specs.Kin.{kin};
+ghost use Rattle.cjc_world.specs.Supertypes.{supertypes};
 ghost use Rattle.cjc_world.specs.Working.Known.{class_of};
 ghost use Rattle.cjc_world.specs.Interfaces.{gathered, known};
 ghost use Rattle.cjc_world.specs.Working.Places.{at_places};
@@ -124,7 +124,7 @@ fn put_above<'w>(
     class: Known<'w, '_>,
     row: &mut Vec<Option<Slot<'w>>>,
 ) -> Result<(), NoMemory>
-    ensures { OnOk result (signs row.new.items ≡ with_new (signs row.old.items) (asked false (kin (all_classes world.now) (class_of class.entry).supers) ++ asked true (kin (all_classes world.now) (class_of class.entry).interfaces))) }
+    ensures { OnOk result (signs row.new.items ≡ with_new (signs row.old.items) (asked false (supertypes (all_classes world.now) (class_of class.entry).supers) ++ asked true (supertypes (all_classes world.now) (class_of class.entry).interfaces))) }
 {
     lookup_laws();
     world.acyclic();

@@ -3,7 +3,7 @@
 
 ghost use Rattle.std.specs.Prelude.{◌≡◌, ◌+◌, ◌<◌, ◌^◌, [], ◌∷◌, List, Option, map, length, slice_get, get_or, All, IfOk, IfSome, OnOk, Some, true};
 ghost use Rattle.cjc_world.specs.Classes.{Class, Member, all_classes, declared};
-ghost use Rattle.cjc_world.specs.Kin.{kin, upwards};
+ghost use Rattle.cjc_world.specs.Supertypes.{supertypes, upwards};
 ghost use Rattle.cjc_world.specs.Working.Known.{class_of};
 ghost use Rattle.cjc_world.specs.Added.{added, named_by};
 ghost use Rattle.cjc_tokens.specs.Lines.{Declared, Imported, Line, line_at, line_in};
@@ -53,7 +53,7 @@ fn rows_above<'w>(
     class: &ClassTree<'_>,
 ) -> Result<Rows<'w>, NoMemory>
     requires kept { IsKept (all_classes world.now) world.now.classes kept.now }
-    ensures { IfOk result (AreRowsOf (line_in (all_classes world.now) (kin (all_classes world.now) (class.now.superclass ∷ [])))) }
+    ensures { IfOk result (AreRowsOf (line_in (all_classes world.now) (supertypes (all_classes world.now) (class.now.superclass ∷ [])))) }
 {
     lookup_laws();
     world.acyclic();

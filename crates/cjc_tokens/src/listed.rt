@@ -4,7 +4,7 @@ ghost use Rattle.std.specs.Prelude.{◌≡◌, ◌+◌, ◌<◌, ◌&&◌, ◌++
 ghost use Rattle.std.specs.Str.{bytes_eq};
 ghost use Rattle.cjc_world.specs.declared.class.Known.{Known as AnyClass};
 ghost use Rattle.cjc_world.specs.Classes.{Member, all_classes, method_of_class, method_of_export};
-ghost use Rattle.cjc_world.specs.Kin.{kin, once, upwards};
+ghost use Rattle.cjc_world.specs.Supertypes.{supertypes, once, upwards};
 ghost use Rattle.cjc_world.specs.Working.Known.{class_of};
 ghost use Rattle.cjc_world.specs.Lookup.{first, is_called};
 ghost use Rattle.cjc_world.specs.Working.Places.{at_places};
@@ -42,7 +42,7 @@ pub(crate) fn with_supers<'w, 'a>(
     world: &'w World<'a>,
     class: Known<'w, 'a>,
 ) -> Result<Vec<Known<'w, 'a>>, NoMemory>
-    ensures { IfOk result (λ classes. map class_of classes.items ≡ class_of class.entry ∷ once [] (upwards (kin (all_classes world.now) (class_of class.entry).supers))) }
+    ensures { IfOk result (λ classes. map class_of classes.items ≡ class_of class.entry ∷ once [] (upwards (supertypes (all_classes world.now) (class_of class.entry).supers))) }
 {
     let places = world.superclasses(alloc, class)?;
     let mut classes = Vec::new(alloc);

@@ -44,7 +44,7 @@ import java/lang/NullPointerException 1 java/lang/Throwable,java/lang/Object - \
     | 0 1 <init> ()V | 0 1 equals (Ljava/lang/Object;)Z";
 
 /// What a package is made of.
-pub(crate) struct Draft<'a> {
+pub(crate) struct TestPackage<'a> {
     lines: Row<FileLine>,
     classes: Row<ClassTree<'a>>,
     exports: Vec<ExportTree>,
@@ -52,9 +52,9 @@ pub(crate) struct Draft<'a> {
     insns: Row<JInsn>,
 }
 
-impl Drop for Draft<'_> {
+impl Drop for TestPackage<'_> {
     fn drop(self) {
-        let Draft {
+        let TestPackage {
             lines: _lines,
             classes: _classes,
             exports: _exports,
@@ -413,10 +413,10 @@ fn have_one_head(line: &str, other: &str) -> bool {
     kind == other_kind && cut(words, " ").0 == cut(other_words, " ").0
 }
 
-impl<'a> Draft<'a> {
+impl<'a> TestPackage<'a> {
     /// A draft of nothing.
-    pub(crate) fn new(alloc: Global) -> Draft<'a> {
-        Draft {
+    pub(crate) fn new(alloc: Global) -> TestPackage<'a> {
+        TestPackage {
             lines: Row::new(alloc),
             classes: Row::new(alloc),
             exports: Vec::new(alloc),
@@ -575,7 +575,7 @@ impl<'a> Draft<'a> {
 
     /// The package p of these files.
     pub(crate) fn world(self, alloc: Global) -> Result<World<'a>, Fault> {
-        let Draft {
+        let TestPackage {
             lines,
             classes,
             exports,
@@ -589,7 +589,7 @@ impl<'a> Draft<'a> {
 
 /// The package p of a case among the lines around it.
 pub(crate) fn world_of<'a>(alloc: Global, around: &str, case: &str) -> Result<World<'a>, Fault> {
-    let mut draft = Draft::new(alloc);
+    let mut draft = TestPackage::new(alloc);
     draft.put_case(alloc, around, case)?;
     draft.world(alloc)
 }

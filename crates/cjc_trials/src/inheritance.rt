@@ -1,6 +1,6 @@
 //! What a class inherits where an export file names a super that no file has, or no super at all.
 
-use crate::drafts::{Draft, cut, is_refusal, question_and_answer};
+use crate::drafts::{TestPackage, cut, is_refusal, question_and_answer};
 use cjc_bytes::{Fault, Row, Settings};
 use cjc_subset::check;
 use std::alloc::Global;
@@ -29,7 +29,7 @@ class p/W 21 q/B p/I | 9 install ([BSB)V | 9 equals (Ljava/lang/Object;)Z \
 
 /// What is answered to a package with an applet line for p/W.
 fn answered(alloc: Global, package: &str) -> Result<(), Fault> {
-    let mut draft = Draft::new(alloc);
+    let mut draft = TestPackage::new(alloc);
     draft.put_case(alloc, AROUND, package)?;
     draft.put_case(alloc, "", "applets p/W aid01")?;
     let settings = Settings {

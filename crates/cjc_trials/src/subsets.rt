@@ -1,6 +1,6 @@
 //! One package, altered in one place at a time: what is refused, and where.
 
-use crate::drafts::{Draft, is_refusal, question_and_answer};
+use crate::drafts::{TestPackage, is_refusal, question_and_answer};
 use cjc_bytes::{Fault, NoMemory, Row, Settings};
 use cjc_code::{Codes, JInsn, MethodCode};
 use cjc_subset::{check, names};
@@ -143,7 +143,7 @@ fn codes(alloc: Global, insns: Row<JInsn>) -> Result<Codes, NoMemory> {
 
 /// What is answered to the package that is altered so.
 fn answered(alloc: Global, other: &str, ints: bool) -> Result<(), Fault> {
-    let mut draft = Draft::new(alloc);
+    let mut draft = TestPackage::new(alloc);
     draft.put_altered(alloc, PACKAGE, other)?;
     let codes = codes(alloc, draft.take_insns(alloc))?;
     let settings = Settings {

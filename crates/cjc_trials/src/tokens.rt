@@ -3,7 +3,7 @@
 ghost use Rattle.std.specs.Prelude.{◌≡◌, length, nat_lt, IfOk};
 ghost use Rattle.cjc_tokens.specs.Tokens.{assigned};
 
-use crate::drafts::{Draft, cut, is_number, is_refusal, number, question_and_answer, token};
+use crate::drafts::{TestPackage, cut, is_number, is_refusal, number, question_and_answer, token};
 use crate::found::is_found;
 use cjc_bytes::{Fault, Settings};
 use cjc_tokens::{Tokens, assign, few};
@@ -27,7 +27,7 @@ pub(crate) fn tokens_of(
 
 /// The tokens of a case among the lines around it.
 fn tokens(alloc: Global, around: &str, case: &str) -> Result<Tokens, Fault> {
-    let mut draft = Draft::new(alloc);
+    let mut draft = TestPackage::new(alloc);
     draft.put_case(alloc, around, case)?;
     let settings = Settings {
         ints: true,

@@ -49,10 +49,10 @@ AllNamed ts (r ∷ rs) = ((k : ℕ) → NamedIn ts r k) × AllNamed ts rs
 -- ---- the ranges
 
 -- an opcode that is arithmetic on int, or is not converted
-arith_or_foreign : (ts : List (List ℕ)) (b : Bool) → NamedIn ts (range 0 0 (λ k. bare (cond b (row 0x60).1 (row 0x61).1))) 0
+arith_or_unsupported : (ts : List (List ℕ)) (b : Bool) → NamedIn ts (range 0 0 (λ k. bare (cond b (row 0x60).1 (row 0x61).1))) 0
 unfolding row
-arith_or_foreign ts true pool at opcode zs h = tt
-arith_or_foreign ts false pool at opcode zs h = tt
+arith_or_unsupported ts true pool at opcode zs h = tt
+arith_or_unsupported ts false pool at opcode zs h = tt
 
 table : (ts : List (List ℕ)) → NamedIn ts (range 0 0 (λ k. row 0xAA)) 0
 unfolding row
@@ -134,9 +134,9 @@ all_named ts = (
                                                               (
                                                                 λ k pool at opcode zs h. tt,  -- pop, pop2, dup, dup_x1, dup_x2, dup2, dup2_x1, dup2_x2, swap
                                                                 (
-                                                                  λ k. arith_or_foreign ts (k % 4 == 0),  -- of int, long, float and double: add, sub, mul, div, rem, neg
+                                                                  λ k. arith_or_unsupported ts (k % 4 == 0),  -- of int, long, float and double: add, sub, mul, div, rem, neg
                                                                   (
-                                                                    λ k. arith_or_foreign ts (k % 2 == 0),  -- of int and long: shl, shr, ushr, and, or, xor
+                                                                    λ k. arith_or_unsupported ts (k % 2 == 0),  -- of int and long: shl, shr, ushr, and, or, xor
                                                                     (
                                                                       λ k pool at opcode zs h. tt,  -- iinc
                                                                       (

@@ -11,7 +11,7 @@ use Rattle.cjc_code.specs.Table.{Range, range, ranges, bare, row_in, row, heads,
 use Rattle.cjc_code.specs.Instruction.{operands, is_unknown, unless, opcode_at, widened, wide_opcode_at, behind_opcode, behind_first, is_prefix, instruction}
 use Rattle.cjc_code.specs.Cut.{IsCutFrom}
 use Rattle.cjc_code.specs.Named
-use Rattle.cjc_code.specs.Named.{is_foreign, cases, op_of}
+use Rattle.cjc_code.specs.Named.{is_unsupported, cases, op_of}
 use Rattle.cjc_code.specs.Numbers.{seconds, offsets, local}
 use Rattle.cjc_code.specs.Unfit.{may_go_on}
 use Rattle.cjc_types.specs.Steps.{goes_on, targets, case_target}
@@ -26,7 +26,7 @@ pub record Agrees (op : JOp) (led : List ℕ) (may : Bool) (named : Option ℕ) 
 -- that of the k-th opcode of the range
 abbrev HoldsIn : Range → (k : ℕ) → Type 0
 HoldsIn r k =
-    (pool : List PoolItem) (at opcode : ℕ) (zs : List ℤ) → length (heads (r.row k).0) ≤ length zs → is_foreign pool (r.row k).1 zs ≡ false
+    (pool : List PoolItem) (at opcode : ℕ) (zs : List ℤ) → length (heads (r.row k).0) ≤ length zs → is_unsupported pool (r.row k).1 zs ≡ false
     → Agrees (op_of pool at opcode (r.row k).1 zs) (map (Named.place at) (offsets (r.row k).1 zs)) (may_go_on (r.row k).1) (local (r.row k).1 zs)
 
 -- behind the prefix as many numbers of fixed place follow as without it
@@ -40,10 +40,10 @@ AllHold (r ∷ rs) = ((k : ℕ) → HoldsIn r k) × ((k : ℕ) → sizes_agree r
 -- ---- the ranges
 
 -- an opcode that is arithmetic on int, or is not converted
-arith_or_foreign : (b : Bool) → HoldsIn (range 0 0 (λ k. bare (cond b (row 0x60).1 (row 0x61).1))) 0
+arith_or_unsupported : (b : Bool) → HoldsIn (range 0 0 (λ k. bare (cond b (row 0x60).1 (row 0x61).1))) 0
 unfolding row
-arith_or_foreign true pool at opcode zs enough fine = record { leads = refl; goes = λ h. refl; local = λ j h. absurd cc }
-arith_or_foreign false pool at opcode zs enough fine = record { leads = refl; goes = λ h. refl; local = λ j h. absurd cc }
+arith_or_unsupported true pool at opcode zs enough fine = record { leads = refl; goes = λ h. refl; local = λ j h. absurd cc }
+arith_or_unsupported false pool at opcode zs enough fine = record { leads = refl; goes = λ h. refl; local = λ j h. absurd cc }
 
 table : HoldsIn (range 0 0 (λ k. row 0xAA)) 0
 unfolding row
@@ -162,10 +162,10 @@ all_hold = (
                                                                 λ k pool at opcode zs enough fine. record { leads = refl; goes = λ h. refl; local = λ j h. absurd cc },
                                                                 λ k. refl,  -- pop, pop2, dup, dup_x1, dup_x2, dup2, dup2_x1, dup2_x2, swap
                                                                 (
-                                                                  λ k. arith_or_foreign (k % 4 == 0),
+                                                                  λ k. arith_or_unsupported (k % 4 == 0),
                                                                   λ k. refl,  -- of int, long, float and double: add, sub, mul, div, rem, neg
                                                                   (
-                                                                    λ k. arith_or_foreign (k % 2 == 0),
+                                                                    λ k. arith_or_unsupported (k % 2 == 0),
                                                                     λ k. refl,  -- of int and long: shl, shr, ushr, and, or, xor
                                                                     (
                                                                       λ k pool at opcode zs enough fine. record { leads = refl; goes = λ h. refl; local = λ j h. h },
@@ -435,11 +435,11 @@ cut_row zero place bytes (first ∷ insns) stop (front, back, parts, spelt, rest
 cut_row (suc k) place bytes (first ∷ insns) stop (front, back, parts, spelt, rest) i e = cut_row k (place + length front) back insns stop rest i e
 
 -- an instruction that was cut does what its family says
-pub cut_agrees : (k place : ℕ) (bytes : List ℕ) (insns : _) (stop : ℕ) → IsCutFrom place bytes insns stop → (i : _) → slice_get insns k ≡ Some i → (pool : List PoolItem) → is_foreign pool i.family i.numbers ≡ false
+pub cut_agrees : (k place : ℕ) (bytes : List ℕ) (insns : _) (stop : ℕ) → IsCutFrom place bytes insns stop → (i : _) → slice_get insns k ≡ Some i → (pool : List PoolItem) → is_unsupported pool i.family i.numbers ≡ false
     → Agrees (op_of pool i.at i.opcode i.family i.numbers) (map (Named.place i.at) (offsets i.family i.numbers)) (may_go_on i.family) (local i.family i.numbers)
 cut_agrees k place bytes insns stop h i e pool fine =
     let r = cut_row k place bytes insns stop h i e in
-    subst (λ f. is_foreign pool f i.numbers ≡ false → Agrees (op_of pool i.at i.opcode f i.numbers) (map (Named.place i.at) (offsets f i.numbers)) (may_go_on f) (local f i.numbers)) (sym r.1)
+    subst (λ f. is_unsupported pool f i.numbers ≡ false → Agrees (op_of pool i.at i.opcode f i.numbers) (map (Named.place i.at) (offsets f i.numbers)) (may_go_on f) (local f i.numbers)) (sym r.1)
     (row_holds r.0 pool i.at i.opcode i.numbers r.2) fine
 
 -- the cut stops at the end or before

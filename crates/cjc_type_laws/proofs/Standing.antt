@@ -14,7 +14,7 @@ use Rattle.cjc_code.specs.declared.method_code.MethodCode.{MethodCode}
 use Rattle.cjc_code.specs.Cut.{cut}
 use Rattle.cjc_code.specs.Table.{count}
 use Rattle.cjc_code.specs.Decoded.{of_code, of_method}
-use Rattle.cjc_code.specs.Named.{is_foreign, place}
+use Rattle.cjc_code.specs.Named.{is_unsupported, place}
 use Rattle.cjc_code.specs.Numbers.{target, offsets, local}
 use Rattle.cjc_code.specs.Rules.{IsDecoded, starts_at, with_names, stopped, wrong_jump, wrong_local, falls, wrong_target}
 use Rattle.cjc_code.specs.Unfit.{starts, is_start, has_wrong_jump, has_wrong_local, is_from, may_go_on}
@@ -87,7 +87,7 @@ module _ (files : Files) (code : MethodCode) (class : ClassTree) (method : Metho
   agrees : (k : ℕ) (i : _) → slice_get (cut tree.bytes).insns k ≡ Some i
       → Agrees (with_names class.pool i).op (map (place i.at) (offsets i.family i.numbers)) (may_go_on i.family) (local i.family i.numbers)
   agrees k i e = cut_agrees k 0 tree.bytes (cut tree.bytes).insns (cut tree.bytes).stop (is_cut tree.bytes) i e class.pool
-      (is_not (is_foreign class.pool i.family i.numbers) (All-contains (λ r. not (is_foreign class.pool r.family r.numbers) ≡ true) (cut tree.bytes).insns i decoded.fine (at_contains (cut tree.bytes).insns k i e)))
+      (is_not (is_unsupported class.pool i.family i.numbers) (All-contains (λ r. not (is_unsupported class.pool r.family r.numbers) ≡ true) (cut tree.bytes).insns i decoded.fine (at_contains (cut tree.bytes).insns k i e)))
 
   -- where an instruction was cut, one stands
   placed : (k : ℕ) (i : _) (offset : ℕ) → slice_get (cut tree.bytes).insns k ≡ Some i → i.at ≡ offset → HasPlace code.insns offset

@@ -11,7 +11,7 @@ use Rattle.cjc_code.specs.declared.method_code.MethodCode.{MethodCode}
 use Rattle.cjc_code.specs.Instruction.{instruction}
 use Rattle.cjc_code.specs.Cut.{cut_on, cut_rest, cut}
 use Rattle.cjc_code.specs.Named.{named, all_named}
-use Rattle.cjc_code.specs.Decoded.{least, unless_unfit, unless_foreign, of_code, of_method, decoding}
+use Rattle.cjc_code.specs.Decoded.{least, unless_unfit, unless_unsupported, of_code, of_method, decoding}
 use Rattle.cjc_code.specs.Unfit.{unfit_code}
 use Rattle.cjc_world.specs.Files.{Files}
 use Rattle.cjc_types.specs.Tables.{IsMethodOf}
@@ -35,13 +35,13 @@ each_as_many {A} {B} p (x ∷ xs) ys e = go (p x) (each p xs) (each_as_many p xs
     go (Ok y) (Err k) h e = absurd cc
     go (Ok y) (Ok zs) h e = let same : y ∷ zs ≡ ys = cc in ap length (sym same) ∙ ap suc (h zs refl)
 
-foreign_ok : (found : Result (List JInsn) ℕ) (insns : List JInsn) → unless_foreign found ≡ Ok insns → found ≡ Ok insns
-foreign_ok (Ok more) insns e = ap Ok (let same : more ≡ insns = cc in same)
-foreign_ok (Err k) insns e = absurd cc
+unsupported_ok : (found : Result (List JInsn) ℕ) (insns : List JInsn) → unless_unsupported found ≡ Ok insns → found ≡ Ok insns
+unsupported_ok (Ok more) insns e = ap Ok (let same : more ≡ insns = cc in same)
+unsupported_ok (Err k) insns e = absurd cc
 
-unfit_ok : (k : Option ℕ) (found : Result (List JInsn) ℕ) (insns : List JInsn) → unless_unfit k (unless_foreign found) ≡ Ok insns → found ≡ Ok insns
+unfit_ok : (k : Option ℕ) (found : Result (List JInsn) ℕ) (insns : List JInsn) → unless_unfit k (unless_unsupported found) ≡ Ok insns → found ≡ Ok insns
 unfit_ok (Some k) found insns e = absurd cc
-unfit_ok None found insns e = foreign_ok found insns e
+unfit_ok None found insns e = unsupported_ok found insns e
 
 named_few : (class : ClassTree) (method : MethodTree) (code : CodeTree) (insns : List JInsn) → decoding class method code ≡ Ok insns → length insns ≤ length code.bytes
 unfolding decoding all_named cut

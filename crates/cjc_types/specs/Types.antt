@@ -2,8 +2,8 @@
 use Rattle.std.specs.Prelude.{ℕ, ◌^◌, Bool, true, false, ◌==◌, nat_lt, if◌then◌else◌, List, [], ◌∷◌, ◌++◌, length, Option, Some, None}
 use Rattle.cjc_bytes.specs.Descriptor.{Part, Parts, plain}
 use Rattle.cjc_bytes.specs.Spots.{desc_of}
-use Rattle.cjc_bytes.specs.declared.names.Kind.{Kind}
-use Rattle.cjc_bytes.specs.declared.names.Kind.TheVariants as kinds
+use Rattle.cjc_bytes.specs.declared.descriptor.Kind.{Kind}
+use Rattle.cjc_bytes.specs.declared.descriptor.Kind.TheVariants as kinds
 use Rattle.cjc_world.specs.Subtype.{starts, inner}
 use Rattle.cjc_code.specs.Jvm as jvm
 use Rattle.cjc_types.specs.declared.cell.Cell.{Cell}

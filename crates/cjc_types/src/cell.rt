@@ -2,7 +2,7 @@
 //! no instruction.
 
 ghost use Rattle.std.specs.Prelude.{◌≡◌, ◌≤◌, ◌^◌, IfOk, IsTrue};
-ghost use Rattle.cjc_types.specs.Cells.{IsCell, cell_rank, joined_cell, refs as refs_cell};
+ghost use Rattle.cjc_types.specs.Cells.{IsCell, cell_rank, joined_cell, refs};
 
 use crate::names::{self, Names};
 use cjc_bytes::NoMemory;
@@ -23,7 +23,7 @@ pub enum Cell {
 /// The cell of a set of types.
 #[tactic(auto, unfolding(crate::specs::Cells::most_names))]
 pub(crate) fn refs(types: Names) -> Cell
-    ensures { result ≡ refs_cell types }
+    ensures { result ≡ refs types }
 {
     if types.items().len() <= 0xFFFF_FFFF {
         Cell::Refs(types)

@@ -3,7 +3,7 @@
 
 ghost use Rattle.std.specs.Prelude.{◌≡◌, ◌<◌, ◌^◌, length, IfOk, IfErr, IfSome, Ok, Err};
 ghost use Rattle.cjc_world.specs.Classes.{all_classes};
-ghost use Rattle.cjc_types.specs.Search.{row_rule as row_rule_of, first_from, frames_of};
+ghost use Rattle.cjc_types.specs.Search.{row_rule, first_from, frames_of};
 ghost use Rattle.cjc_fixpoint.specs.Kept.{StandsForLeast, full};
 ghost use Rattle.cjc_types.specs.Flow.{body_of, type_flow};
 ghost use Rattle.cjc_types.specs.Marks.{marks_of as marks_by};
@@ -67,7 +67,7 @@ fn row_rule(
     insn: &JInsn,
     row: &Option<State>,
 ) -> Option<u16>
-    ensures { result ≡ row_rule_of (all_classes world.now) method.now insn.now row.now }
+    ensures { result ≡ row_rule (all_classes world.now) method.now insn.now row.now }
 {
     match row {
         Some(state) => rules::first_rule(world, method, &insn.op, state),

@@ -4,7 +4,7 @@
 
 ghost use Rattle.std.specs.Prelude.{◌≡◌, ◌+◌, ◌≤◌, ◌∷◌, map, length, if◌then◌else◌, IfOk};
 ghost use Rattle.cjc_types.specs.Repeats.{jumps as is_jump};
-ghost use Rattle.cjc_types.specs.Steps.{stack_takes as stack_takes_of, compares as compares_by, receivers as receivers_of, takes as takes_of, shuffled, goes_on as goes_on_past, targets as targets_of, case_target};
+ghost use Rattle.cjc_types.specs.Steps.{stack_takes, compares, receivers, takes, shuffled, goes_on, targets, case_target};
 ghost use Rattle.cjc_types.specs.Types.{parts};
 
 use crate::types;
@@ -13,7 +13,7 @@ use cjc_code::{JCase, JOp, jvm};
 use std::alloc::Global;
 
 fn stack_takes(opcode: u8) -> usize
-    ensures { result ≡ stack_takes_of opcode }
+    ensures { result ≡ stack_takes opcode }
 {
     match opcode {
         jvm::POP | jvm::DUP => 1,
@@ -25,14 +25,14 @@ fn stack_takes(opcode: u8) -> usize
 }
 
 fn compares(opcode: u8) -> bool
-    ensures { result ≡ compares_by opcode }
+    ensures { result ≡ compares opcode }
 {
     jvm::IF_ICMPEQ <= opcode && opcode <= jvm::IF_ACMPNE
 }
 
 /// How many receivers a call by this opcode has.
 fn receivers(opcode: u8) -> usize
-    ensures count { result ≡ receivers_of opcode }
+    ensures count { result ≡ receivers opcode }
     ensures small { result ≤ 1 }
 {
     if opcode == jvm::INVOKESTATIC { 0 } else { 1 }
@@ -40,7 +40,7 @@ fn receivers(opcode: u8) -> usize
 
 /// How many operands a call takes.
 fn call_takes(opcode: u8, method: &MemberId) -> usize
-    ensures { result ≡ length (parts method.now.desc).params + receivers_of opcode }
+    ensures { result ≡ length (parts method.now.desc).params + receivers opcode }
 {
     types::parameters(method.desc.items()) + receivers(opcode)
 }
@@ -54,7 +54,7 @@ pub(crate) fn either(test: bool, yes: usize, no: usize) -> usize
 
 /// How many operands an instruction takes from the stack.
 pub fn takes(op: &JOp) -> usize
-    ensures { result ≡ takes_of op.now }
+    ensures { result ≡ takes op.now }
 {
     match op {
         JOp::Store { .. } | JOp::Narrow(_) | JOp::TableSwitch { .. } | JOp::LookupSwitch { .. } => {
@@ -93,7 +93,7 @@ pub fn shuffle(opcode: u8) -> &'static [u8]
 
 /// Whether the next instruction may follow.
 pub fn goes_on(op: &JOp) -> bool
-    ensures { result ≡ goes_on_past op.now }
+    ensures { result ≡ goes_on op.now }
 {
     match op {
         JOp::Goto(_) | JOp::TableSwitch { .. } | JOp::LookupSwitch { .. } => false,
@@ -134,7 +134,7 @@ fn case_offsets(alloc: Global, first: u32, cases: &[JCase]) -> Result<Row<u32>, 
 
 /// The offsets that an instruction may jump to.
 pub fn targets(alloc: Global, op: &JOp) -> Result<Row<u32>, NoMemory>
-    ensures { IfOk result (λ offsets. offsets ≡ targets_of op.now) }
+    ensures { IfOk result (λ offsets. offsets ≡ targets op.now) }
 {
     match op {
         JOp::If { target, .. } => offsets(alloc, *target, &[]),

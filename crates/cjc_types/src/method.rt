@@ -2,7 +2,7 @@
 //! along jumps, switches and handlers.
 
 ghost use Rattle.std.specs.Prelude.{◌≡◌, ◌<◌, ◌≤◌, ◌+◌, ◌^◌, [], ◌∷◌, ◌++◌, map, filter_map, length, slice_get, option_map, IfOk, OnOk};
-ghost use Rattle.cjc_types.specs.Flow.{Body, body_of, arguments as arguments_of, entry as entry_of, place_at as place_by, next_place as next_by, successors as successors_of, edge, covers as covers_offset, caught_type as type_caught, caught as caught_by, handler_edge as handler_edge_of, insn_edges as insn_edges_of, place_edges as edges_of_place};
+ghost use Rattle.cjc_types.specs.Flow.{Body, body_of, arguments, entry, place_at as place_by, next_place as next_by, successors, edge, covers, caught_type as type_caught, caught as caught_by, handler_edge, insn_edges, place_edges as edges_of_place};
 ghost use Rattle.cjc_types.specs.Index.{AreInOrder};
 ghost use Rattle.cjc_types.specs.Tables.{IsMethodOf, IsOfPackage};
 ghost use Rattle.cjc_types.specs.Working.Onward.{gone_on};
@@ -61,7 +61,7 @@ fn caught_type(class: &Option<Bytes>) -> &[u8]
 
 /// Whether a handler is that of the instruction at an offset.
 pub fn covers(catch: &Catch, offset: u32) -> bool
-    ensures { result ≡ covers_offset catch.now offset }
+    ensures { result ≡ covers catch.now offset }
 {
     u32::from(catch.start) <= offset && offset < u32::from(catch.end)
 }
@@ -195,7 +195,7 @@ impl<'a> Method<'a> {
 
     /// What the arguments of the method are.
     fn arguments(&self, alloc: Global) -> Result<Row<Cell>, NoMemory>
-        ensures { IfOk result (λ cells. cells ≡ arguments_of self.now) }
+        ensures { IfOk result (λ cells. cells ≡ arguments self.now) }
     {
         let mut cells = Row::new(alloc);
         if !is_static(self.flags) {
@@ -238,7 +238,7 @@ impl<'a> Method<'a> {
     /// The places of the instructions that may follow.
     pub fn successors(&self, alloc: Global, at: u32, op: &JOp) -> Result<Row<u32>, NoMemory>
         requires { at < length self.now.insns }
-        ensures { IfOk result (λ places. places ≡ successors_of self.now.insns at op.now) }
+        ensures { IfOk result (λ places. places ≡ successors self.now.insns at op.now) }
     {
         let mut places = Row::new(alloc);
         self.put_next(&mut places, insns::goes_on(op), at)?;
@@ -255,7 +255,7 @@ impl<'a> Method<'a> {
         before: &State,
         catch: &Catch,
     ) -> Result<Option<Edge<State>>, NoMemory>
-        ensures { IfOk result (λ edge. edge ≡ handler_edge_of self.now.insns offset before.now catch.now) }
+        ensures { IfOk result (λ edge. edge ≡ handler_edge self.now.insns offset before.now catch.now) }
     {
         if !covers(catch, offset) {
             return Ok(None);
@@ -277,7 +277,7 @@ impl<'a> Method<'a> {
         offset: u32,
         before: &State,
     ) -> Result<(), NoMemory>
-        ensures { OnOk result (edges.new ≡ edges.old ++ filter_map (handler_edge_of self.now.insns offset before.now) self.now.catches) }
+        ensures { OnOk result (edges.new ≡ edges.old ++ filter_map (handler_edge self.now.insns offset before.now) self.now.catches) }
     {
         for catch in self.catches {
             put_some(edges, self.handler_edge(alloc, offset, before, catch)?)?;
@@ -295,7 +295,7 @@ impl<'a> Method<'a> {
         before: State,
     ) -> Result<Row<Edge<State>>, NoMemory>
         requires { at < length self.now.insns }
-        ensures { IfOk result (λ edges. edges ≡ insn_edges_of self.now at insn.now before) }
+        ensures { IfOk result (λ edges. edges ≡ insn_edges self.now at insn.now before) }
     {
         let mut handled = Row::new(alloc);
         self.put_handlers(alloc, &mut handled, insn.at, &before)?;

@@ -8,7 +8,7 @@ ghost use Rattle.cjc_world.specs.Subtype.{is_subtype, starts};
 ghost use Rattle.cjc_world.specs.Working.Known.{class_of};
 ghost use Rattle.cjc_types.specs.Steps.{operand};
 ghost use Rattle.cjc_types.specs.Types.{parts};
-ghost use Rattle.cjc_types.specs.Rules.{is_number as is_number_cell, is_reference as is_reference_cell, all_types, is_of as is_of_class, is_value as is_value_by, is_array_by as is_array_of, is_array_for as is_array_loaded, names_private as names_private_method, is_private_in, is_super_call as is_called_by_super, receiver_class as class_of_receiver, is_argument as is_argument_at, tests_references as tests_references_by, is_load_operand as is_operand_of_load, is_store_operand as is_operand_of_store, is_field_operand as is_operand_of_field, accepts as accepts_cell, has_wrong, has_wrong_local as is_local_wrong, returns as returns_kind, is_wrong_return as is_return_wrong, is_wrong as is_stack_wrong, is_off as is_stack_off, first_rule as first_broken};
+ghost use Rattle.cjc_types.specs.Rules.{is_number, is_reference, all_types, is_of, is_value, is_array_by as is_array_of, is_array_for as is_array_loaded, names_private, is_private_in, is_super_call as is_called_by_super, receiver_class as class_of_receiver, is_argument, tests_references, is_load_operand as is_operand_of_load, is_store_operand as is_operand_of_store, is_field_operand as is_operand_of_field, accepts, has_wrong, has_wrong_local as is_local_wrong, returns, is_wrong_return as is_return_wrong, is_wrong as is_stack_wrong, is_off as is_stack_off, first_rule as first_broken};
 ghost use Rattle.cjc_types.specs.declared.cell.Cell.{Cell as Word};
 
 use crate::cell::Cell;
@@ -22,7 +22,7 @@ use cjc_code::{JOp, jvm};
 use cjc_world::{Found, Known, World};
 
 fn is_number(cell: &Cell) -> bool
-    ensures { result ≡ is_number_cell cell.now }
+    ensures { result ≡ is_number cell.now }
 {
     match cell {
         Cell::Number => true,
@@ -31,7 +31,7 @@ fn is_number(cell: &Cell) -> bool
 }
 
 fn is_reference(cell: &Cell) -> bool
-    ensures { result ≡ is_reference_cell cell.now }
+    ensures { result ≡ is_reference cell.now }
 {
     match cell {
         Cell::Refs(_) => true,
@@ -41,7 +41,7 @@ fn is_reference(cell: &Cell) -> bool
 
 /// A reference or a number.
 fn is_kind(refs: bool, cell: &Cell) -> bool
-    ensures { result ≡ (if refs then is_reference_cell cell.now else is_number_cell cell.now) }
+    ensures { result ≡ (if refs then is_reference cell.now else is_number cell.now) }
 {
     if refs {
         is_reference(cell)
@@ -63,7 +63,7 @@ fn are_of(world: &World<'_>, types: &[Name], class: &[u8]) -> bool
 
 /// Whether a cell is a reference of a class or array type.
 fn is_of(world: &World<'_>, class: &[u8], cell: &Cell) -> bool
-    ensures { result ≡ is_of_class (all_classes world.now) class.now cell.now }
+    ensures { result ≡ is_of (all_classes world.now) class.now cell.now }
 {
     match cell {
         Cell::Refs(types) => are_of(world, types.items(), class),
@@ -73,7 +73,7 @@ fn is_of(world: &World<'_>, class: &[u8], cell: &Cell) -> bool
 
 /// Whether a cell is a value of a type.
 fn is_value(world: &World<'_>, kind: Kind, class: &[u8], cell: &Cell) -> bool
-    ensures { result ≡ is_value_by (all_classes world.now) kind class.now cell.now }
+    ensures { result ≡ is_value (all_classes world.now) kind class.now cell.now }
 {
     match kind {
         Kind::Bool | Kind::Byte | Kind::Short | Kind::Int => is_number(cell),
@@ -84,7 +84,7 @@ fn is_value(world: &World<'_>, kind: Kind, class: &[u8], cell: &Cell) -> bool
 
 /// Whether a cell is a value of the type of a field, or of a method's result.
 fn is_result(world: &World<'_>, desc: &[u8], cell: &Cell) -> bool
-    ensures { result ≡ is_value_by (all_classes world.now) (parts desc.now).result.kind (parts desc.now).result.class cell.now }
+    ensures { result ≡ is_value (all_classes world.now) (parts desc.now).result.kind (parts desc.now).result.class cell.now }
 {
     match types::parsed(desc) {
         Some(parsed) => {
@@ -181,7 +181,7 @@ fn is_private_at(class: Known<'_, '_>, found: Found) -> bool
 /// Whether an instruction names a private method.
 #[tactic(auto, unfolding(crate::specs::Rules::names_private))]
 fn names_private(world: &World<'_>, id: &MemberId) -> bool
-    ensures { result ≡ names_private_method (all_classes world.now) id.now }
+    ensures { result ≡ names_private (all_classes world.now) id.now }
 {
     let found = match world.find_method(id) {
         Some(found) => found,
@@ -210,7 +210,7 @@ fn is_receiver(
     id: &MemberId,
     cell: &Cell,
 ) -> bool
-    ensures { result ≡ is_of_class (all_classes world.now) (class_of_receiver (all_classes world.now) method.now opcode id.now) cell.now }
+    ensures { result ≡ is_of (all_classes world.now) (class_of_receiver (all_classes world.now) method.now opcode id.now) cell.now }
 {
     if is_super_call(world, opcode, id) {
         is_of(world, method.class, cell)
@@ -228,7 +228,7 @@ fn is_argument(
     k: usize,
     cell: &Cell,
 ) -> bool
-    ensures { result ≡ is_argument_at (all_classes world.now) method.now opcode id.now k cell.now }
+    ensures { result ≡ is_argument (all_classes world.now) method.now opcode id.now k cell.now }
 {
     if let Some(parsed) = types::parsed(id.desc.items()) {
         let count = parsed.params() as usize;
@@ -241,7 +241,7 @@ fn is_argument(
 }
 
 fn tests_references(opcode: u8) -> bool
-    ensures { result ≡ tests_references_by opcode }
+    ensures { result ≡ tests_references opcode }
 {
     opcode == jvm::IF_ACMPEQ
         || opcode == jvm::IF_ACMPNE
@@ -287,7 +287,7 @@ fn is_field_operand(world: &World<'_>, put: bool, field: &MemberId, k: usize, ce
 
 /// Whether the k-th operand of an instruction from the top may be this cell.
 fn accepts(world: &World<'_>, method: &Method<'_>, op: &JOp, k: usize, cell: &Cell) -> bool
-    ensures { result ≡ accepts_cell (all_classes world.now) method.now op.now k cell.now }
+    ensures { result ≡ accepts (all_classes world.now) method.now op.now k cell.now }
 {
     match op {
         JOp::Arith(_) | JOp::Narrow(_) | JOp::TableSwitch { .. } | JOp::LookupSwitch { .. } => {
@@ -337,7 +337,7 @@ fn has_wrong_operand(
 
 /// Whether a local is there and of a kind.
 fn is_local(refs: bool, locals: &[Cell], local: u16) -> bool
-    ensures { result ≡ (if refs then is_reference_cell (operand locals.now local) else is_number_cell (operand locals.now local)) }
+    ensures { result ≡ (if refs then is_reference (operand locals.now local) else is_number (operand locals.now local)) }
 {
     match locals.get(local as usize) {
         Some(cell) => is_kind(refs, cell),
@@ -356,7 +356,7 @@ fn has_wrong_local(op: &JOp, locals: &[Cell]) -> bool
 }
 
 fn returns(opcode: u8, kind: Kind) -> bool
-    ensures { result ≡ returns_kind opcode kind }
+    ensures { result ≡ returns opcode kind }
 {
     match kind {
         Kind::Bool | Kind::Byte | Kind::Short | Kind::Int => opcode == jvm::IRETURN,

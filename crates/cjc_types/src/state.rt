@@ -4,7 +4,7 @@
 ghost use Rattle.std.specs.Prelude.{◌≡◌, ◌≤◌, ◌+◌, ◌*◌, ◌^◌, length, sum_by, All, IfOk, IsTrue};
 ghost use Rattle.cjc_fixpoint.specs.Lattice.{joined as joined_in_turn};
 ghost use Rattle.cjc_types.specs.Cells.{IsCell, cell_rank, joined_cell};
-ghost use Rattle.cjc_types.specs.States.{IsStack, joined_stack, stack_of as stack_of_cells, stack_rank, states};
+ghost use Rattle.cjc_types.specs.States.{IsStack, joined_stack, stack_of, stack_rank, states};
 
 use crate::cell::{self, Cell};
 use crate::operands::Operands;
@@ -90,7 +90,7 @@ pub(crate) fn cells_rank(cells: &[Cell]) -> u64
 /// The stack of these cells.
 #[tactic(auto, unfolding(crate::specs::States::most_cells))]
 pub(crate) fn stack_of(cells: Operands) -> Stack
-    ensures { result ≡ stack_of_cells cells }
+    ensures { result ≡ stack_of cells }
 {
     if cells.len() <= 393_216 {
         Stack::Cells(cells)

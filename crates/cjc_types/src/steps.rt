@@ -2,8 +2,8 @@
 //! what it sets in the locals. Rules are tested elsewhere.
 
 ghost use Rattle.std.specs.Prelude.{◌≡◌, ◌≤◌, List, [], ◌∷◌, ◌++◌, map, length, drop, slice_set, if◌then◌else◌, IfOk};
-ghost use Rattle.cjc_types.specs.Steps.{operand, local_value as value_of_local, gives, stack_behind, stack_after, stored as stored_by, locals_after, after as state_after};
-ghost use Rattle.cjc_types.specs.Types.{parts, result_of, element_of, as_reference, array_of as array_of_name};
+ghost use Rattle.cjc_types.specs.Steps.{operand, local_value as value_of_local, gives, stack_behind, stack_after, stored, locals_after, after as state_after};
+ghost use Rattle.cjc_types.specs.Types.{parts, result_of, element_of, as_reference, array_of};
 ghost use Rattle.cjc_types.specs.declared.cell.Cell.{Cell as Known};
 ghost use Rattle.cjc_types.specs.declared.cell.Cell.TheVariants as cells_of;
 
@@ -104,7 +104,7 @@ fn got(alloc: Global, put: bool, field: &MemberId) -> Result<Row<Cell>, NoMemory
 
 /// A reference to an array of references.
 fn array_of(alloc: Global, class: &Bytes) -> Result<Row<Cell>, NoMemory>
-    ensures { IfOk result (λ cells. cells ≡ cells_of.Refs (array_of_name class.now ∷ []) ∷ []) }
+    ensures { IfOk result (λ cells. cells ≡ cells_of.Refs (array_of class.now ∷ []) ∷ []) }
 {
     let array = types::array_of(alloc, class.items())?;
     of_type(alloc, array.items())
@@ -177,7 +177,7 @@ fn after_stack(alloc: Global, op: &JOp, locals: &[Cell], stack: Stack) -> Result
 
 /// What a store puts into a local.
 fn stored(refs: bool, stack: &Stack) -> Result<Cell, NoMemory>
-    ensures { IfOk result (λ cell. cell ≡ stored_by refs stack.now) }
+    ensures { IfOk result (λ cell. cell ≡ stored refs stack.now) }
 {
     match stack {
         Stack::Cells(cells) if refs => top_reference(cells),

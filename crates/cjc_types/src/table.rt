@@ -2,8 +2,8 @@
 //! kept where ways meet.
 
 ghost use Rattle.std.specs.Prelude.{◌≡◌, option_map, IfOk};
-ghost use Rattle.cjc_types.specs.Search.{cells_of as cells_of_stack, frame_of as frame_of_state};
-ghost use Rattle.cjc_types.specs.Tables.{state_of as state_of_frame};
+ghost use Rattle.cjc_types.specs.Search.{cells_of, frame_of};
+ghost use Rattle.cjc_types.specs.Tables.{state_of};
 
 use crate::cell::Cell;
 use crate::operands::Operands;
@@ -33,7 +33,7 @@ pub struct TypeTable {
 
 /// The cells of a stack; of a clash none.
 fn cells_of(alloc: Global, stack: Stack) -> Operands
-    ensures { result ≡ cells_of_stack stack }
+    ensures { result ≡ cells_of stack }
 {
     match stack {
         Stack::Cells(cells) => cells,
@@ -43,7 +43,7 @@ fn cells_of(alloc: Global, stack: Stack) -> Operands
 
 /// The frame of a state.
 fn frame_of(alloc: Global, state: State) -> Frame
-    ensures { result ≡ frame_of_state state }
+    ensures { result ≡ frame_of state }
 {
     let State { stack, locals } = state;
     Frame {
@@ -54,7 +54,7 @@ fn frame_of(alloc: Global, state: State) -> Frame
 
 /// The frame of a row.
 pub(crate) fn frame_in(alloc: Global, row: Option<State>) -> Option<Frame>
-    ensures { result ≡ option_map frame_of_state row }
+    ensures { result ≡ option_map frame_of row }
 {
     match row {
         Some(state) => Some(frame_of(alloc, state)),
@@ -64,7 +64,7 @@ pub(crate) fn frame_in(alloc: Global, row: Option<State>) -> Option<Frame>
 
 /// The state of a frame.
 pub(crate) fn state_of(frame: Frame) -> State
-    ensures { result ≡ state_of_frame frame }
+    ensures { result ≡ state_of frame }
 {
     let Frame { stack, locals } = frame;
     State {

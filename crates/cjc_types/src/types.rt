@@ -3,9 +3,9 @@
 
 ghost use Rattle.std.specs.Prelude.{◌≡◌, ◌+◌, ◌≤◌, ◌<◌, ◌^◌, [], ◌∷◌, ◌++◌, length, not, IfOk, OnOk, option_map};
 ghost use Rattle.cjc_bytes.specs.Descriptor.{Part, part_at};
-ghost use Rattle.cjc_world.specs.Subtype.{starts as starts_by, inner as inner_of};
+ghost use Rattle.cjc_world.specs.Subtype.{starts, inner};
 ghost use Rattle.cjc_types.specs.Names.{IsSet};
-ghost use Rattle.cjc_types.specs.Types.{parts, parts_or_none, cell_of as cell_of_kind, value_of as value_of_part, is_void as is_void_kind, result_of, array_of as array_of_name, letter as letter_of, held, held_by, elements as elements_of, element_of as element_of_cell, as_reference as reference_of, with_held};
+ghost use Rattle.cjc_types.specs.Types.{parts, parts_or_none, cell_of, value_of, is_void, result_of, array_of, letter, held, held_by, elements, element_of, as_reference as reference_of, with_held};
 
 use crate::cell::{self, Cell};
 use crate::names::{self, Name, Names};
@@ -41,7 +41,7 @@ pub(crate) fn parameters(desc: &[u8]) -> usize
 
 /// What a value of a type is.
 pub(crate) fn value_of(alloc: Global, kind: Kind, class: &[u8]) -> Result<Cell, NoMemory>
-    ensures { IfOk result (λ cell. cell ≡ cell_of_kind kind class.now) }
+    ensures { IfOk result (λ cell. cell ≡ cell_of kind class.now) }
 {
     match kind {
         Kind::Bool | Kind::Byte | Kind::Short | Kind::Int => Ok(Cell::Number),
@@ -51,7 +51,7 @@ pub(crate) fn value_of(alloc: Global, kind: Kind, class: &[u8]) -> Result<Cell, 
 }
 
 fn is_void(kind: Kind) -> bool
-    ensures { result ≡ is_void_kind kind }
+    ensures { result ≡ is_void kind }
 {
     match kind {
         Kind::Void => true,
@@ -61,7 +61,7 @@ fn is_void(kind: Kind) -> bool
 
 /// Whether a descriptor has a result.
 pub(crate) fn has_result(desc: &[u8]) -> bool
-    ensures { result ≡ not (is_void_kind (parts desc.now).result.kind) }
+    ensures { result ≡ not (is_void (parts desc.now).result.kind) }
 {
     match parsed(desc) {
         Some(parsed) => !is_void(parsed.kind(parsed.params())),
@@ -86,7 +86,7 @@ pub(crate) fn given_by(alloc: Global, desc: &[u8]) -> Result<Row<Cell>, NoMemory
 
 /// Whether there is a first byte and it is this one.
 pub(crate) fn starts(first: u8, bytes: &[u8]) -> bool
-    ensures { result ≡ starts_by first bytes.now }
+    ensures { result ≡ starts first bytes.now }
 {
     match bytes {
         [] => false,
@@ -96,7 +96,7 @@ pub(crate) fn starts(first: u8, bytes: &[u8]) -> bool
 
 /// What stands between the first byte and the last.
 fn inner(bytes: &[u8]) -> &[u8]
-    ensures { result.now ≡ inner_of bytes.now }
+    ensures { result.now ≡ inner bytes.now }
 {
     match bytes {
         [] => bytes,
@@ -106,7 +106,7 @@ fn inner(bytes: &[u8]) -> &[u8]
 
 /// The array type of elements of a class or array type.
 pub(crate) fn array_of(alloc: Global, name: &[u8]) -> Result<Bytes, NoMemory>
-    ensures { IfOk result (λ array. array ≡ array_of_name name.now) }
+    ensures { IfOk result (λ array. array ≡ array_of name.now) }
 {
     let mut array = Vec::new(alloc);
     array.push(b'[')?;
@@ -122,7 +122,7 @@ pub(crate) fn array_of(alloc: Global, name: &[u8]) -> Result<Bytes, NoMemory>
 
 /// The letter of a newarray's type number.
 pub(crate) fn letter(number: u8) -> u8
-    ensures { result ≡ letter_of number }
+    ensures { result ≡ letter number }
 {
     match number {
         4 => b'Z',
@@ -167,7 +167,7 @@ fn put_held(alloc: Global, names: &mut Vec<Name>, array: &[u8]) -> Result<(), No
 
 /// The types that the arrays of references among these hold.
 fn elements(alloc: Global, types: &[Name]) -> Result<Names, NoMemory>
-    ensures { IfOk result (λ held. held ≡ elements_of types.now []) }
+    ensures { IfOk result (λ held. held ≡ elements types.now []) }
 {
     let mut names = Vec::new(alloc);
     for array in types {
@@ -178,7 +178,7 @@ fn elements(alloc: Global, types: &[Name]) -> Result<Names, NoMemory>
 
 /// What an array load gives.
 pub(crate) fn element_of(alloc: Global, opcode: u8, array: &Cell) -> Result<Cell, NoMemory>
-    ensures { IfOk result (λ cell. cell ≡ element_of_cell opcode array.now) }
+    ensures { IfOk result (λ cell. cell ≡ element_of opcode array.now) }
 {
     match array {
         Cell::Refs(types) if opcode == jvm::AALOAD => Ok(cell::refs(elements(

@@ -4,9 +4,9 @@ ghost use Rattle.std.specs.Prelude.{◌≡◌, List, ◌+◌, ◌<◌, None, Som
 ghost use Rattle.cjc_fixpoint.specs.Kept.{handed_on, mark_of};
 ghost use Rattle.cjc_world.specs.Classes.{Class};
 ghost use Rattle.cjc_types.specs.Flow.{type_flow};
-ghost use Rattle.cjc_types.specs.Search.{frame_of as frame_of_state};
+ghost use Rattle.cjc_types.specs.Search.{frame_of};
 ghost use Rattle.cjc_types.specs.Marks.{marks_of};
-ghost use Rattle.cjc_types.specs.Tables.{IsTypeTable, state_of as state_of_frame, rows_of};
+ghost use Rattle.cjc_types.specs.Tables.{IsTypeTable, state_of, rows_of};
 ghost use Rattle.cjc_types.specs.Walks.{IsNextFrame};
 
 use crate::method::Method;
@@ -29,7 +29,7 @@ fn handed_frame(
     requires marks { marks.now ≡ marks_of method.now }
     requires at { at < length method.now.insns }
     ensures { IfOk result (λ next. at + 1 < length method.now.insns → mark_of marks.now (at + 1) ≡ None
-        → next ≡ option_map frame_of_state (handed_on (type_flow method.now) at (option_map state_of_frame frame))) }
+        → next ≡ option_map frame_of (handed_on (type_flow method.now) at (option_map state_of frame))) }
 {
     let places = method.places();
     let next = at + 1;
@@ -60,7 +60,7 @@ fn handed_copy(
     requires marks { marks.now ≡ marks_of method.now }
     requires at { at < length method.now.insns }
     ensures { IfOk result (λ next. at + 1 < length method.now.insns → mark_of marks.now (at + 1) ≡ None
-        → next ≡ option_map frame_of_state (handed_on (type_flow method.now) at (option_map state_of_frame frame.now))) }
+        → next ≡ option_map frame_of (handed_on (type_flow method.now) at (option_map state_of frame.now))) }
 {
     let places = method.places();
     let next = at + 1;
@@ -155,7 +155,7 @@ impl<'a> TypeWalk<'a> {
     /// The frame before the instruction that is next; none where no way leads there.
     pub fn frame(&self) -> &Option<Frame>
         requires { self.now.at < length self.now.rows }
-        ensures { slice_get self.now.rows self.now.at ≡ Some (option_map state_of_frame result.now) }
+        ensures { slice_get self.now.rows self.now.at ≡ Some (option_map state_of result.now) }
     {
         if is_at(self.types.marks.items(), self.mark, self.at) {
             return &self.types.frames.items()[self.mark];

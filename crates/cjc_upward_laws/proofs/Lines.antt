@@ -6,13 +6,13 @@ use Rattle.cjc_bytes.specs.AccessFlags.{is_interface}
 use Rattle.cjc_world.specs.declared.found.Found.{Found}
 use Rattle.cjc_world.specs.Classes.{Class, class_named}
 use Rattle.cjc_world.specs.Interfaces.{gathered, has_interface, known, where_listed}
-use Rattle.cjc_world.specs.Kin.{Above, End, IsAcyclic, IsKin, Kin, Known, Lists, Unknown, directly, ends, is_below, is_one_named, kin, known_here, line, onwards, stands_by_supers, unknown_here, upwards}
-use Rattle.cjc_world.specs.Kin as kin
+use Rattle.cjc_world.specs.Supertypes.{Above, End, IsAcyclic, AreSupertypes, Supertypes, Known, Lists, Unknown, directly, ends, is_below, is_one_named, supertypes, known_here, line, onwards, stands_by_supers, unknown_here, upwards}
+use Rattle.cjc_world.specs.Supertypes as supertypes
 use Rattle.cjc_world.specs.Lookup.{field_in, find_field, find_method, first, object, or_else, own_field, own_method}
 use Rattle.cjc_world.specs.Subtype.{is_subclass}
 use Rattle.cjc_world.proofs.Cycles.{From, above-class, class_named-name, tree-above}
 use Rattle.cjc_world.proofs.Rising.{known-append}
-use Rattle.cjc_world.proofs.Settled.{bytes-refl, bytes-true, kin-IsKin, lists-behind, lists-front}
+use Rattle.cjc_world.proofs.Settled.{bytes-refl, bytes-true, supertypes-AreSupertypes, lists-behind, lists-front}
 use Rattle.cjc_world.proofs.Subtypes.{reaches}
 use Rattle.cjc_world.proofs.Trees.{lists-split}
 use Rattle.cjc_upward_laws.specs.Upwards.{Below, Has, IsOrdered, OnLine, after, foremost, here, up}
@@ -105,57 +105,57 @@ module _ (w : List Class) where
   listed_below x s y c e l way = inr (⊎_elim (λ same. directly c e (subst (λ n. Lists n (c.supers ++ c.interfaces)) same l)) (λ far. onwards c e l far) way)
 
   -- a class on the line stands among those that the tree goes up
-  pub line_listed : (x : List ℕ) (xs : List (List ℕ)) (k : Kin) (c : Class) → IsKin w xs k → Lists x xs → OnLine w x c → Has c (upwards k)
+  pub line_listed : (x : List ℕ) (xs : List (List ℕ)) (k : Supertypes) (c : Class) → AreSupertypes w xs k → Lists x xs → OnLine w x c → Has c (upwards k)
   line_listed x xs k c ends i on = no_list i
-  line_listed x xs k c (unknown_here {next = next} e n) kin.foremost on = let b = line_begins x c on in absurd (clash (sym e ∙ b.1))
+  line_listed x xs k c (unknown_here {next = next} e n) supertypes.foremost on = let b = line_begins x c on in absurd (clash (sym e ∙ b.1))
     where
       clash : {d : Class} → None ≡ Some d → ⊥
       clash e = cc
-  line_listed x xs k c (unknown_here {xs = rest} {next = next} e n) (kin.after i) on = line_listed x rest next c n i on
-  line_listed x xs k c (known_here {c = d} {supers = s} {next = next} e sk ik n) kin.foremost (here f) = subst (λ b. Has b (d ∷ upwards s ++ upwards next)) (one x d c e f) foremost
-  line_listed x xs k c (known_here {c = d} {supers = s} {next = next} e sk ik n) kin.foremost (up {s = y} b f l rest) =
+  line_listed x xs k c (unknown_here {xs = rest} {next = next} e n) (supertypes.after i) on = line_listed x rest next c n i on
+  line_listed x xs k c (known_here {c = d} {supers = s} {next = next} e sk ik n) supertypes.foremost (here f) = subst (λ b. Has b (d ∷ upwards s ++ upwards next)) (one x d c e f) foremost
+  line_listed x xs k c (known_here {c = d} {supers = s} {next = next} e sk ik n) supertypes.foremost (up {s = y} b f l rest) =
       let is : b ≡ d = one x b d f e in
       after (has-front c (upwards s) (upwards next) (line_listed y d.supers s c sk (subst (λ (v : Class). Lists y v.supers) is l) rest))
-  line_listed x xs k c (known_here {xs = rest} {c = d} {supers = s} {next = next} e sk ik n) (kin.after i) on = after (has-back c (upwards s) (upwards next) (line_listed x rest next c n i on))
+  line_listed x xs k c (known_here {xs = rest} {c = d} {supers = s} {next = next} e sk ik n) (supertypes.after i) on = after (has-back c (upwards s) (upwards next) (line_listed x rest next c n i on))
 
-  pub listed_line : (xs : List (List ℕ)) (k : Kin) (c : Class) → IsKin w xs k → Has c (upwards k) → (x : List ℕ) × Lists x xs × OnLine w x c
+  pub listed_line : (xs : List (List ℕ)) (k : Supertypes) (c : Class) → AreSupertypes w xs k → Has c (upwards k) → (x : List ℕ) × Lists x xs × OnLine w x c
   listed_line xs k c ends h = elim h [ ]
-  listed_line xs k c (unknown_here {xs = rest} {next = next} e n) h = let r = listed_line rest next c n h in (r.0, kin.after r.1, r.2)
-  listed_line xs k c (known_here {x = x} e sk ik n) foremost = (x, kin.foremost, here e)
+  listed_line xs k c (unknown_here {xs = rest} {next = next} e n) h = let r = listed_line rest next c n h in (r.0, supertypes.after r.1, r.2)
+  listed_line xs k c (known_here {x = x} e sk ik n) foremost = (x, supertypes.foremost, here e)
   listed_line xs k c (known_here {x = x} {xs = rest} {c = d} {supers = s} {next = next} e sk ik n) (after h) =
       ⊎_elim
-      (λ g. let r = listed_line d.supers s c sk g in (x, kin.foremost, up d e r.1 r.2))
-      (λ g. let r = listed_line rest next c n g in (r.0, kin.after r.1, r.2))
+      (λ g. let r = listed_line d.supers s c sk g in (x, supertypes.foremost, up d e r.1 r.2))
+      (λ g. let r = listed_line rest next c n g in (r.0, supertypes.after r.1, r.2))
       (has-either c (upwards s) (upwards next) h)
 
   pub in_line : IsAcyclic w → (x : List ℕ) (c : Class) → OnLine w x c → Has c (line w x)
   unfolding line
-  in_line acyclic x c on = line_listed x (x ∷ []) (kin w (x ∷ [])) c (kin-IsKin w acyclic (x ∷ [])) kin.foremost on
+  in_line acyclic x c on = line_listed x (x ∷ []) (supertypes w (x ∷ [])) c (supertypes-AreSupertypes w acyclic (x ∷ [])) supertypes.foremost on
 
   pub of_line : IsAcyclic w → (x : List ℕ) (c : Class) → Has c (line w x) → OnLine w x c
   unfolding line
-  of_line acyclic x c h = by (listed_line (x ∷ []) (kin w (x ∷ [])) c (kin-IsKin w acyclic (x ∷ [])) h)
+  of_line acyclic x c h = by (listed_line (x ∷ []) (supertypes w (x ∷ [])) c (supertypes-AreSupertypes w acyclic (x ∷ [])) h)
     where
       by : (y : List ℕ) × Lists y (x ∷ []) × OnLine w y c → OnLine w x c
-      by (y, kin.foremost, on) = on
-      by (y, kin.after i, on) = no_list i
+      by (y, supertypes.foremost, on) = on
+      by (y, supertypes.after i, on) = no_list i
 
   -- ---- subclasses
 
   pub subclass_below : (x y : List ℕ) → is_subclass w x y ≡ true → Below w x y
-  unfolding is_subclass kin From
+  unfolding is_subclass supertypes From
   subclass_below x y e = by (tree-above w (suc (length w)) y (x ∷ []) e)
     where
       by : (z : List ℕ) × Lists z (x ∷ []) × ((z ≡ y) ⊎ Above w z y) → Below w x y
-      by (z, kin.foremost, way) = way
-      by (z, kin.after i, way) = no_list i
+      by (z, supertypes.foremost, way) = way
+      by (z, supertypes.after i, way) = no_list i
 
   pub below_subclass : (x y : List ℕ) → Below w x y → is_subclass w x y ≡ true
   unfolding is_subclass
   below_subclass x y way = reaches w x y way
 
 -- the classes that a tree gathers: those of what stands above, those of what is listed, the class itself where it is listed, and the rest
-gathered_known : (listed : Bool) (c : Class) (s i next : Kin) → known (gathered listed (Known c s i next)) ≡ known (gathered false s) ++ known (gathered true i) ++ known (where_listed listed (record { name = c.name; class = Some c })) ++ known (gathered listed next)
+gathered_known : (listed : Bool) (c : Class) (s i next : Supertypes) → known (gathered listed (Known c s i next)) ≡ known (gathered false s) ++ known (gathered true i) ++ known (where_listed listed (record { name = c.name; class = Some c })) ++ known (gathered listed next)
 unfolding gathered known
 gathered_known listed c s i next =
     let S = gathered false s in
@@ -163,7 +163,7 @@ gathered_known listed c s i next =
     let self = where_listed listed (record { name = c.name; class = Some c }) in
     known-append (S ++ I ++ self) (gathered listed next) ∙ ap (λ v. v ++ known (gathered listed next)) (known-append (S ++ I) self ∙ ap (λ v. v ++ known self) (known-append S I))
 
-gathered_unknown : (listed : Bool) (x : List ℕ) (next : Kin) → known (gathered listed (Unknown x next)) ≡ known (gathered listed next)
+gathered_unknown : (listed : Bool) (x : List ℕ) (next : Supertypes) → known (gathered listed (Unknown x next)) ≡ known (gathered listed next)
 unfolding gathered known
 gathered_unknown true x next = refl
 gathered_unknown false x next = refl
@@ -218,13 +218,13 @@ module _ (w : List Class) (ordered : IsOrdered w) where
   abbrev AllInterfaces : Bool → List (List ℕ) → Type 0
   AllInterfaces listed xs = listed ≡ true → (y : List ℕ) (c : Class) → Lists y xs → class_named w y ≡ Some c → is_interface c.flags ≡ true
 
-  pub gathered_above : (listed : Bool) (xs : List (List ℕ)) (k : Kin) (d : Class) → IsKin w xs k → AllInterfaces listed xs → Has d (known (gathered listed k))
+  pub gathered_above : (listed : Bool) (xs : List (List ℕ)) (k : Supertypes) (d : Class) → AreSupertypes w xs k → AllInterfaces listed xs → Has d (known (gathered listed k))
       → (x : List ℕ) × Lists x xs × Below w x d.name × (class_named w d.name ≡ Some d) × (is_interface d.flags ≡ true)
   unfolding gathered known
   gathered_above listed xs k d ends all h = elim h [ ]
   gathered_above listed xs k d (unknown_here {x = x} {xs = rest} {next = next} e n) all h =
-      let r = gathered_above listed rest next d n (λ is y c i. all is y c (kin.after i)) (subst (Has d) (gathered_unknown listed x next) h) in
-      (r.0, kin.after r.1, r.2, r.3, r.4)
+      let r = gathered_above listed rest next d n (λ is y c i. all is y c (supertypes.after i)) (subst (Has d) (gathered_unknown listed x next) h) in
+      (r.0, supertypes.after r.1, r.2, r.3, r.4)
   gathered_above listed xs k d (known_here {x = x} {xs = rest} {c = c} {supers = s} {interfaces = i} {next = next} e sk ik n) all h =
       let S = known (gathered false s) in
       let I = known (gathered true i) in
@@ -232,12 +232,12 @@ module _ (w : List Class) (ordered : IsOrdered w) where
       ⊎_elim
       (λ front. ⊎_elim
       (λ both. ⊎_elim
-      (λ a. let r = gathered_above false c.supers s d sk (λ is. absurd (no is)) a in (x, kin.foremost, listed_below w x r.0 d.name c e (lists-front r.0 c.supers c.interfaces r.1) r.2, r.3, r.4))
-      (λ b. let r = gathered_above true c.interfaces i d ik (λ is y v l g. ordered.interfaces x y c v e l g) b in (x, kin.foremost, listed_below w x r.0 d.name c e (lists-behind r.0 c.supers c.interfaces r.1) r.2, r.3, r.4))
+      (λ a. let r = gathered_above false c.supers s d sk (λ is. absurd (no is)) a in (x, supertypes.foremost, listed_below w x r.0 d.name c e (lists-front r.0 c.supers c.interfaces r.1) r.2, r.3, r.4))
+      (λ b. let r = gathered_above true c.interfaces i d ik (λ is y v l g. ordered.interfaces x y c v e l g) b in (x, supertypes.foremost, listed_below w x r.0 d.name c e (lists-behind r.0 c.supers c.interfaces r.1) r.2, r.3, r.4))
       (has-either d S I both))
-      (λ own. let r = own_one listed refl own in (x, kin.foremost, inl (sym (ap (λ (v : Class). v.name) r.0 ∙ class_named-name w x c e)), subst (λ (v : Class). class_named w v.name ≡ Some v) (sym r.0) (itself w x c e), ap (λ (v : Class). is_interface v.flags) r.0 ∙ all r.1 x c kin.foremost e))
+      (λ own. let r = own_one listed refl own in (x, supertypes.foremost, inl (sym (ap (λ (v : Class). v.name) r.0 ∙ class_named-name w x c e)), subst (λ (v : Class). class_named w v.name ≡ Some v) (sym r.0) (itself w x c e), ap (λ (v : Class). is_interface v.flags) r.0 ∙ all r.1 x c supertypes.foremost e))
       (has-either d (S ++ I) self front))
-      (λ back. let r = gathered_above listed rest next d n (λ is y v l. all is y v (kin.after l)) back in (r.0, kin.after r.1, r.2, r.3, r.4))
+      (λ back. let r = gathered_above listed rest next d n (λ is y v l. all is y v (supertypes.after l)) back in (r.0, supertypes.after r.1, r.2, r.3, r.4))
       (has-either d (S ++ I ++ self) (known (gathered listed next)) (subst (Has d) (gathered_known listed c s i next) h))
     where
       no : false ≡ true → ⊥
@@ -251,15 +251,15 @@ module _ (w : List Class) (ordered : IsOrdered w) where
   abbrev MayBeIn : Bool → List ℕ → Type 0
   MayBeIn listed x = (c : Class) → class_named w x ≡ Some c → (listed ≡ true) ⊎ (is_interface c.flags ≡ false)
 
-  pub gathered_has : (listed : Bool) (x : List ℕ) (xs : List (List ℕ)) (k : Kin) (y : List ℕ) (d : Class) → IsKin w xs k → Lists x xs → Below w x y → class_named w y ≡ Some d → is_interface d.flags ≡ true → MayBeIn listed x → Has d (known (gathered listed k))
+  pub gathered_has : (listed : Bool) (x : List ℕ) (xs : List (List ℕ)) (k : Supertypes) (y : List ℕ) (d : Class) → AreSupertypes w xs k → Lists x xs → Below w x y → class_named w y ≡ Some d → is_interface d.flags ≡ true → MayBeIn listed x → Has d (known (gathered listed k))
   unfolding gathered known
   gathered_has listed x xs k y d ends l way g is may = no_list l
-  gathered_has listed x xs k y d (unknown_here {next = next} e n) kin.foremost way g is may = ⊎_elim (λ same. absurd (clash (sym (ap (class_named w) (sym same) ∙ e) ∙ g))) (λ far. let b = above-class w x y far in absurd (clash (sym e ∙ b.1))) way
+  gathered_has listed x xs k y d (unknown_here {next = next} e n) supertypes.foremost way g is may = ⊎_elim (λ same. absurd (clash (sym (ap (class_named w) (sym same) ∙ e) ∙ g))) (λ far. let b = above-class w x y far in absurd (clash (sym e ∙ b.1))) way
     where
       clash : {c : Class} → None ≡ Some c → ⊥
       clash e = cc
-  gathered_has listed x xs k y d (unknown_here {x = z} {xs = rest} {next = next} e n) (kin.after l) way g is may = subst (Has d) (sym (gathered_unknown listed z next)) (gathered_has listed x rest next y d n l way g is may)
-  gathered_has listed x xs k y d (known_here {xs = rest} {c = c} {supers = s} {interfaces = i} {next = next} e sk ik n) kin.foremost way g is may =
+  gathered_has listed x xs k y d (unknown_here {x = z} {xs = rest} {next = next} e n) (supertypes.after l) way g is may = subst (Has d) (sym (gathered_unknown listed z next)) (gathered_has listed x rest next y d n l way g is may)
+  gathered_has listed x xs k y d (known_here {xs = rest} {c = c} {supers = s} {interfaces = i} {next = next} e sk ik n) supertypes.foremost way g is may =
       subst (Has d) (sym (gathered_known listed c s i next)) (has-front d (known (gathered false s) ++ known (gathered true i) ++ known (where_listed listed (record { name = c.name; class = Some c }))) (known (gathered listed next)) (by way (λ z a far m. gathered_has false z c.supers s y d sk a far g is m) (λ z b far. gathered_has true z c.interfaces i y d ik b far g is (λ v h. inl refl))))
     where
       clash : (b : Bool) → b ≡ false → b ≡ true → ⊥
@@ -286,7 +286,7 @@ module _ (w : List Class) (ordered : IsOrdered w) where
           let is_one : b ≡ c = one w x b c f e in
           let m = above-class w z y rest in
           over z (subst (λ (v : Class). Lists z (v.supers ++ v.interfaces)) is_one l) m.0 m.1 (inr rest) rest_s rest_i
-  gathered_has listed x xs k y d (known_here {xs = rest} {c = c} {supers = s} {interfaces = i} {next = next} e sk ik n) (kin.after l) way g is may =
+  gathered_has listed x xs k y d (known_here {xs = rest} {c = c} {supers = s} {interfaces = i} {next = next} e sk ik n) (supertypes.after l) way g is may =
       let S = known (gathered false s) in
       let I = known (gathered true i) in
       let self = known (where_listed listed (record { name = c.name; class = Some c })) in
@@ -302,33 +302,33 @@ module _ (w : List Class) (ordered : IsOrdered w) where
       own : Class → Option Found
       own = own_method false name desc
 
-      by : (o : Option Found) → first own (line w x) ≡ o → or_else o (first own (known (gathered false (kin w (x ∷ []))))) ≡ Some f
+      by : (o : Option Found) → first own (line w x) ≡ o → or_else o (first own (known (gathered false (supertypes w (x ∷ []))))) ≡ Some f
           → (d : Class) × Below w x d.name × (class_named w d.name ≡ Some d) × (own_method false name desc d ≡ Some f) × (OnLine w x d ⊎ (is_interface d.flags ≡ true))
       by (Some g) h e =
           let r = first_has own (line w x) f (h ∙ e) in
           let on = of_line w ordered.acyclic x r.0 r.1 in
           (r.0, line_below w x r.0 on, line_named w x r.0 on, r.2, inl on)
       by None h e =
-          let r = first_has own (known (gathered false (kin w (x ∷ [])))) f e in
-          of_one r.0 r.2 (gathered_above false (x ∷ []) (kin w (x ∷ [])) r.0 (kin-IsKin w ordered.acyclic (x ∷ [])) (λ is. absurd (no is)) r.1)
+          let r = first_has own (known (gathered false (supertypes w (x ∷ [])))) f e in
+          of_one r.0 r.2 (gathered_above false (x ∷ []) (supertypes w (x ∷ [])) r.0 (supertypes-AreSupertypes w ordered.acyclic (x ∷ [])) (λ is. absurd (no is)) r.1)
         where
           no : false ≡ true → ⊥
           no e = cc
 
           of_one : (d : Class) → own d ≡ Some f → (y : List ℕ) × Lists y (x ∷ []) × Below w y d.name × (class_named w d.name ≡ Some d) × (is_interface d.flags ≡ true)
               → (d : Class) × Below w x d.name × (class_named w d.name ≡ Some d) × (own_method false name desc d ≡ Some f) × (OnLine w x d ⊎ (is_interface d.flags ≡ true))
-          of_one d found (y, kin.foremost, way, named, is) = (d, way, named, found, inr is)
-          of_one d found (y, kin.after l, way, named, is) = no_list l
+          of_one d found (y, supertypes.foremost, way, named, is) = (d, way, named, found, inr is)
+          of_one d found (y, supertypes.after l, way, named, is) = no_list l
 
   -- a method that a class declares is found from it
   pub own_found : (d : Class) (name desc : List ℕ) (f : Found) → class_named w d.name ≡ Some d → own_method false name desc d ≡ Some f → find_method w d.name name desc ≡ Some f
   unfolding find_method line first
-  own_found d name desc f named e = by (kin w (d.name ∷ [])) (kin-IsKin w ordered.acyclic (d.name ∷ []))
+  own_found d name desc f named e = by (supertypes w (d.name ∷ [])) (supertypes-AreSupertypes w ordered.acyclic (d.name ∷ []))
     where
       own : Class → Option Found
       own = own_method false name desc
 
-      by : (k : Kin) → IsKin w (d.name ∷ []) k → or_else (first own (upwards k)) (first own (known (gathered false k))) ≡ Some f
+      by : (k : Supertypes) → AreSupertypes w (d.name ∷ []) k → or_else (first own (upwards k)) (first own (known (gathered false k))) ≡ Some f
       by _ (unknown_here f n) = absurd (clash (sym f ∙ named))
         where
           clash : {c : Class} → None ≡ Some c → ⊥
@@ -341,9 +341,9 @@ module _ (w : List Class) (ordered : IsOrdered w) where
   abbrev Among : (name desc : List ℕ) → Found → List (List ℕ) → Type 0
   Among name desc f xs = (y : List ℕ) × Lists y xs × (d : Class) × Below w y d.name × (class_named w d.name ≡ Some d) × (own_field name desc d ≡ Some f)
 
-  among : (name desc : List ℕ) (f : Found) (xs : List (List ℕ)) (k : Kin) → IsKin w xs k → field_in (own_field name desc) k ≡ Some f → Among name desc f xs
+  among : (name desc : List ℕ) (f : Found) (xs : List (List ℕ)) (k : Supertypes) → AreSupertypes w xs k → field_in (own_field name desc) k ≡ Some f → Among name desc f xs
   among name desc f xs k ends e = absurd cc
-  among name desc f xs k (unknown_here {xs = rest} {next = next} g n) e = let r = among name desc f rest next n e in (r.0, kin.after r.1, r.2, r.3, r.4, r.5)
+  among name desc f xs k (unknown_here {xs = rest} {next = next} g n) e = let r = among name desc f rest next n e in (r.0, supertypes.after r.1, r.2, r.3, r.4, r.5)
   among name desc f xs k (known_here {x = y} {xs = rest} {c = c} {supers = s} {interfaces = i} {next = next} g sk ik n) e =
       by (own c) (field_in own i) (field_in own s) refl refl refl e (among name desc f c.interfaces i ik) (among name desc f c.supers s sk) (among name desc f rest next n)
     where
@@ -352,18 +352,18 @@ module _ (w : List Class) (ordered : IsOrdered w) where
 
       by : (a b o : Option Found) → own c ≡ a → field_in own i ≡ b → field_in own s ≡ o → or_else (or_else a (or_else b o)) (field_in own next) ≡ Some f
           → (field_in own i ≡ Some f → Among name desc f c.interfaces) → (field_in own s ≡ Some f → Among name desc f c.supers) → (field_in own next ≡ Some f → Among name desc f rest) → Among name desc f (y ∷ rest)
-      by (Some h) b o p q r e in_i in_s in_n = (y, kin.foremost, c, inl (sym (class_named-name w y c g)), itself w y c g, p ∙ e)
-      by None (Some h) o p q r e in_i in_s in_n = let t = in_i (q ∙ e) in (y, kin.foremost, t.2, listed_below w y t.0 (let d = t.2 in d.name) c g (lists-behind t.0 c.supers c.interfaces t.1) t.3, t.4, t.5)
-      by None None (Some h) p q r e in_i in_s in_n = let t = in_s (r ∙ e) in (y, kin.foremost, t.2, listed_below w y t.0 (let d = t.2 in d.name) c g (lists-front t.0 c.supers c.interfaces t.1) t.3, t.4, t.5)
-      by None None None p q r e in_i in_s in_n = let t = in_n e in (t.0, kin.after t.1, t.2, t.3, t.4, t.5)
+      by (Some h) b o p q r e in_i in_s in_n = (y, supertypes.foremost, c, inl (sym (class_named-name w y c g)), itself w y c g, p ∙ e)
+      by None (Some h) o p q r e in_i in_s in_n = let t = in_i (q ∙ e) in (y, supertypes.foremost, t.2, listed_below w y t.0 (let d = t.2 in d.name) c g (lists-behind t.0 c.supers c.interfaces t.1) t.3, t.4, t.5)
+      by None None (Some h) p q r e in_i in_s in_n = let t = in_s (r ∙ e) in (y, supertypes.foremost, t.2, listed_below w y t.0 (let d = t.2 in d.name) c g (lists-front t.0 c.supers c.interfaces t.1) t.3, t.4, t.5)
+      by None None None p q r e in_i in_s in_n = let t = in_n e in (t.0, supertypes.after t.1, t.2, t.3, t.4, t.5)
 
   pub field_found_above : (x name desc : List ℕ) (f : Found) → find_field w x name desc ≡ Some f → (d : Class) × Below w x d.name × (class_named w d.name ≡ Some d) × (own_field name desc d ≡ Some f)
   unfolding find_field
-  field_found_above x name desc f e = of_one (among name desc f (x ∷ []) (kin w (x ∷ [])) (kin-IsKin w ordered.acyclic (x ∷ [])) e)
+  field_found_above x name desc f e = of_one (among name desc f (x ∷ []) (supertypes w (x ∷ [])) (supertypes-AreSupertypes w ordered.acyclic (x ∷ [])) e)
     where
       of_one : Among name desc f (x ∷ []) → (d : Class) × Below w x d.name × (class_named w d.name ≡ Some d) × (own_field name desc d ≡ Some f)
-      of_one (y, kin.foremost, d, way, named, found) = (d, way, named, found)
-      of_one (y, kin.after l, d, way, named, found) = no_list l
+      of_one (y, supertypes.foremost, d, way, named, found) = (d, way, named, found)
+      of_one (y, supertypes.after l, d, way, named, found) = no_list l
 
 -- ---- what tests of the tree say
 
@@ -380,7 +380,7 @@ named_among d (c ∷ cs) h = ⊎_elim
 
 module _ (w : List Class) where
   -- a class that stands above by supers alone is on the line
-  stands_line : (xs : List (List ℕ)) (k : Kin) (y : List ℕ) (d : Class) → IsKin w xs k → stands_by_supers y k ≡ true → class_named w y ≡ Some d → (x : List ℕ) × Lists x xs × OnLine w x d
+  stands_line : (xs : List (List ℕ)) (k : Supertypes) (y : List ℕ) (d : Class) → AreSupertypes w xs k → stands_by_supers y k ≡ true → class_named w y ≡ Some d → (x : List ℕ) × Lists x xs × OnLine w x d
   stands_line xs k y d ends e g = absurd cc
   stands_line xs k y d (unknown_here {x = x} {xs = rest} {next = next} f n) e g = by (bytes_eq x y) refl e (λ h. stands_line rest next y d n h g)
     where
@@ -389,7 +389,7 @@ module _ (w : List Class) where
 
       by : (b : Bool) → bytes_eq x y ≡ b → (b || stands_by_supers y next) ≡ true → (stands_by_supers y next ≡ true → (z : List ℕ) × Lists z rest × OnLine w z d) → (z : List ℕ) × Lists z (x ∷ rest) × OnLine w z d
       by true h e more = absurd (clash (sym f ∙ ap (class_named w) (bytes-true x y h) ∙ g))
-      by false h e more = let r = more e in (r.0, kin.after r.1, r.2)
+      by false h e more = let r = more e in (r.0, supertypes.after r.1, r.2)
   stands_line xs k y d (known_here {x = x} {xs = rest} {c = c} {supers = s} {next = next} f sk ik n) e g =
       by (bytes_eq c.name y) (stands_by_supers y s) (stands_by_supers y next) refl refl refl e (λ h. stands_line c.supers s y d sk h g) (λ h. stands_line rest next y d n h g)
     where
@@ -397,30 +397,30 @@ module _ (w : List Class) where
           → (stands_by_supers y s ≡ true → (z : List ℕ) × Lists z c.supers × OnLine w z d) → (stands_by_supers y next ≡ true → (z : List ℕ) × Lists z rest × OnLine w z d) → (z : List ℕ) × Lists z (x ∷ rest) × OnLine w z d
       by true b o p q r e up_one next_one =
           let same : x ≡ y = sym (class_named-name w x c f) ∙ bytes-true c.name y p in
-          (x, kin.foremost, subst (λ n. OnLine w n d) (sym same) (here g))
-      by false true o p q r e up_one next_one = let t = up_one q in (x, kin.foremost, up c f t.1 t.2)
-      by false false true p q r e up_one next_one = let t = next_one r in (t.0, kin.after t.1, t.2)
+          (x, supertypes.foremost, subst (λ n. OnLine w n d) (sym same) (here g))
+      by false true o p q r e up_one next_one = let t = up_one q in (x, supertypes.foremost, up c f t.1 t.2)
+      by false false true p q r e up_one next_one = let t = next_one r in (t.0, supertypes.after t.1, t.2)
       by false false false p q r e up_one next_one = absurd cc
 
-  line_stands : (x : List ℕ) (xs : List (List ℕ)) (k : Kin) (d : Class) → IsKin w xs k → Lists x xs → OnLine w x d → stands_by_supers d.name k ≡ true
+  line_stands : (x : List ℕ) (xs : List (List ℕ)) (k : Supertypes) (d : Class) → AreSupertypes w xs k → Lists x xs → OnLine w x d → stands_by_supers d.name k ≡ true
   line_stands x xs k d ends l on = no_list l
-  line_stands x xs k d (unknown_here {next = next} e n) kin.foremost on = let b = line_begins w x d on in absurd (clash (sym e ∙ b.1))
+  line_stands x xs k d (unknown_here {next = next} e n) supertypes.foremost on = let b = line_begins w x d on in absurd (clash (sym e ∙ b.1))
     where
       clash : {c : Class} → None ≡ Some c → ⊥
       clash e = cc
-  line_stands x xs k d (unknown_here {x = z} {xs = rest} {next = next} e n) (kin.after l) on = last (bytes_eq z d.name) (stands_by_supers d.name next) (line_stands x rest next d n l on)
+  line_stands x xs k d (unknown_here {x = z} {xs = rest} {next = next} e n) (supertypes.after l) on = last (bytes_eq z d.name) (stands_by_supers d.name next) (line_stands x rest next d n l on)
     where
       last : (a b : Bool) → b ≡ true → (a || b) ≡ true
       last true b e = refl
       last false b e = e
-  line_stands x xs k d (known_here {c = c} {supers = s} {next = next} e sk ik n) kin.foremost (here f) =
+  line_stands x xs k d (known_here {c = c} {supers = s} {next = next} e sk ik n) supertypes.foremost (here f) =
       let same : d ≡ c = same_class (sym f ∙ e) in
       first_one (bytes_eq c.name d.name) (stands_by_supers d.name s) (stands_by_supers d.name next) (ap (λ (v : Class). bytes_eq c.name v.name) same ∙ bytes-refl c.name)
     where
       first_one : (a b o : Bool) → a ≡ true → (a || b || o) ≡ true
       first_one true b o e = refl
       first_one false b o e = absurd cc
-  line_stands x xs k d (known_here {c = c} {supers = s} {next = next} e sk ik n) kin.foremost (up {s = y} b f l rest) =
+  line_stands x xs k d (known_here {c = c} {supers = s} {next = next} e sk ik n) supertypes.foremost (up {s = y} b f l rest) =
       let same : b ≡ c = same_class (sym f ∙ e) in
       second (bytes_eq c.name d.name) (stands_by_supers d.name s) (stands_by_supers d.name next) (line_stands y c.supers s d sk (subst (λ (v : Class). Lists y v.supers) same l) rest)
     where
@@ -428,7 +428,7 @@ module _ (w : List Class) where
       second true b o e = refl
       second false true o e = refl
       second false false o e = absurd cc
-  line_stands x xs k d (known_here {xs = rest} {c = c} {supers = s} {next = next} e sk ik n) (kin.after l) on =
+  line_stands x xs k d (known_here {xs = rest} {c = c} {supers = s} {next = next} e sk ik n) (supertypes.after l) on =
       last (bytes_eq c.name d.name || stands_by_supers d.name s) (stands_by_supers d.name next) (line_stands x rest next d n l on)
     where
       last : (a b : Bool) → b ≡ true → (a || b) ≡ true
@@ -437,21 +437,21 @@ module _ (w : List Class) where
 
   pub below_line : IsAcyclic w → (x y : List ℕ) (d : Class) → is_below w x y ≡ true → class_named w y ≡ Some d → OnLine w x d
   unfolding is_below
-  below_line acyclic x y d e g = by (stands_line (x ∷ []) (kin w (x ∷ [])) y d (kin-IsKin w acyclic (x ∷ [])) e g)
+  below_line acyclic x y d e g = by (stands_line (x ∷ []) (supertypes w (x ∷ [])) y d (supertypes-AreSupertypes w acyclic (x ∷ [])) e g)
     where
       by : (z : List ℕ) × Lists z (x ∷ []) × OnLine w z d → OnLine w x d
-      by (z, kin.foremost, on) = on
-      by (z, kin.after l, on) = no_list l
+      by (z, supertypes.foremost, on) = on
+      by (z, supertypes.after l, on) = no_list l
 
   pub line_is_below : IsAcyclic w → (x : List ℕ) (d : Class) → OnLine w x d → is_below w x d.name ≡ true
   unfolding is_below
-  line_is_below acyclic x d on = line_stands x (x ∷ []) (kin w (x ∷ [])) d (kin-IsKin w acyclic (x ∷ [])) kin.foremost on
+  line_is_below acyclic x d on = line_stands x (x ∷ []) (supertypes w (x ∷ [])) d (supertypes-AreSupertypes w acyclic (x ∷ [])) supertypes.foremost on
 
 -- an interface above a class is one of its interfaces
 pub has_interface_above : (w : List Class) → IsOrdered w → (x : List ℕ) (c d : Class) → class_named w x ≡ Some c → is_interface c.flags ≡ false → Below w x d.name → class_named w d.name ≡ Some d → is_interface d.flags ≡ true → has_interface w x d.name ≡ true
 unfolding has_interface
 has_interface_above w ordered x c d e plain way g is =
-    named_among d (known (gathered false (kin w (x ∷ [])))) (gathered_has w ordered false x (x ∷ []) (kin w (x ∷ [])) d.name d (kin-IsKin w ordered.acyclic (x ∷ [])) kin.foremost way g is (λ v f. inr (subst (λ (u : Class). is_interface u.flags ≡ false) (one w x c v e f) plain)))
+    named_among d (known (gathered false (supertypes w (x ∷ [])))) (gathered_has w ordered false x (x ∷ []) (supertypes w (x ∷ [])) d.name d (supertypes-AreSupertypes w ordered.acyclic (x ∷ [])) supertypes.foremost way g is (λ v f. inr (subst (λ (u : Class). is_interface u.flags ≡ false) (one w x c v e f) plain)))
 
 -- every class of a world has its line up to java/lang/Object, where those of export files have it
 pub roots : (w : List Class) → IsAcyclic w
@@ -460,22 +460,22 @@ pub roots : (w : List Class) → IsAcyclic w
     → (o : Class) → class_named w object ≡ Some o
     → ((x : List ℕ) (c : Class) → class_named w x ≡ Some c → c.is_imported ≡ true → is_interface c.flags ≡ false → OnLine w x o)
     → (x : List ℕ) (c : Class) → class_named w x ≡ Some c → is_interface c.flags ≡ false → OnLine w x o
-roots w acyclic supers single o is_object abroad x c e plain = go (x ∷ []) (kin w (x ∷ [])) x c (kin-IsKin w acyclic (x ∷ [])) kin.foremost e plain
+roots w acyclic supers single o is_object abroad x c e plain = go (x ∷ []) (supertypes w (x ∷ [])) x c (supertypes-AreSupertypes w acyclic (x ∷ [])) supertypes.foremost e plain
   where
     clash : {c : Class} → None ≡ Some c → ⊥
     clash e = cc
 
-    go : (xs : List (List ℕ)) (k : Kin) (x : List ℕ) (c : Class) → IsKin w xs k → Lists x xs → class_named w x ≡ Some c → is_interface c.flags ≡ false → OnLine w x o
+    go : (xs : List (List ℕ)) (k : Supertypes) (x : List ℕ) (c : Class) → AreSupertypes w xs k → Lists x xs → class_named w x ≡ Some c → is_interface c.flags ≡ false → OnLine w x o
     go xs k x c ends l e plain = no_list l
-    go xs k x c (unknown_here f n) kin.foremost e plain = absurd (clash (sym f ∙ e))
-    go xs k x c (unknown_here {xs = rest} {next = next} f n) (kin.after l) e plain = go rest next x c n l e plain
-    go xs k x c (known_here {c = d} {supers = s} f sk ik n) kin.foremost e plain =
+    go xs k x c (unknown_here f n) supertypes.foremost e plain = absurd (clash (sym f ∙ e))
+    go xs k x c (unknown_here {xs = rest} {next = next} f n) (supertypes.after l) e plain = go rest next x c n l e plain
+    go xs k x c (known_here {c = d} {supers = s} f sk ik n) supertypes.foremost e plain =
         by (true_or_false c.is_imported) (λ y v l g h. go d.supers s y v sk (subst (λ (u : Class). Lists y u.supers) (same_class (sym e ∙ f)) l) g h)
       where
         by : (c.is_imported ≡ true) ⊎ (c.is_imported ≡ false) → ((y : List ℕ) (v : Class) → Lists y c.supers → class_named w y ≡ Some v → is_interface v.flags ≡ false → OnLine w y o) → OnLine w x o
         by (inl imp) rest = abroad x c e imp plain
         by (inr own) rest =
             let s = single x c e own in
-            let l : Lists s.0 c.supers = subst (Lists s.0) (sym s.1) kin.foremost in
+            let l : Lists s.0 c.supers = subst (Lists s.0) (sym s.1) supertypes.foremost in
             up c e l (rest s.0 s.2 l s.3 (supers x s.0 c s.2 e l s.3))
-    go xs k x c (known_here {xs = rest} {next = next} f sk ik n) (kin.after l) e plain = go rest next x c n l e plain
+    go xs k x c (known_here {xs = rest} {next = next} f sk ik n) (supertypes.after l) e plain = go rest next x c n l e plain

@@ -2,7 +2,7 @@
 use Rattle.std.specs.Prelude.{◌≡◌, ◌⊎◌, ℕ, List, ◌∷◌, ◌++◌, true, false, Some}
 use Rattle.cjc_bytes.specs.AccessFlags.{is_interface}
 use Rattle.cjc_world.specs.Classes.{Class, class_named}
-use Rattle.cjc_world.specs.Kin.{Above, IsAcyclic, Lists}
+use Rattle.cjc_world.specs.Supertypes.{Above, IsAcyclic, Lists}
 use Rattle.cjc_world.specs.Lookup.{object}
 
 -- the name is the class's, or the class stands above it

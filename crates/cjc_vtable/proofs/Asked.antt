@@ -5,7 +5,7 @@ use Rattle.std.specs.Str.{bytes_eq}
 use Rattle.std.proofs.lemmas.Option.{slice_get-map}
 use Rattle.cjc_world.specs.Classes.{Member, Class}
 use Rattle.cjc_bytes.specs.AccessFlags.{is_public, is_protected}
-use Rattle.cjc_world.specs.Kin.{Kin, kin, IsKin, ends, unknown_here, known_here}
+use Rattle.cjc_world.specs.Supertypes.{Supertypes, supertypes, AreSupertypes, ends, unknown_here, known_here}
 use Rattle.cjc_world.specs.Interfaces.{Interface, where_listed, gathered, is_among, each_once, known}
 use Rattle.cjc_world.specs.Lookup.{is_called}
 use Rattle.cjc_world.specs.Added.{own_methods, methods_of, asked_by}
@@ -105,22 +105,22 @@ of-append is js m either = subst (λ cs. In m (methods_of cs)) (sym (known-appen
 among-append : (is js : List Interface) (c : Class) → Among c (known (is ++ js)) → Among c (known is) ⊎ Among c (known js)
 among-append is js c i = among-split c (known is) (known js) (subst (Among c) (known-append is js) i)
 
-module _ (w : List Class) (is_kin : (xs : List (List ℕ)) → IsKin w xs (kin w xs)) (one_kin : (xs : List (List ℕ)) (j k : Kin) → IsKin w xs j → IsKin w xs k → j ≡ k) where
+module _ (w : List Class) (are_supertypes : (xs : List (List ℕ)) → AreSupertypes w xs (supertypes w xs)) (one_supertypes : (xs : List (List ℕ)) (j k : Supertypes) → AreSupertypes w xs j → AreSupertypes w xs k → j ≡ k) where
   -- what the superinterfaces of an interface ask for, each class asks for that has it
-  asked-above : (listed : Bool) (xs : List (List ℕ)) (k : Kin) (i : Class) (m : Member) → IsKin w xs k → Among i (known (gathered listed k)) → In m (asked_by (kin w i.supers) (kin w i.interfaces)) → In m (of (gathered listed k))
+  asked-above : (listed : Bool) (xs : List (List ℕ)) (k : Supertypes) (i : Class) (m : Member) → AreSupertypes w xs k → Among i (known (gathered listed k)) → In m (asked_by (supertypes w i.supers) (supertypes w i.interfaces)) → In m (of (gathered listed k))
   unfolding gathered known of asked_by
   asked-above listed xs k i m ends a j = elim a [ ]
   asked-above listed (x ∷ xs) k i m (unknown_here {next = r} e b) a j = by listed (asked-above listed xs r i m b) a
     where
-      by : (listed' : Bool) → (Among i (known (gathered listed r)) → In m (asked_by (kin w i.supers) (kin w i.interfaces)) → In m (of (gathered listed r))) → Among i (known (where_listed listed' (record { name = x; class = None }) ++ gathered listed r)) → In m (of (where_listed listed' (record { name = x; class = None }) ++ gathered listed r))
+      by : (listed' : Bool) → (Among i (known (gathered listed r)) → In m (asked_by (supertypes w i.supers) (supertypes w i.interfaces)) → In m (of (gathered listed r))) → Among i (known (where_listed listed' (record { name = x; class = None }) ++ gathered listed r)) → In m (of (where_listed listed' (record { name = x; class = None }) ++ gathered listed r))
       by true rest a = rest a j
       by false rest a = rest a j
   asked-above listed (x ∷ xs) k i m (known_here {c = c} {supers = p} {interfaces = q} {next = r} e s t b) a j = by a (asked-above false c.supers p i m s) (asked-above true c.interfaces q i m t) (asked-above listed xs r i m b)
     where
       by : Among i (known (gathered false p ++ gathered true q ++ where_listed listed (record { name = c.name; class = Some c }) ++ gathered listed r))
-          → (Among i (known (gathered false p)) → In m (asked_by (kin w i.supers) (kin w i.interfaces)) → In m (of (gathered false p)))
-          → (Among i (known (gathered true q)) → In m (asked_by (kin w i.supers) (kin w i.interfaces)) → In m (of (gathered true q)))
-          → (Among i (known (gathered listed r)) → In m (asked_by (kin w i.supers) (kin w i.interfaces)) → In m (of (gathered listed r)))
+          → (Among i (known (gathered false p)) → In m (asked_by (supertypes w i.supers) (supertypes w i.interfaces)) → In m (of (gathered false p)))
+          → (Among i (known (gathered true q)) → In m (asked_by (supertypes w i.supers) (supertypes w i.interfaces)) → In m (of (gathered true q)))
+          → (Among i (known (gathered listed r)) → In m (asked_by (supertypes w i.supers) (supertypes w i.interfaces)) → In m (of (gathered listed r)))
           → In m (of (gathered false p ++ gathered true q ++ where_listed listed (record { name = c.name; class = Some c }) ++ gathered listed r))
       by a in_supers in_interfaces in_rest =
           let A = gathered false p in
@@ -137,9 +137,9 @@ module _ (w : List Class) (is_kin : (xs : List (List ℕ)) → IsKin w xs (kin w
         where
           same_trees : i ≡ c → In m (of (gathered false p ++ gathered true q))
           same_trees is =
-              let j1 = subst (λ (v : Class). In m (methods_of (known (gathered false (kin w v.supers) ++ gathered true (kin w v.interfaces))))) is j in
-              let j2 = subst (λ u. In m (methods_of (known (gathered false u ++ gathered true (kin w c.interfaces))))) (one_kin c.supers (kin w c.supers) p (is_kin c.supers) s) j1 in
-              subst (λ u. In m (methods_of (known (gathered false p ++ gathered true u)))) (one_kin c.interfaces (kin w c.interfaces) q (is_kin c.interfaces) t) j2
+              let j1 = subst (λ (v : Class). In m (methods_of (known (gathered false (supertypes w v.supers) ++ gathered true (supertypes w v.interfaces))))) is j in
+              let j2 = subst (λ u. In m (methods_of (known (gathered false u ++ gathered true (supertypes w c.interfaces))))) (one_supertypes c.supers (supertypes w c.supers) p (are_supertypes c.supers) s) j1 in
+              subst (λ u. In m (methods_of (known (gathered false p ++ gathered true u)))) (one_supertypes c.interfaces (supertypes w c.interfaces) q (are_supertypes c.interfaces) t) j2
 
           itself : (l : Bool) → Among i (known (where_listed l (record { name = c.name; class = Some c }))) → In m (of (gathered false p ++ gathered true q))
           itself true d = same_trees (among-one i c d)
@@ -203,19 +203,19 @@ pub index_at : (w : List Class) (all : Slots) (i : Class) (k : ℕ) (s : Signatu
 index_at w all i k s t e f = slice_get-map (λ u. or_zero (token all u)) (interface_methods w i) k ∙ ap (option_map (λ u. or_zero (token all u))) e ∙ ap (λ o. Some (or_zero o)) f
 
 -- what an interface has, each class asks for that has the interface
-pub method-asked : (w : List Class) (is_kin : (xs : List (List ℕ)) → IsKin w xs (kin w xs)) (one_kin : (xs : List (List ℕ)) (j k : Kin) → IsKin w xs j → IsKin w xs k → j ≡ k)
-    (c i : Class) (s : Signature) → Among i (known (interfaces_at w c)) → has (interface_methods w i) s ≡ true → (m : Member) × In m (asked_by (kin w c.supers) (kin w c.interfaces)) × (signature_of m ≡ s)
+pub method-asked : (w : List Class) (are_supertypes : (xs : List (List ℕ)) → AreSupertypes w xs (supertypes w xs)) (one_supertypes : (xs : List (List ℕ)) (j k : Supertypes) → AreSupertypes w xs j → AreSupertypes w xs k → j ≡ k)
+    (c i : Class) (s : Signature) → Among i (known (interfaces_at w c)) → has (interface_methods w i) s ≡ true → (m : Member) × In m (asked_by (supertypes w c.supers) (supertypes w c.interfaces)) × (signature_of m ≡ s)
 unfolding interfaces_at interface_methods asked_by of
-method-asked w is_kin one_kin c i s a h =
-    let both = gathered false (kin w c.supers) ++ gathered true (kin w c.interfaces) in
+method-asked w are_supertypes one_supertypes c i s a h =
+    let both = gathered false (supertypes w c.supers) ++ gathered true (supertypes w c.interfaces) in
     let there = once-among [] both i a in
-    let ms = if i.is_imported then own_methods i else methods_of (known (gathered false (kin w i.supers) ++ gathered true (kin w i.interfaces))) ++ own_methods i in
+    let ms = if i.is_imported then own_methods i else methods_of (known (gathered false (supertypes w i.supers) ++ gathered true (supertypes w i.interfaces))) ++ own_methods i in
     let r = has-In ms s (new-offered [] (map signature_of ms) s h) in (
       r.0,
       by i.is_imported r.1 (own-among (known both) i r.0 there) (λ j. ⊎_elim
-          (λ d. of-append (gathered false (kin w c.supers)) (gathered true (kin w c.interfaces)) r.0 (inl (asked-above w is_kin one_kin false c.supers (kin w c.supers) i r.0 (is_kin c.supers) d j)))
-          (λ d. of-append (gathered false (kin w c.supers)) (gathered true (kin w c.interfaces)) r.0 (inr (asked-above w is_kin one_kin true c.interfaces (kin w c.interfaces) i r.0 (is_kin c.interfaces) d j)))
-          (among-append (gathered false (kin w c.supers)) (gathered true (kin w c.interfaces)) i there)),
+          (λ d. of-append (gathered false (supertypes w c.supers)) (gathered true (supertypes w c.interfaces)) r.0 (inl (asked-above w are_supertypes one_supertypes false c.supers (supertypes w c.supers) i r.0 (are_supertypes c.supers) d j)))
+          (λ d. of-append (gathered false (supertypes w c.supers)) (gathered true (supertypes w c.interfaces)) r.0 (inr (asked-above w are_supertypes one_supertypes true c.interfaces (supertypes w c.interfaces) i r.0 (are_supertypes c.interfaces) d j)))
+          (among-append (gathered false (supertypes w c.supers)) (gathered true (supertypes w c.interfaces)) i there)),
       r.2,
     )
   where

@@ -11,13 +11,13 @@ use Rattle.cjc_world.specs.Files.{Files}
 use Rattle.cjc_world.specs.Classes.{Class, declared, imported, all_classes}
 use Rattle.cjc_bytes.specs.AccessFlags.{is_interface}
 use Rattle.cjc_world.specs.Rules.{breaks}
-use Rattle.cjc_bytes.specs.Breaks.{Break, Among, foremost, after, Spot, broken_at, at, each_from, each}
+use Rattle.cjc_bytes.specs.Breaks.{Break, Among, foremost, after, RulePlace, broken_at, at, each_from, each}
 use Rattle.cjc_subset.specs.Places.{at_class, at_method}
 use Rattle.cjc_bytes.specs.Order.{FilePlace, file_of}
 use Rattle.cjc_subset.specs.Flags.{is_unfit_method}
-use Rattle.cjc_subset.specs.Types.{is_foreign_desc, is_int_desc}
+use Rattle.cjc_subset.specs.Types.{is_unsupported_desc, is_int_desc}
 use Rattle.cjc_subset.specs.Limits.{has_deep_stack, has_many_locals}
-use Rattle.cjc_subset.specs.Overriding.{is_inherited, is_special, hides_one, changes_kind, lacks_code, method_against, class_against, kin_breaks, overriding_breaks}
+use Rattle.cjc_subset.specs.Overriding.{is_inherited, is_special, hides_one, changes_kind, lacks_code, method_against, class_against, supertype_breaks, overriding_breaks}
 use Rattle.cjc_subset.specs.Checks.{field_breaks, method_breaks, own_breaks, class_breaks, code_breaks, list_breaks, check_breaks}
 use Rattle.cjc_vtable.specs.Kept.{IsUnbroken, BreaksNone}
 use Rattle.cjc_vtable.proofs.Filed.{Has, at_front, behind}
@@ -52,7 +52,7 @@ module _ (rule : ℕ) where
   unbroken-each breaks i x (y ∷ xs) at_front off = (i, unbroken-left (breaks i x) (each_from breaks (i + 1) xs) off)
   unbroken-each breaks i x (y ∷ xs) (behind h) off = unbroken-each breaks (i + 1) x xs h (unbroken-right (breaks i y) (each_from breaks (i + 1) xs) off)
 
-  unbroken-at : (b : Bool) (s : Spot) → IsUnbroken rule (at b s rule) → b ≡ false
+  unbroken-at : (b : Bool) (s : RulePlace) → IsUnbroken rule (at b s rule) → b ≡ false
   unbroken-at true s h = absurd (h (broken_at s rule) foremost refl)
   unbroken-at false s h = refl
 
@@ -87,8 +87,8 @@ module _ (rule : ℕ) where
         let D = overriding_breaks files f t in
         (f, unbroken-right (A ++ B ++ C) D r.1)
 
-    against : (f : FilePlace) (t : ClassTree) (d : Class) → is_inherited (all_classes files) t d ≡ true → IsUnbroken rule (kin_breaks (all_classes files) f t d) → IsUnbroken rule (class_against (all_classes files) f t d)
-    unfolding kin_breaks
+    against : (f : FilePlace) (t : ClassTree) (d : Class) → is_inherited (all_classes files) t d ≡ true → IsUnbroken rule (supertype_breaks (all_classes files) f t d) → IsUnbroken rule (class_against (all_classes files) f t d)
+    unfolding supertype_breaks
     against f t d above h = subst (λ (v : Bool). IsUnbroken rule (if v then class_against (all_classes files) f t d else [])) above h
 
     -- against a class of the package that stands above
@@ -99,9 +99,9 @@ module _ (rule : ℕ) where
         let f = r.0 in
         let w = all_classes files in
         let A = at (lacks_code w t (declared 0 t)) (at_class f t) 307 in
-        let B = each (λ _ d. kin_breaks w f t (declared 0 d)) files.classes in
-        let C = each (λ _ s. each (λ _ d. kin_breaks w f t (imported 0 d)) s.classes) files.exports in
-        (f, against f t (declared 0 u) above (unbroken-each (λ _ d. kin_breaks w f t (declared 0 d)) 0 u files.classes g (unbroken-right A B (unbroken-left (A ++ B) C r.1))).1)
+        let B = each (λ _ d. supertype_breaks w f t (declared 0 d)) files.classes in
+        let C = each (λ _ s. each (λ _ d. supertype_breaks w f t (imported 0 d)) s.classes) files.exports in
+        (f, against f t (declared 0 u) above (unbroken-each (λ _ d. supertype_breaks w f t (declared 0 d)) 0 u files.classes g (unbroken-right A B (unbroken-left (A ++ B) C r.1))).1)
 
     -- against an imported class that stands above
     pub against-imported : (t : ClassTree) (s : ExportTree) (d : ExportClass) → Has t files.classes → Has s files.exports → Has d s.classes → is_inherited (all_classes files) t (imported 0 d) ≡ true → (f : FilePlace) × IsUnbroken rule (class_against (all_classes files) f t (imported 0 d))
@@ -111,10 +111,10 @@ module _ (rule : ℕ) where
         let f = r.0 in
         let w = all_classes files in
         let A = at (lacks_code w t (declared 0 t)) (at_class f t) 307 in
-        let B = each (λ _ d. kin_breaks w f t (declared 0 d)) files.classes in
-        let C = each (λ _ s. each (λ _ d. kin_breaks w f t (imported 0 d)) s.classes) files.exports in
-        let in_file = unbroken-each (λ _ s. each (λ _ d. kin_breaks w f t (imported 0 d)) s.classes) 0 s files.exports g (unbroken-right (A ++ B) C r.1) in
-        (f, against f t (imported 0 d) above (unbroken-each (λ _ d. kin_breaks w f t (imported 0 d)) 0 d s.classes i in_file.1).1)
+        let B = each (λ _ d. supertype_breaks w f t (declared 0 d)) files.classes in
+        let C = each (λ _ s. each (λ _ d. supertype_breaks w f t (imported 0 d)) s.classes) files.exports in
+        let in_file = unbroken-each (λ _ s. each (λ _ d. supertype_breaks w f t (imported 0 d)) s.classes) 0 s files.exports g (unbroken-right (A ++ B) C r.1) in
+        (f, against f t (imported 0 d) above (unbroken-each (λ _ d. supertype_breaks w f t (imported 0 d)) 0 d s.classes i in_file.1).1)
 
 -- ---- by rules
 
@@ -126,7 +126,7 @@ module _ (list : List ℕ) (files : Files) (codes : List MethodCode) (settings :
       let r = unbroken-methods 304 list files codes settings off t m h g in
       let f = r.0 in
       let i = r.1.0 in
-      let A = at (is_foreign_desc m.desc) (at_method f t i m 0) 301 in
+      let A = at (is_unsupported_desc m.desc) (at_method f t i m 0) 301 in
       let B = at (not settings.ints && is_int_desc m.desc) (at_method f t i m 0) 302 in
       let C = at (is_unfit_method (is_interface t.flags) m.flags m.name (is_some m.code)) (at_method f t i m 0) 304 in
       let D = at (has_many_locals m.code) (at_method f t i m 0) 404 in

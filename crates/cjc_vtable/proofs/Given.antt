@@ -4,7 +4,7 @@ use Rattle.std.specs.Prelude.{◌&&◌, ◌||◌, ◌⊎◌, Some, if◌then◌e
 use Rattle.std.specs.List.{list_any}
 use Rattle.cjc_world.specs.Classes.{Member, Class}
 use Rattle.cjc_bytes.specs.AccessFlags.{is_private, is_static}
-use Rattle.cjc_world.specs.Kin.{Kin, End, Unknown, Known, kin, IsKin, ends, unknown_here, known_here, upwards}
+use Rattle.cjc_world.specs.Supertypes.{Supertypes, End, Unknown, Known, supertypes, AreSupertypes, ends, unknown_here, known_here, upwards}
 use Rattle.cjc_world.specs.Lookup.{is_called}
 use Rattle.cjc_world.specs.Added.{is_open, declares_open, is_one_of, has_open, lacking, added, asked_by, takes_added}
 use Rattle.cjc_tokens.specs.Members.{Signature, signature_of, same, has, signatures, is_exposed, is_shown, all_methods, In, first_of, later}
@@ -77,7 +77,7 @@ shown-declares m s c i e is =
     (ap (λ b. b && is_called s.name s.desc m) (shown-open m e) ∙ ap (λ q. same q s) is ∙ same-refl s)
 
 -- what a class of a tree or a superclass declares
-open-upwards : (k : Kin) (m : Member) (s : Signature) → In m (all_methods (upwards k)) → is_shown m ≡ true → signature_of m ≡ s → has_open s.name s.desc k ≡ true
+open-upwards : (k : Supertypes) (m : Member) (s : Signature) → In m (all_methods (upwards k)) → is_shown m ≡ true → signature_of m ≡ s → has_open s.name s.desc k ≡ true
 unfolding has_open
 open-upwards End m s i e is = elim i [ ]
 open-upwards (Unknown name next) m s i e is = open-upwards next m s i e is
@@ -119,20 +119,20 @@ one_of-In ms m s i is = any-In (λ n. is_called s.name s.desc n) ms m i (ap (λ 
 
 -- an added method of a class: it takes such methods, one was asked for, and none was there
 added-one : (w : List Class) (c : Class) (s : Signature) → has (map signature_of (added w c)) s ≡ true
-    → (takes_added c ≡ true) × (is_one_of (asked_by (kin w c.supers) (kin w c.interfaces)) s.name s.desc ≡ true) × ((declares_open s.name s.desc c || has_open s.name s.desc (kin w c.supers)) ≡ false)
+    → (takes_added c ≡ true) × (is_one_of (asked_by (supertypes w c.supers) (supertypes w c.interfaces)) s.name s.desc ≡ true) × ((declares_open s.name s.desc c || has_open s.name s.desc (supertypes w c.supers)) ≡ false)
 unfolding added
 added-one w c s e = by (takes_added c) refl e
   where
-    by : (b : Bool) → takes_added c ≡ b → has (map signature_of (if b then lacking (λ m. declares_open m.name m.desc c || has_open m.name m.desc (kin w c.supers)) [] (asked_by (kin w c.supers) (kin w c.interfaces)) else [])) s ≡ true
-        → (takes_added c ≡ true) × (is_one_of (asked_by (kin w c.supers) (kin w c.interfaces)) s.name s.desc ≡ true) × ((declares_open s.name s.desc c || has_open s.name s.desc (kin w c.supers)) ≡ false)
+    by : (b : Bool) → takes_added c ≡ b → has (map signature_of (if b then lacking (λ m. declares_open m.name m.desc c || has_open m.name m.desc (supertypes w c.supers)) [] (asked_by (supertypes w c.supers) (supertypes w c.interfaces)) else [])) s ≡ true
+        → (takes_added c ≡ true) × (is_one_of (asked_by (supertypes w c.supers) (supertypes w c.interfaces)) s.name s.desc ≡ true) × ((declares_open s.name s.desc c || has_open s.name s.desc (supertypes w c.supers)) ≡ false)
     by false f e = cc
     by true f e =
-        let r = lacking-one (λ m. declares_open m.name m.desc c || has_open m.name m.desc (kin w c.supers)) [] (asked_by (kin w c.supers) (kin w c.interfaces)) s e in
-        (f, one_of-In (asked_by (kin w c.supers) (kin w c.interfaces)) r.0 s r.1 r.2, subst (λ (q : Signature). (declares_open q.name q.desc c || has_open q.name q.desc (kin w c.supers)) ≡ false) r.2 r.3)
+        let r = lacking-one (λ m. declares_open m.name m.desc c || has_open m.name m.desc (supertypes w c.supers)) [] (asked_by (supertypes w c.supers) (supertypes w c.interfaces)) s e in
+        (f, one_of-In (asked_by (supertypes w c.supers) (supertypes w c.interfaces)) r.0 s r.1 r.2, subst (λ (q : Signature). (declares_open q.name q.desc c || has_open q.name q.desc (supertypes w c.supers)) ≡ false) r.2 r.3)
 
-module _ (w : List Class) (is_kin : (xs : List (List ℕ)) → IsKin w xs (kin w xs)) (one_kin : (xs : List (List ℕ)) (j k : Kin) → IsKin w xs j → IsKin w xs k → j ≡ k) where
+module _ (w : List Class) (are_supertypes : (xs : List (List ℕ)) → AreSupertypes w xs (supertypes w xs)) (one_supertypes : (xs : List (List ℕ)) (j k : Supertypes) → AreSupertypes w xs j → AreSupertypes w xs k → j ≡ k) where
   -- what has a slot in a line is declared there as a public or protected method, or added
-  slot-open : (xs : List (List ℕ)) (k : Kin) (s : Signature) → IsKin w xs k → has_slot (slots (line_in w k)) s ≡ true → has_open s.name s.desc k ≡ true
+  slot-open : (xs : List (List ℕ)) (k : Supertypes) (s : Signature) → AreSupertypes w xs k → has_slot (slots (line_in w k)) s ≡ true → has_open s.name s.desc k ≡ true
   unfolding has_open
   slot-open xs k s ends e = cc
   slot-open xs k s (unknown_here f a) e = cc
@@ -158,13 +158,13 @@ module _ (w : List Class) (is_kin : (xs : List (List ℕ)) → IsKin w xs (kin w
           left4 (declares_open s.name s.desc c) (has_open s.name s.desc p) (takes_added c && is_one_of (asked_by p q) s.name s.desc) (has_open s.name s.desc r) (shown-declares m.0 s c (chosen-In is_shown s c.methods m.0 m.1) is.1 is.0))
           (with_new-slot (slots (line_in w p)) (signatures is_shown c.methods) s h))
           (λ h. let g = added-one w c s h in
-          let ps = one_kin c.supers (kin w c.supers) p (is_kin c.supers) sp in
-          let qs = one_kin c.interfaces (kin w c.interfaces) q (is_kin c.interfaces) ip in
+          let ps = one_supertypes c.supers (supertypes w c.supers) p (are_supertypes c.supers) sp in
+          let qs = one_supertypes c.interfaces (supertypes w c.interfaces) q (are_supertypes c.interfaces) ip in
           third4 (declares_open s.name s.desc c) (has_open s.name s.desc p) (takes_added c) (is_one_of (asked_by p q) s.name s.desc) (has_open s.name s.desc r) g.0
-          (ap (λ j. is_one_of (asked_by j q) s.name s.desc) (sym ps) ∙ ap (λ j. is_one_of (asked_by (kin w c.supers) j) s.name s.desc) (sym qs) ∙ g.1))
+          (ap (λ j. is_one_of (asked_by j q) s.name s.desc) (sym ps) ∙ ap (λ j. is_one_of (asked_by (supertypes w c.supers) j) s.name s.desc) (sym qs) ∙ g.1))
           (with_new-slot (with_new (slots (line_in w p)) (signatures is_shown c.methods)) (map signature_of (added w c)) s e)
 
-  pub proper-line : (xs : List (List ℕ)) (k : Kin) → IsKin w xs k → IsProper (line_in w k)
+  pub proper-line : (xs : List (List ℕ)) (k : Supertypes) → AreSupertypes w xs k → IsProper (line_in w k)
   proper-line xs k ends = tt
   proper-line xs k (unknown_here e a) = tt
   proper-line (x ∷ xs) k (known_here {c = c} {supers = p} {interfaces = q} e sp ip a) = by c.is_imported refl (proper-line c.supers p sp)
@@ -173,9 +173,9 @@ module _ (w : List Class) (is_kin : (xs : List (List ℕ)) → IsKin w xs (kin w
       fresh s h false f = f
       fresh s h true f =
           let g = added-one w c s f in
-          let ps = one_kin c.supers (kin w c.supers) p (is_kin c.supers) sp in
-          let open_above : has_open s.name s.desc (kin w c.supers) ≡ true = ap (has_open s.name s.desc) ps ∙ slot-open c.supers p s sp h in
-          let there = or_right (declares_open s.name s.desc c) (has_open s.name s.desc (kin w c.supers)) open_above in
+          let ps = one_supertypes c.supers (supertypes w c.supers) p (are_supertypes c.supers) sp in
+          let open_above : has_open s.name s.desc (supertypes w c.supers) ≡ true = ap (has_open s.name s.desc) ps ∙ slot-open c.supers p s sp h in
+          let there = or_right (declares_open s.name s.desc c) (has_open s.name s.desc (supertypes w c.supers)) open_above in
           cc
 
       by : (b : Bool) → c.is_imported ≡ b → IsProper (line_in w p) → IsProper (if b then Imported (c ∷ upwards p) else Declared c (added w c) (line_in w p))

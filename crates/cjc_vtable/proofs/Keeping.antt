@@ -9,7 +9,7 @@ use Rattle.cjc_code.specs.declared.method_code.MethodCode.{MethodCode}
 use Rattle.cjc_world.specs.Files.{Files}
 use Rattle.cjc_world.specs.Classes.{Member, Class, declared, imported, method_of_class, method_of_export, all_classes, class_named}
 use Rattle.cjc_bytes.specs.AccessFlags.{has, is_abstract, is_interface, is_private, is_protected, is_public, is_static}
-use Rattle.cjc_world.specs.Kin.{Kin, End, Known, Lists, kin, IsKin, IsAcyclic, Above, directly, onwards, stands, stands_by_supers, upwards, is_one_named, is_below, line}
+use Rattle.cjc_world.specs.Supertypes.{Supertypes, End, Known, Lists, supertypes, AreSupertypes, IsAcyclic, Above, directly, onwards, stands, stands_by_supers, upwards, is_one_named, is_below, line}
 use Rattle.cjc_world.specs.Interfaces.{gathered, has_interface, known}
 use Rattle.cjc_world.specs.Lookup.{first, own_method, is_called, receiver, selected}
 use Rattle.cjc_world.specs.Added.{without_initialiser, with_token, by_token, own_methods, asked_by}
@@ -18,11 +18,11 @@ use Rattle.cjc_world.specs.Subtype.{starts}
 use Rattle.cjc_world.proofs.Settled.{bytes-true, lists-front, lists-behind}
 use Rattle.cjc_world.proofs.Cycles.{class_named-name, tree-above, From}
 use Rattle.cjc_subset.specs.Flags.{has_two_accesses, is_unfit_method_kind}
-use Rattle.cjc_subset.specs.Members.{Hit, hit, imports}
+use Rattle.cjc_subset.specs.Members.{ResolvedMember, hit, imports}
 use Rattle.cjc_subset.specs.Overriding.{is_out_of_sight, hides_one, asks_for_code, is_unfit_selection}
 use Rattle.cjc_tokens.specs.Members.{Signature, signature_of, is_exposed, is_constructor, is_initialiser, all_methods, In, first_of, later, chosen}
 use Rattle.cjc_tokens.proofs.Facts.{same-refl}
-use Rattle.cjc_tokens.proofs.Walks.{kin-known}
+use Rattle.cjc_tokens.proofs.Walks.{supertypes-known}
 use Rattle.cjc_vtable.specs.Calls.{is_special, selects, is_package_visible, is_clash}
 use Rattle.cjc_vtable.specs.Kept.{IsKept, Keeps}
 use Rattle.cjc_world.proofs.Rising.{known-append}
@@ -201,7 +201,7 @@ sees d m n i one plain off =
 -- ---- methods for those of interfaces
 
 -- a selection that is fit for an interface's method gives a public one
-fit-selection : (o : Option Hit) → is_unfit_selection true o ≡ false → (h : Hit) × (o ≡ Some h) × (is_public h.flags ≡ true)
+fit-selection : (o : Option ResolvedMember) → is_unfit_selection true o ≡ false → (h : ResolvedMember) × (o ≡ Some h) × (is_public h.flags ≡ true)
 fit-selection None e = cc
 fit-selection (Some h) e = (h, refl, by (is_abstract h.flags) (is_public h.flags) e)
   where
@@ -221,7 +221,7 @@ fit-name false true false S true true false e f off code = cc
 fit-name false true false S true false false e f off code = let no = code refl refl in cc
 
 module _ (list : List ℕ) (files : Files) (codes : List MethodCode) (settings : Settings) (kept : IsKept list files codes settings) (acyclic : IsAcyclic (all_classes files))
-    (is_kin : (xs : List (List ℕ)) → IsKin (all_classes files) xs (kin (all_classes files) xs)) (one_kin : (xs : List (List ℕ)) (j k : Kin) → IsKin (all_classes files) xs j → IsKin (all_classes files) xs k → j ≡ k) where
+    (are_supertypes : (xs : List (List ℕ)) → AreSupertypes (all_classes files) xs (supertypes (all_classes files) xs)) (one_supertypes : (xs : List (List ℕ)) (j k : Supertypes) → AreSupertypes (all_classes files) xs j → AreSupertypes (all_classes files) xs k → j ≡ k) where
   no-array : (x : List ℕ) (c : Class) → class_named (all_classes files) x ≡ Some c → c.is_imported ≡ false → starts 91 c.name ≡ false
   no-array x c e im = no_array files.package_name c.name kept.read.package_name (of-package list files kept.unbroken.world x c e im)
 
@@ -230,8 +230,8 @@ module _ (list : List ℕ) (files : Files) (codes : List MethodCode) (settings :
 
   -- ---- a class above
 
-  other-name : (x : List ℕ) (c d : Class) → class_named (all_classes files) x ≡ Some c → (stands d.name (kin (all_classes files) c.supers) ≡ true) ⊎ (stands d.name (kin (all_classes files) c.interfaces) ≡ true) → bytes_eq c.name d.name ≡ false
-  unfolding kin From
+  other-name : (x : List ℕ) (c d : Class) → class_named (all_classes files) x ≡ Some c → (stands d.name (supertypes (all_classes files) c.supers) ≡ true) ⊎ (stands d.name (supertypes (all_classes files) c.interfaces) ≡ true) → bytes_eq c.name d.name ≡ false
+  unfolding supertypes From
   other-name x c d e way = by (bytes_eq c.name d.name) refl
     where
       above : Above (all_classes files) c.name d.name
@@ -248,7 +248,7 @@ module _ (list : List ℕ) (files : Files) (codes : List MethodCode) (settings :
       by true f = absurd (acyclic c.name (subst (λ q. Above (all_classes files) c.name q) (sym (bytes-true c.name d.name f)) above))
       by false f = f
 
-  apart : (x : List ℕ) (c d : Class) (b : Bool) → class_named (all_classes files) x ≡ Some c → (stands d.name (kin (all_classes files) c.supers) ≡ true) ⊎ (stands d.name (kin (all_classes files) c.interfaces) ≡ true)
+  apart : (x : List ℕ) (c d : Class) (b : Bool) → class_named (all_classes files) x ≡ Some c → (stands d.name (supertypes (all_classes files) c.supers) ≡ true) ⊎ (stands d.name (supertypes (all_classes files) c.interfaces) ≡ true)
       → b ≡ true → (b && not (bytes_eq c.name d.name)) ≡ true
   apart x c d b e way h = by (bytes_eq c.name d.name) b (other-name x c d e way) h
     where
@@ -262,36 +262,36 @@ module _ (list : List ℕ) (files : Files) (codes : List MethodCode) (settings :
   either false true h = refl
   either false false h = ⊎_elim (λ g. cc) (λ g. cc) h
 
-  tree-of : (x : List ℕ) (c : Class) → class_named (all_classes files) x ≡ Some c → kin (all_classes files) (c.name ∷ []) ≡ Known c (kin (all_classes files) c.supers) (kin (all_classes files) c.interfaces) End
-  tree-of x c e = kin-known (all_classes files) is_kin one_kin c.name c (itself x c e)
+  tree-of : (x : List ℕ) (c : Class) → class_named (all_classes files) x ≡ Some c → supertypes (all_classes files) (c.name ∷ []) ≡ Known c (supertypes (all_classes files) c.supers) (supertypes (all_classes files) c.interfaces) End
+  tree-of x c e = supertypes-known (all_classes files) are_supertypes one_supertypes c.name c (itself x c e)
 
   -- a superclass
-  super-of : (x : List ℕ) (c d : Class) → class_named (all_classes files) x ≡ Some c → Among d (upwards (kin (all_classes files) c.supers)) → ((is_below (all_classes files) c.name d.name || has_interface (all_classes files) c.name d.name) && not (bytes_eq c.name d.name)) ≡ true
+  super-of : (x : List ℕ) (c d : Class) → class_named (all_classes files) x ≡ Some c → Among d (upwards (supertypes (all_classes files) c.supers)) → ((is_below (all_classes files) c.name d.name || has_interface (all_classes files) c.name d.name) && not (bytes_eq c.name d.name)) ≡ true
   unfolding is_below
   super-of x c d e a =
       let w = all_classes files in
       let below : is_below w c.name d.name ≡ true =
       ap (stands_by_supers d.name) (tree-of x c e)
-      ∙ ap (λ v. (bytes_eq c.name d.name || v) || false) (upwards-below (kin w c.supers) d a)
+      ∙ ap (λ v. (bytes_eq c.name d.name || v) || false) (upwards-below (supertypes w c.supers) d a)
       ∙ last (bytes_eq c.name d.name) in
-      apart x c d (is_below w c.name d.name || has_interface w c.name d.name) e (inl (upwards-stands (kin w c.supers) d a)) (either (is_below w c.name d.name) (has_interface w c.name d.name) (inl below))
+      apart x c d (is_below w c.name d.name || has_interface w c.name d.name) e (inl (upwards-stands (supertypes w c.supers) d a)) (either (is_below w c.name d.name) (has_interface w c.name d.name) (inl below))
     where
       last : (b : Bool) → ((b || true) || false) ≡ true
       last true = refl
       last false = refl
 
   -- a superinterface
-  interface-of : (x : List ℕ) (c d : Class) → class_named (all_classes files) x ≡ Some c → Among d (known (gathered false (kin (all_classes files) c.supers) ++ gathered true (kin (all_classes files) c.interfaces))) → ((is_below (all_classes files) c.name d.name || has_interface (all_classes files) c.name d.name) && not (bytes_eq c.name d.name)) ≡ true
+  interface-of : (x : List ℕ) (c d : Class) → class_named (all_classes files) x ≡ Some c → Among d (known (gathered false (supertypes (all_classes files) c.supers) ++ gathered true (supertypes (all_classes files) c.interfaces))) → ((is_below (all_classes files) c.name d.name || has_interface (all_classes files) c.name d.name) && not (bytes_eq c.name d.name)) ≡ true
   unfolding has_interface gathered
   interface-of x c d e a =
       let w = all_classes files in
-      let S = gathered false (kin w c.supers) in
-      let I = gathered true (kin w c.interfaces) in
+      let S = gathered false (supertypes w c.supers) in
+      let I = gathered true (supertypes w c.interfaces) in
       let has : has_interface w c.name d.name ≡ true =
       ap (λ k. is_one_named (known (gathered false k)) d.name) (tree-of x c e)
       ∙ ap (λ is. is_one_named (known is) d.name) (append-nil (S ++ I ++ []) ∙ append-nil (S ++ I))
       ∙ among-named d (known (S ++ I)) a in
-      let way = ⊎_elim (λ j. inl (gathered-stands false (kin w c.supers) d j)) (λ j. inr (gathered-stands true (kin w c.interfaces) d j)) (among-split d (known S) (known I) (subst (Among d) (known-append S I) a)) in
+      let way = ⊎_elim (λ j. inl (gathered-stands false (supertypes w c.supers) d j)) (λ j. inr (gathered-stands true (supertypes w c.interfaces) d j)) (among-split d (known S) (known I) (subst (Among d) (known-append S I) a)) in
       apart x c d (is_below w c.name d.name || has_interface w c.name d.name) e way (either (is_below w c.name d.name) (has_interface w c.name d.name) (inr has))
 
   -- ---- 305
@@ -310,10 +310,10 @@ module _ (list : List ℕ) (files : Files) (codes : List MethodCode) (settings :
       sees (imported l u) m n j one plain (subst (λ (v : Member). (not (is_special (signature_of v)) && hides_one (imported 0 u) v.flags v.name v.desc) ≡ false) (sym r.2) off)
 
   -- against a class of its superclasses
-  sight : (x : List ℕ) (c d : Class) (m n : Member) → class_named (all_classes files) x ≡ Some c → c.is_imported ≡ false → In m c.methods → Among d (upwards (kin (all_classes files) c.supers)) → In n d.methods
+  sight : (x : List ℕ) (c d : Class) (m n : Member) → class_named (all_classes files) x ≡ Some c → c.is_imported ≡ false → In m c.methods → Among d (upwards (supertypes (all_classes files) c.supers)) → In n d.methods
       → signature_of m ≡ signature_of n → is_special (signature_of m) ≡ false → is_out_of_sight d.is_imported m.flags n.flags ≡ false
   sight x c d m n e im i a j one plain =
-      let named = upwards-named (all_classes files) c.supers (kin (all_classes files) c.supers) d (is_kin c.supers) a in
+      let named = upwards-named (all_classes files) c.supers (supertypes (all_classes files) c.supers) d (are_supertypes c.supers) a in
       out-of-sight c d (filed files x c e) (filed files d.name d named) im (super-of x c d e a) m n i j one plain
 
   -- ---- 307
@@ -338,26 +338,26 @@ module _ (list : List ℕ) (files : Files) (codes : List MethodCode) (settings :
       concrete_one true e f = cc
 
   -- an interface of the class
-  asked-interface : (x : List ℕ) (c d : Class) → class_named (all_classes files) x ≡ Some c → Among d (known (gathered false (kin (all_classes files) c.supers) ++ gathered true (kin (all_classes files) c.interfaces)))
+  asked-interface : (x : List ℕ) (c d : Class) → class_named (all_classes files) x ≡ Some c → Among d (known (gathered false (supertypes (all_classes files) c.supers) ++ gathered true (supertypes (all_classes files) c.interfaces)))
       → (class_named (all_classes files) d.name ≡ Some d) × (is_interface d.flags ≡ true) × (((is_below (all_classes files) c.name d.name || has_interface (all_classes files) c.name d.name) && not (bytes_eq c.name d.name)) ≡ true)
   asked-interface x c d e a =
       let w = all_classes files in
-      let A = gathered false (kin w c.supers) in
-      let B = gathered true (kin w c.interfaces) in
+      let A = gathered false (supertypes w c.supers) in
+      let B = gathered true (supertypes w c.interfaces) in
       let rule = lists-interfaces list files kept.unbroken.world in
       ⊎_elim
-      (λ j. let named = gathered-named w false c.supers (kin w c.supers) d (is_kin c.supers) j in
-      (named, gathered-interface w rule false c.supers (kin w c.supers) d (is_kin c.supers) (λ l y g v h. cc) j, interface-of x c d e a))
-      (λ j. let named = gathered-named w true c.interfaces (kin w c.interfaces) d (is_kin c.interfaces) j in
-      (named, gathered-interface w rule true c.interfaces (kin w c.interfaces) d (is_kin c.interfaces) (λ l y g v h. rule x y c g e v h) j, interface-of x c d e a))
+      (λ j. let named = gathered-named w false c.supers (supertypes w c.supers) d (are_supertypes c.supers) j in
+      (named, gathered-interface w rule false c.supers (supertypes w c.supers) d (are_supertypes c.supers) (λ l y g v h. cc) j, interface-of x c d e a))
+      (λ j. let named = gathered-named w true c.interfaces (supertypes w c.interfaces) d (are_supertypes c.interfaces) j in
+      (named, gathered-interface w rule true c.interfaces (supertypes w c.interfaces) d (are_supertypes c.interfaces) (λ l y g v h. rule x y c g e v h) j, interface-of x c d e a))
       (among-split d (known A) (known B) (subst (Among d) (known-append A B) a))
 
-  has-method : (x : List ℕ) (c : Class) (m : Member) → class_named (all_classes files) x ≡ Some c → c.is_imported ≡ false → is_abstract c.flags ≡ false → In m (asked_by (kin (all_classes files) c.supers) (kin (all_classes files) c.interfaces))
+  has-method : (x : List ℕ) (c : Class) (m : Member) → class_named (all_classes files) x ≡ Some c → c.is_imported ≡ false → is_abstract c.flags ≡ false → In m (asked_by (supertypes (all_classes files) c.supers) (supertypes (all_classes files) c.interfaces))
       → (n : Member) × (chosen selects (signature_of m) (all_methods (line (all_classes files) x)) ≡ Some n) × (is_public n.flags ≡ true)
   unfolding asked_by selected line
   has-method x c m e im concrete i =
       let w = all_classes files in
-      let a = in-interface m (known (gathered false (kin w c.supers) ++ gathered true (kin w c.interfaces))) i in
+      let a = in-interface m (known (gathered false (supertypes w c.supers) ++ gathered true (supertypes w c.interfaces))) i in
       let d = a.0 in
       let is = asked-interface x c d e a.1 in
       let own = own-in d m a.2 in
@@ -366,11 +366,11 @@ module _ (list : List ℕ) (files : Files) (codes : List MethodCode) (settings :
       let off2 : is_unfit_selection true (hit w false (selected w c.name m.name m.desc)) ≡ false = ap (λ (v : Bool). is_unfit_selection v (hit w false (selected w c.name m.name m.desc))) (sym is.1) ∙ fit in
       let h = fit-selection (hit w false (selected w c.name m.name m.desc)) off2 in
       let at_x : receiver c.name ≡ x = receiver-itself c.name (no-array x c e im) ∙ class_named-name w x c e in
-      let named = λ (g : Class) (j : Among g (upwards (kin (all_classes files) (x ∷ [])))). at-number files g.name g (upwards-named (all_classes files) (x ∷ []) (kin (all_classes files) (x ∷ [])) g (is_kin (x ∷ [])) j) in
-      let told : hit (all_classes files) false (first (own_method true m.name m.desc) (upwards (kin (all_classes files) (x ∷ [])))) ≡ Some h.0 =
-      ap (λ q. hit (all_classes files) false (first (own_method true m.name m.desc) (upwards (kin (all_classes files) (q ∷ []))))) (sym at_x) ∙ h.1
+      let named = λ (g : Class) (j : Among g (upwards (supertypes (all_classes files) (x ∷ [])))). at-number files g.name g (upwards-named (all_classes files) (x ∷ []) (supertypes (all_classes files) (x ∷ [])) g (are_supertypes (x ∷ [])) j) in
+      let told : hit (all_classes files) false (first (own_method true m.name m.desc) (upwards (supertypes (all_classes files) (x ∷ [])))) ≡ Some h.0 =
+      ap (λ q. hit (all_classes files) false (first (own_method true m.name m.desc) (upwards (supertypes (all_classes files) (q ∷ []))))) (sym at_x) ∙ h.1
       in
-      let r = hit-selected (all_classes files) (upwards (kin (all_classes files) (x ∷ []))) (signature_of m) h.0 named told in
+      let r = hit-selected (all_classes files) (upwards (supertypes (all_classes files) (x ∷ []))) (signature_of m) h.0 named told in
       (r.0, r.1, ap (λ v. is_public v) (sym r.2) ∙ h.2)
     where
       asked : (a i f n : Bool) {u : Bool} → i ≡ true → n ≡ false → (((a || i) && not (not f && n)) && u) ≡ false → u ≡ false
@@ -413,7 +413,7 @@ module _ (list : List ℕ) (files : Files) (codes : List MethodCode) (settings :
       superclasses = lists-classes list files kept.unbroken.world;
       told = kept.agree;
       access = λ x c m n e im i j one plain.
-          let a = in-class n (upwards (kin (all_classes files) c.supers)) j in
+          let a = in-class n (upwards (supertypes (all_classes files) c.supers)) j in
           no-clash m.flags n.flags a.0.is_imported (sight x c a.0 m n e im i a.1 a.2 one plain);
     };
     interfaces = record {
@@ -422,7 +422,7 @@ module _ (list : List ℕ) (files : Files) (codes : List MethodCode) (settings :
       listed = lists-interfaces list files kept.unbroken.world;
     };
     imported = λ x c m n e im i j one plain.
-        let a = line-imported (all_classes files) (lists-imported list files kept.unbroken.world) c.supers (kin (all_classes files) c.supers) n (is_kin c.supers) j in
+        let a = line-imported (all_classes files) (lists-imported list files kept.unbroken.world) c.supers (supertypes (all_classes files) c.supers) n (are_supertypes c.supers) j in
         not-both m.flags n.flags (subst (λ (v : Bool). is_out_of_sight v m.flags n.flags ≡ false) a.2 (sight x c a.0 m n e im i a.1 a.3 one plain));
   }
     where

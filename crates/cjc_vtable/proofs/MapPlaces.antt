@@ -6,7 +6,7 @@ use Rattle.std.proofs.lemmas.List.{map-append}
 use Rattle.std.specs.Prelude.{true, false, Some, slice_get, option_to_list}
 use Rattle.cjc_world.specs.Classes.{Class}
 use Rattle.cjc_world.specs.Interfaces.{each_once, gathered, known}
-use Rattle.cjc_world.specs.Kin.{kin}
+use Rattle.cjc_world.specs.Supertypes.{supertypes}
 use Rattle.cjc_world.specs.Working.Places.{at_places}
 use Rattle.cjc_tokens.specs.Members.{Signature}
 use Rattle.cjc_tokens.specs.Methods.{interfaces_at, interface_methods}
@@ -36,7 +36,7 @@ module _ (f : Class → InterfaceMap) (w : List Class) (places : List ℕ) (maps
       let past : drop i places ≡ [] = grind (arith, common_steps) in
       sym (append-nil maps) ∙ ap (λ q. maps ++ map f (at_places w q)) (sym past) ∙ inv
 
-pub interfaces-are : (w : List Class) (c : Class) → known (each_once [] (gathered false (kin w c.supers) ++ gathered true (kin w c.interfaces))) ≡ known (interfaces_at w c)
+pub interfaces-are : (w : List Class) (c : Class) → known (each_once [] (gathered false (supertypes w c.supers) ++ gathered true (supertypes w c.interfaces))) ≡ known (interfaces_at w c)
 unfolding interfaces_at
 interfaces-are w c = refl
 

@@ -12,7 +12,7 @@ use Rattle.cjc_export.specs.declared.tree.ExportTree.{ExportTree}
 use Rattle.cjc_world.specs.Files.{Files}
 use Rattle.cjc_world.specs.Classes.{Class, declared, numbered, size, of_class_file, of_export_file, classes_from, all_classes, class_named}
 use Rattle.cjc_bytes.specs.AccessFlags.{is_interface}
-use Rattle.cjc_world.specs.Kin.{Lists, foremost, after}
+use Rattle.cjc_world.specs.Supertypes.{Lists, foremost, after}
 use Rattle.cjc_world.specs.Lookup.{object}
 use Rattle.cjc_world.specs.Rules.{when, at_class, class_rules, members_from, class_breaks, classes_breaks, class_file_breaks, export_file_breaks, breaks_from, breaks, is_of_package, is_second, lists_missing, gets_missing, is_own_super, lists_wrong, is_second_package, has_language, is_interface_of, is_class_of, is_of_class_file}
 use Rattle.cjc_world.proofs.Unbroken.{nil_front, nil_back, nil_of_map, not_when}

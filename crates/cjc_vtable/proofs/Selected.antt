@@ -4,7 +4,7 @@ use Rattle.std.specs.Prelude.{length, ◌&&◌, Option, Some, None, option_map, 
 use Rattle.cjc_world.specs.declared.found.Found.{Found}
 use Rattle.cjc_world.specs.Classes.{Member, Class, class_at}
 use Rattle.cjc_world.specs.Lookup.{or_else, first, own_method, is_called, member_at}
-use Rattle.cjc_subset.specs.Members.{Hit, hit, hit_of}
+use Rattle.cjc_subset.specs.Members.{ResolvedMember, hit, hit_of}
 use Rattle.cjc_tokens.specs.Members.{Signature, all_methods, chosen}
 use Rattle.cjc_tokens.specs.Slots.{own}
 use Rattle.cjc_tokens.proofs.Facts.{position-cons, place, place-some}
@@ -50,12 +50,12 @@ first-selected s (c ∷ cs) f e = by (place selects s c.methods) refl e (first-s
     by (Some i) g e rest = let p = placed selects s c.methods i g in (c, p.0, i, at_head, chosen-front selects s c.methods (all_methods cs) p.0 p.1, p.2, cc)
 
 -- what is told of it has its flags
-pub hit-selected : (w cs : List Class) (s : Signature) (h : Hit) → ((d : Class) → Among d cs → class_at w d.is_imported d.number ≡ Some d) → hit w false (first (own_method true s.name s.desc) cs) ≡ Some h
+pub hit-selected : (w cs : List Class) (s : Signature) (h : ResolvedMember) → ((d : Class) → Among d cs → class_at w d.is_imported d.number ≡ Some d) → hit w false (first (own_method true s.name s.desc) cs) ≡ Some h
     → (n : Member) × (chosen selects s (all_methods cs) ≡ Some n) × (h.flags ≡ n.flags)
 unfolding hit Selects
 hit-selected w cs s h at e = by (first (own selects s) cs) refl (ap (hit w false) (sym (first-selects cs s)) ∙ e)
   where
-    here : (d : Class) → Option Member → Option Hit
+    here : (d : Class) → Option Member → Option ResolvedMember
     here d o = option_map (λ m. record { owner = d; flags = m.flags }) o
 
     by : (o : Option Found) → first (own selects s) cs ≡ o → hit w false o ≡ Some h → (n : Member) × (chosen selects s (all_methods cs) ≡ Some n) × (h.flags ≡ n.flags)
@@ -73,4 +73,4 @@ hit-selected w cs s h at e = by (first (own selects s) cs) refl (ap (hit w false
         in
         let both : Some h ≡ Some (record { owner = d; flags = r.1.flags }) = sym g ∙ told in
         let is : h ≡ record { owner = d; flags = r.1.flags } = cc in
-        (r.1, r.4, ap (λ (q : Hit). q.flags) is)
+        (r.1, r.4, ap (λ (q : ResolvedMember). q.flags) is)

@@ -6,7 +6,7 @@ use Rattle.cjc_world.specs.declared.found.Found.{Found}
 use Rattle.cjc_world.specs.Files.{Files}
 use Rattle.cjc_world.specs.Classes.{Member, Class, declared, all_classes, class_named, class_at}
 use Rattle.cjc_bytes.specs.AccessFlags.{is_interface}
-use Rattle.cjc_world.specs.Kin.{Kin, kin, IsKin, ends, unknown_here, known_here, upwards}
+use Rattle.cjc_world.specs.Supertypes.{Supertypes, supertypes, AreSupertypes, ends, unknown_here, known_here, upwards}
 use Rattle.cjc_world.specs.Lookup.{first, is_called, member_at, or_else}
 use Rattle.cjc_world.specs.Added.{added, added_at, added_to, named_by}
 use Rattle.cjc_tokens.specs.Members.{Signature, signature_of, same, has, signatures, is_shown, is_virtual, all_methods, In, first_of, later}
@@ -185,12 +185,12 @@ module _ (w : List Class) (numbered_ones : (x : List ℕ) (d : Class) → class_
   seen-append [] b p q = q
   seen-append (c ∷ a) b p q = (p.0, seen-append a b p.1 q)
 
-  seen-upwards : (xs : List (List ℕ)) (k : Kin) → IsKin w xs k → AreSeen w (upwards k)
+  seen-upwards : (xs : List (List ℕ)) (k : Supertypes) → AreSupertypes w xs k → AreSeen w (upwards k)
   seen-upwards [] k ends = tt
   seen-upwards (x ∷ xs) k (unknown_here {next = r} e b) = seen-upwards xs r b
   seen-upwards (x ∷ xs) k (known_here {c = c} {supers = p} {interfaces = q} {next = r} e s t b) = (numbered_ones x c e, seen-append (upwards p) (upwards r) (seen-upwards c.supers p s) (seen-upwards xs r b))
 
-  pub seen-line : (xs : List (List ℕ)) (k : Kin) → IsKin w xs k → IsSeen w (line_in w k)
+  pub seen-line : (xs : List (List ℕ)) (k : Supertypes) → AreSupertypes w xs k → IsSeen w (line_in w k)
   seen-line [] k ends = tt
   seen-line (x ∷ xs) k (unknown_here e b) = tt
   seen-line (x ∷ xs) k (known_here {c = c} {supers = p} {interfaces = q} {next = r} e s t b) = by c.is_imported (seen-line c.supers p s)
@@ -199,17 +199,17 @@ module _ (w : List Class) (numbered_ones : (x : List ℕ) (d : Class) → class_
       by true above = (numbered_ones x c e, seen-upwards c.supers p s)
       by false above = (numbered_ones x c e, refl, above)
 
-  seen-at : (c : Class) → Numbered w c → IsKin w c.supers (kin w c.supers) → IsSeen w (line_at w c)
+  seen-at : (c : Class) → Numbered w c → AreSupertypes w c.supers (supertypes w c.supers) → IsSeen w (line_at w c)
   seen-at c there tree = by c.is_imported
     where
-      by : (f : Bool) → IsSeen w (if f then Imported (c ∷ upwards (kin w c.supers)) else Declared c (added w c) (line_in w (kin w c.supers)))
-      by true = (there, seen-upwards c.supers (kin w c.supers) tree)
-      by false = (there, refl, seen-line c.supers (kin w c.supers) tree)
+      by : (f : Bool) → IsSeen w (if f then Imported (c ∷ upwards (supertypes w c.supers)) else Declared c (added w c) (line_in w (supertypes w c.supers)))
+      by true = (there, seen-upwards c.supers (supertypes w c.supers) tree)
+      by false = (there, refl, seen-line c.supers (supertypes w c.supers) tree)
 
 -- ---- the names of what tokens keep of a class of the package
 
 pub slots-named : (files : Files) (applets : Bool) (n : ℕ) (d : Class)
-    → ((xs : List (List ℕ)) → IsKin (all_classes files) xs (kin (all_classes files) xs))
+    → ((xs : List (List ℕ)) → AreSupertypes (all_classes files) xs (supertypes (all_classes files) xs))
     → class_at (all_classes files) false n ≡ Some d
     → is_interface d.flags ≡ false
     → map (named_where (all_classes files)) (public_methods_of (assigned applets files) n) ≡ slots (line_at (all_classes files) d)

@@ -4,7 +4,7 @@ use Rattle.std.specs.Prelude.{◌||◌, ◌⊎◌, Some, if◌then◌else◌}
 use Rattle.std.specs.Str.{bytes_eq}
 use Rattle.cjc_world.specs.Classes.{Member, Class, class_named}
 use Rattle.cjc_bytes.specs.AccessFlags.{is_interface}
-use Rattle.cjc_world.specs.Kin.{Kin, End, Unknown, Known, IsKin, ends, unknown_here, known_here, Lists, foremost, after, stands, stands_by_supers, upwards, is_one_named}
+use Rattle.cjc_world.specs.Supertypes.{Supertypes, End, Unknown, Known, AreSupertypes, ends, unknown_here, known_here, Lists, foremost, after, stands, stands_by_supers, upwards, is_one_named}
 use Rattle.cjc_world.specs.Interfaces.{where_listed, gathered, known}
 use Rattle.cjc_world.specs.Added.{added, own_methods, methods_of}
 use Rattle.cjc_tokens.specs.Members.{all_methods, In}
@@ -68,7 +68,7 @@ orr : (a b : Bool) → b ≡ true → (a || b) ≡ true
 orr true b e = refl
 orr false b e = e
 
-pub upwards-stands : (k : Kin) (d : Class) → Among d (upwards k) → stands d.name k ≡ true
+pub upwards-stands : (k : Supertypes) (d : Class) → Among d (upwards k) → stands d.name k ≡ true
 upwards-stands End d i = elim i [ ]
 upwards-stands (Unknown x r) d i = orr (bytes_eq x d.name) (stands d.name r) (upwards-stands r d i)
 upwards-stands (Known c p q r) d at_head = or1 (bytes_eq c.name c.name) (stands c.name p) (stands c.name q) (stands c.name r) (bytes-refl c.name)
@@ -77,7 +77,7 @@ upwards-stands (Known c p q r) d (further i) = ⊎_elim
     (λ j. or4 (bytes_eq c.name d.name) (stands d.name p) (stands d.name q) (stands d.name r) (upwards-stands r d j))
     (among-split d (upwards p) (upwards r) i)
 
-pub upwards-below : (k : Kin) (d : Class) → Among d (upwards k) → stands_by_supers d.name k ≡ true
+pub upwards-below : (k : Supertypes) (d : Class) → Among d (upwards k) → stands_by_supers d.name k ≡ true
 upwards-below End d i = elim i [ ]
 upwards-below (Unknown x r) d i = orr (bytes_eq x d.name) (stands_by_supers d.name r) (upwards-below r d i)
 upwards-below (Known c p q r) d at_head = orl (bytes_eq c.name c.name || stands_by_supers c.name p) (stands_by_supers c.name r) (orl (bytes_eq c.name c.name) (stands_by_supers c.name p) (bytes-refl c.name))
@@ -92,7 +92,7 @@ among-named d (c ∷ cs) at_head = orl (bytes_eq d.name d.name) (is_one_named cs
 among-named d (c ∷ cs) (further i) = orr (bytes_eq c.name d.name) (is_one_named cs d.name) (among-named d cs i)
 
 -- the interfaces of a class and of what is listed behind it
-parts : (listed : Bool) (c : Class) (p q r : Kin) (d : Class) → Among d (known (gathered listed (Known c p q r)))
+parts : (listed : Bool) (c : Class) (p q r : Supertypes) (d : Class) → Among d (known (gathered listed (Known c p q r)))
     → (Among d (known (gathered false p)) ⊎ Among d (known (gathered true q))) ⊎ (((listed ≡ true) × (d ≡ c)) ⊎ Among d (known (gathered listed r)))
 unfolding gathered known
 parts listed c p q r d i =
@@ -112,7 +112,7 @@ parts listed c p q r d i =
     by true h = (refl, among-one d c h)
     by false h = elim h [ ]
 
-behind-unknown : (listed : Bool) (x : List ℕ) (r : Kin) (d : Class) → Among d (known (gathered listed (Unknown x r))) → Among d (known (gathered listed r))
+behind-unknown : (listed : Bool) (x : List ℕ) (r : Supertypes) (d : Class) → Among d (known (gathered listed (Unknown x r))) → Among d (known (gathered listed r))
 unfolding gathered known
 behind-unknown true x r d i = i
 behind-unknown false x r d i = i
@@ -121,7 +121,7 @@ none-gathered : (listed : Bool) (d : Class) → Among d (known (gathered listed 
 unfolding gathered known
 none-gathered listed d i = elim i [ ]
 
-pub gathered-stands : (listed : Bool) (k : Kin) (d : Class) → Among d (known (gathered listed k)) → stands d.name k ≡ true
+pub gathered-stands : (listed : Bool) (k : Supertypes) (d : Class) → Among d (known (gathered listed k)) → stands d.name k ≡ true
 gathered-stands listed End d i = absurd (none-gathered listed d i)
 gathered-stands listed (Unknown x r) d i = orr (bytes_eq x d.name) (stands d.name r) (gathered-stands listed r d (behind-unknown listed x r d i))
 gathered-stands listed (Known c p q r) d i =
@@ -140,7 +140,7 @@ module _ (w : List Class) where
   itself-named : (x : List ℕ) (c : Class) → class_named w x ≡ Some c → class_named w c.name ≡ Some c
   itself-named x c e = ap (class_named w) (class_named-name w x c e) ∙ e
 
-  pub upwards-named : (xs : List (List ℕ)) (k : Kin) (d : Class) → IsKin w xs k → Among d (upwards k) → class_named w d.name ≡ Some d
+  pub upwards-named : (xs : List (List ℕ)) (k : Supertypes) (d : Class) → AreSupertypes w xs k → Among d (upwards k) → class_named w d.name ≡ Some d
   upwards-named xs k d ends i = elim i [ ]
   upwards-named (x ∷ xs) k d (unknown_here {next = r} e b) i = upwards-named xs r d b i
   upwards-named (x ∷ xs) k d (known_here {c = c} {supers = p} {interfaces = q} {next = r} e s t b) i =
@@ -149,7 +149,7 @@ module _ (w : List Class) where
       (λ j. ⊎_elim (λ g. upwards-named c.supers p d s g) (λ g. upwards-named xs r d b g) (among-split d (upwards p) (upwards r) j))
       (among-cons d c (upwards p ++ upwards r) i)
 
-  pub gathered-named : (listed : Bool) (xs : List (List ℕ)) (k : Kin) (d : Class) → IsKin w xs k → Among d (known (gathered listed k)) → class_named w d.name ≡ Some d
+  pub gathered-named : (listed : Bool) (xs : List (List ℕ)) (k : Supertypes) (d : Class) → AreSupertypes w xs k → Among d (known (gathered listed k)) → class_named w d.name ≡ Some d
   gathered-named listed xs k d ends i = absurd (none-gathered listed d i)
   gathered-named listed (x ∷ xs) k d (unknown_here {next = r} e b) i = gathered-named listed xs r d b (behind-unknown listed x r d i)
   gathered-named listed (x ∷ xs) k d (known_here {c = c} {supers = p} {interfaces = q} {next = r} e s t b) i =
@@ -160,7 +160,7 @@ module _ (w : List Class) where
 
   -- what is gathered is an interface
   pub gathered-interface : ((x y : List ℕ) (c d : Class) → class_named w x ≡ Some c → Lists y c.interfaces → class_named w y ≡ Some d → is_interface d.flags ≡ true)
-      → (listed : Bool) (xs : List (List ℕ)) (k : Kin) (d : Class) → IsKin w xs k → (listed ≡ true → (y : List ℕ) (e : Class) → Lists y xs → class_named w y ≡ Some e → is_interface e.flags ≡ true) → Among d (known (gathered listed k)) → is_interface d.flags ≡ true
+      → (listed : Bool) (xs : List (List ℕ)) (k : Supertypes) (d : Class) → AreSupertypes w xs k → (listed ≡ true → (y : List ℕ) (e : Class) → Lists y xs → class_named w y ≡ Some e → is_interface e.flags ≡ true) → Among d (known (gathered listed k)) → is_interface d.flags ≡ true
   gathered-interface rule listed xs k d ends all i = absurd (none-gathered listed d i)
   gathered-interface rule listed (x ∷ xs) k d (unknown_here {next = r} e b) all i = gathered-interface rule listed xs r d b (λ l y g v h. all l y g (after v) h) (behind-unknown listed x r d i)
   gathered-interface rule listed (x ∷ xs) k d (known_here {c = c} {supers = p} {interfaces = q} {next = r} e s t b) all i =
@@ -175,7 +175,7 @@ module _ (w : List Class) where
 
   module _ (rule : (x y : List ℕ) (c d : Class) → class_named w x ≡ Some c → c.is_imported ≡ true → Lists y c.supers → class_named w y ≡ Some d → d.is_imported ≡ true) where
     -- above imported classes all are imported
-    upwards-imported : (xs : List (List ℕ)) (k : Kin) (d : Class) → IsKin w xs k → ((y : List ℕ) (e : Class) → Lists y xs → class_named w y ≡ Some e → e.is_imported ≡ true) → Among d (upwards k) → d.is_imported ≡ true
+    upwards-imported : (xs : List (List ℕ)) (k : Supertypes) (d : Class) → AreSupertypes w xs k → ((y : List ℕ) (e : Class) → Lists y xs → class_named w y ≡ Some e → e.is_imported ≡ true) → Among d (upwards k) → d.is_imported ≡ true
     upwards-imported xs k d ends all i = elim i [ ]
     upwards-imported (x ∷ xs) k d (unknown_here {next = r} e b) all i = upwards-imported xs r d b (λ y g v h. all y g (after v) h) i
     upwards-imported (x ∷ xs) k d (known_here {c = c} {supers = p} {interfaces = q} {next = r} e s t b) all i =
@@ -188,7 +188,7 @@ module _ (w : List Class) where
         (among-cons d c (upwards p ++ upwards r) i)
 
     -- the imported methods of a line are those of imported classes above
-    pub line-imported : (xs : List (List ℕ)) (k : Kin) (m : Member) → IsKin w xs k → In m (imported_methods (line_in w k)) → (d : Class) × Among d (upwards k) × (d.is_imported ≡ true) × In m d.methods
+    pub line-imported : (xs : List (List ℕ)) (k : Supertypes) (m : Member) → AreSupertypes w xs k → In m (imported_methods (line_in w k)) → (d : Class) × Among d (upwards k) × (d.is_imported ≡ true) × In m d.methods
     line-imported xs k m ends i = elim i [ ]
     line-imported xs k m (unknown_here e b) i = elim i [ ]
     line-imported (x ∷ xs) k m (known_here {c = c} {supers = p} {interfaces = q} {next = r} e s t b) i = by c.is_imported refl i (line-imported c.supers p m s)

@@ -4,7 +4,7 @@ use Rattle.std.specs.Prelude.{ℕ, ◌+◌, ◌-◌, ◌==◌, List, [], ◌∷�
 use Rattle.std.specs.Str.{bytes_eq}
 use Rattle.cjc_world.specs.declared.found.Found.{Found}
 use Rattle.cjc_world.specs.Classes.{Class}
-use Rattle.cjc_world.specs.Kin.{Kin, End, Unknown, Known, kin, upwards}
+use Rattle.cjc_world.specs.Supertypes.{Supertypes, End, Unknown, Known, supertypes, upwards}
 use Rattle.cjc_world.specs.Lookup.{first, member_at}
 use Rattle.cjc_tokens.specs.Members.{is_virtual}
 use Rattle.cjc_vtable.specs.declared.table.ClassTable.{ClassTable}
@@ -20,13 +20,13 @@ pub data Tower : Type 0 where
   Info : (table : ClassTable) (above : Tower) → Tower
 
 -- of the first class of a tree
-abbrev pub tower_in : List Class → Kin → Tower
+abbrev pub tower_in : List Class → Supertypes → Tower
 tower_in w End = Missing
 tower_in w (Unknown name next) = Missing
 tower_in w (Known c supers interfaces next) = if c.is_imported then Exported (c ∷ upwards supers) else Info (table_of w c) (tower_in w supers)
 
 abbrev pub tower_of : List Class → List ℕ → Tower
-tower_of w name = tower_in w (kin w (name ∷ []))
+tower_of w name = tower_in w (supertypes w (name ∷ []))
 
 -- a virtual method of a class by the token of its export file
 unfoldable pub own_by_token : ℕ → Class → Option Found

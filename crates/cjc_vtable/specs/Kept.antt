@@ -10,7 +10,7 @@ use Rattle.cjc_export.specs.declared.tree.ExportTree.{ExportTree}
 use Rattle.cjc_export.specs.Writable.{IsWritable}
 use Rattle.cjc_world.specs.Classes.{Class, all_classes, class_named}
 use Rattle.cjc_world.specs.Files.{Files}
-use Rattle.cjc_world.specs.Kin.{kin, upwards}
+use Rattle.cjc_world.specs.Supertypes.{supertypes, upwards}
 use Rattle.cjc_world.specs.Rules.{breaks}
 use Rattle.cjc_bytes.specs.Breaks.{Break, Among}
 use Rattle.cjc_world.specs.Subtype.{starts}
@@ -45,7 +45,7 @@ pub record AreRead (files : Files) : Type 0 where
 -- methods included, one name and descriptor has one virtual token, and one virtual token has one name and descriptor. The
 -- tokens of an interface's methods are counted apart from those of its superclass java/lang/Object, from 0.
 abbrev pub ExportsAgree : List Class → Type 0
-ExportsAgree w = (x : List ℕ) (c : Class) → class_named w x ≡ Some c → c.is_imported ≡ true → is_interface c.flags ≡ false → IsOneToOne (c.methods ++ all_methods (upwards (kin w c.supers)))
+ExportsAgree w = (x : List ℕ) (c : Class) → class_named w x ≡ Some c → c.is_imported ≡ true → is_interface c.flags ≡ false → IsOneToOne (c.methods ++ all_methods (upwards (supertypes w c.supers)))
 
 -- A package of read files that breaks none of these rules, and whose export files don't contradict one another.
 pub record IsKept (list : List ℕ) (files : Files) (codes : List MethodCode) (settings : Settings) : Type 0 where

@@ -4,7 +4,7 @@ use Rattle.std.specs.Str.{bytes_eq}
 use Rattle.cjc_world.specs.declared.found.Found.{Found}
 use Rattle.cjc_world.specs.Classes.{Member, Class, class_named}
 use Rattle.cjc_bytes.specs.AccessFlags.{is_abstract, is_public, is_interface}
-use Rattle.cjc_world.specs.Kin.{Lists, IsAcyclic, kin, upwards, line}
+use Rattle.cjc_world.specs.Supertypes.{Lists, IsAcyclic, supertypes, upwards, line}
 use Rattle.cjc_world.specs.Interfaces.{known}
 use Rattle.cjc_world.specs.Added.{asked_by, own_methods}
 use Rattle.cjc_world.specs.Lookup.{first, own_method}
@@ -31,15 +31,15 @@ pub record KeepsRules (w : List Class) : Type 0 where
   -- what a class or an interface lists as a superclass is no interface
   pub superclasses : (x y : List ℕ) (c d : Class) → class_named w x ≡ Some c → Lists y c.supers → class_named w y ≡ Some d → is_interface d.flags ≡ false
   -- along an imported class that is no interface and its supers, export files don't contradict one another
-  pub told : (x : List ℕ) (c : Class) → class_named w x ≡ Some c → c.is_imported ≡ true → is_interface c.flags ≡ false → IsOneToOne (c.methods ++ all_methods (upwards (kin w c.supers)))
+  pub told : (x : List ℕ) (c : Class) → class_named w x ≡ Some c → c.is_imported ≡ true → is_interface c.flags ≡ false → IsOneToOne (c.methods ++ all_methods (upwards (supertypes w c.supers)))
   -- of a method and one of a superclass, not one is package-visible and the other public or protected
-  pub access : (x : List ℕ) (c : Class) (m n : Member) → class_named w x ≡ Some c → c.is_imported ≡ false → In m c.methods → In n (all_methods (upwards (kin w c.supers)))
+  pub access : (x : List ℕ) (c : Class) (m n : Member) → class_named w x ≡ Some c → c.is_imported ≡ false → In m c.methods → In n (all_methods (upwards (supertypes w c.supers)))
       → signature_of m ≡ signature_of n → is_special (signature_of m) ≡ false → is_clash m.flags n.flags ≡ false
 
 -- The same of interfaces.
 pub record KeepsInterfaces (w : List Class) : Type 0 where
   -- A class that is not abstract has a method for each method of its interfaces: selection gives a public one.
-  pub methods : (x : List ℕ) (c : Class) (m : Member) → class_named w x ≡ Some c → c.is_imported ≡ false → is_abstract c.flags ≡ false → In m (asked_by (kin w c.supers) (kin w c.interfaces))
+  pub methods : (x : List ℕ) (c : Class) (m : Member) → class_named w x ≡ Some c → c.is_imported ≡ false → is_abstract c.flags ≡ false → In m (asked_by (supertypes w c.supers) (supertypes w c.interfaces))
       → (n : Member) × (chosen selects (signature_of m) (all_methods (line w x)) ≡ Some n) × (is_public n.flags ≡ true)
   -- no method of an interface is named like a constructor
   pub plain : (x : List ℕ) (c : Class) (m : Member) → class_named w x ≡ Some c → In m (own_methods c) → is_interface c.flags ≡ true → is_special (signature_of m) ≡ false
@@ -48,7 +48,7 @@ pub record KeepsInterfaces (w : List Class) : Type 0 where
 
 -- No class of the package has a package-visible method where an imported superclass has one.
 abbrev pub KeepsImported : List Class → Type 0
-KeepsImported w = (x : List ℕ) (c : Class) (m n : Member) → class_named w x ≡ Some c → c.is_imported ≡ false → In m c.methods → In n (imported_methods (line_in w (kin w c.supers)))
+KeepsImported w = (x : List ℕ) (c : Class) (m n : Member) → class_named w x ≡ Some c → c.is_imported ≡ false → In m c.methods → In n (imported_methods (line_in w (supertypes w c.supers)))
     → signature_of m ≡ signature_of n → is_special (signature_of m) ≡ false → (is_package_visible m.flags && is_package_visible n.flags) ≡ false
 
 -- what selection on an object of a class gives
@@ -83,7 +83,7 @@ InterfaceCallsAgree w = (x : List ℕ) (c : Class) → class_named w x ≡ Some 
 -- Calls of a package-visible method that an imported class lists, which only a script can name, by its token there. The
 -- class of the object is no interface.
 abbrev pub ImportedCallsAgree : List Class → Type 0
-ImportedCallsAgree w = (x y : List ℕ) (c d : Class) (m : Member) → class_named w x ≡ Some c → is_interface c.flags ≡ false → class_named w y ≡ Some d → d.is_imported ≡ true → Under w x y → In m (d.methods ++ all_methods (upwards (kin w d.supers))) → is_hidden m ≡ true
+ImportedCallsAgree w = (x y : List ℕ) (c d : Class) (m : Member) → class_named w x ≡ Some c → is_interface c.flags ≡ false → class_named w y ≡ Some d → d.is_imported ≡ true → Under w x y → In m (d.methods ++ all_methods (upwards (supertypes w d.supers))) → is_hidden m ≡ true
     → dispatched (tower_of w x) m.token ≡ selection w x (signature_of m)
 
 -- A subclass gives a method the token that its superclass gives it, a token is one method's, and a method of an
@@ -93,7 +93,7 @@ pub record TokensOnce (w : List Class) (x y : List ℕ) : Type 0 where
   pub hidden_inherited : (s : Signature) (t : ℕ) → token (hidden_slots (line_of w y)) s ≡ Some t → token (hidden_slots (line_of w x)) s ≡ Some t
   pub one_method : (s u : Signature) (t : ℕ) → token (slots (line_of w x)) s ≡ Some t → token (slots (line_of w x)) u ≡ Some t → s ≡ u
   pub one_hidden_method : (s u : Signature) (t : ℕ) → token (hidden_slots (line_of w x)) s ≡ Some t → token (hidden_slots (line_of w x)) u ≡ Some t → s ≡ u
-  pub listed : (d : Class) (m : Member) → class_named w y ≡ Some d → d.is_imported ≡ true → In m (d.methods ++ all_methods (upwards (kin w d.supers))) → is_shown m ≡ true → token (slots (line_of w y)) (signature_of m) ≡ Some m.token
+  pub listed : (d : Class) (m : Member) → class_named w y ≡ Some d → d.is_imported ≡ true → In m (d.methods ++ all_methods (upwards (supertypes w d.supers))) → is_shown m ≡ true → token (slots (line_of w y)) (signature_of m) ≡ Some m.token
 
 -- So it is of each class that is no interface and its superclasses: an interface's methods have tokens of their own, which
 -- are also those of methods of java/lang/Object.

@@ -10,8 +10,8 @@ use Rattle.std.proofs.lemmas.Option.{slice_get-map}
 use Rattle.cjc_bytes.specs.Descriptor.{array, base, base_kind, field, plain}
 use Rattle.cjc_bytes.specs.Spots.{desc_of, part_of}
 use Rattle.cjc_bytes.specs.declared.fault.MemberId.{MemberId}
-use Rattle.cjc_bytes.specs.declared.names.Kind.{Kind}
-use Rattle.cjc_bytes.specs.declared.names.Kind.TheVariants as kinds
+use Rattle.cjc_bytes.specs.declared.descriptor.Kind.{Kind}
+use Rattle.cjc_bytes.specs.declared.descriptor.Kind.TheVariants as kinds
 use Rattle.cjc_bytes.proofs.DescriptorTypes.{desc_read}
 use Rattle.cjc_bytecode.specs.Effects.{HeapObject}
 use Rattle.cjc_by_name.specs.OnePackage.{array_place, cell_of, cells, cells_in, number_place, or_zero}

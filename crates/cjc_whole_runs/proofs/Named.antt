@@ -29,7 +29,7 @@ use Rattle.cjc_read_laws.specs.Instructions.{IsInstruction, has_opcode}
 use Rattle.cjc_read_laws.proofs.Decoded.{decoded_instruction}
 use Rattle.cjc_select_laws.proofs.Cuts.{decoded as is_decoded}
 use Rattle.cjc_select_laws.proofs.Limits.{insn_fine}
-use Rattle.cjc_subset.specs.Types.{is_foreign_number, names_foreign, names_int}
+use Rattle.cjc_subset.specs.Types.{is_unsupported_number, names_unsupported, names_int}
 use Rattle.cjc_table_rules.specs.Arrays.{arraylength}
 use Rattle.cjc_table_rules.specs.Calls.{count_of}
 use Rattle.cjc_table_rules.specs.Supported as plain
@@ -70,8 +70,8 @@ module _ (list : List ℕ) (files : Files) (codes : List MethodCode) (settings :
     abbrev Named : JOp → Type 0
     Named op = IsNamed files image near tables m stack op
 
-    foreign_not : (op : JOp) → IsInsnOf files codes class op → names_foreign op ≡ false
-    foreign_not op at = (op_fit list files codes settings unbroken class op at).0
+    unsupported_not : (op : JOp) → IsInsnOf files codes class op → names_unsupported op ≡ false
+    unsupported_not op at = (op_fit list files codes settings unbroken class op at).0
 
     int_not : (op : JOp) → IsInsnOf files codes class op → names_int op ≡ false
     int_not op at = ap names_int (sym at.is_op) ∙ insn_fine list files codes settings (let u = whole.unbroken in u.checks) at.code class at.method at.tree at.of_package (let u = whole.unbroken in u.no_int) at.listed at.place at.insn at.is_insn
@@ -101,12 +101,12 @@ module _ (list : List ℕ) (files : Files) (codes : List MethodCode) (settings :
         on_object k h = a_call_on_receiver (subst (λ c. IsReceiverOn files (look_ups files image near tables) tables c stack k id) (sym own) h)
 
     -- 301 and 302
-    array_named : (n : ℕ) → IsInstruction (jop.NewArray n) → is_foreign_number n ≡ false → (n == 10) ≡ false → Named (jop.NewArray n)
-    array_named n h = one_of (λ k. is_foreign_number k ≡ false → (k == 10) ≡ false → Named (jop.NewArray k)) n (4 ∷ 5 ∷ 6 ∷ 7 ∷ 8 ∷ 9 ∷ 10 ∷ 11 ∷ [])
+    array_named : (n : ℕ) → IsInstruction (jop.NewArray n) → is_unsupported_number n ≡ false → (n == 10) ≡ false → Named (jop.NewArray n)
+    array_named n h = one_of (λ k. is_unsupported_number k ≡ false → (k == 10) ≡ false → Named (jop.NewArray k)) n (4 ∷ 5 ∷ 6 ∷ 7 ∷ 8 ∷ 9 ∷ 10 ∷ 11 ∷ [])
         ((λ f g. booleans), ((λ f g. absurd cc), ((λ f g. absurd cc), ((λ f g. absurd cc), ((λ f g. bytes), ((λ f g. shorts), ((λ f g. absurd cc), ((λ f g. absurd cc), tt)))))))) h.numbers
 
     op_named : (op : JOp) → IsInsnOf files codes class op → IsInstruction op → Fits op → Named op
-    unfolding names_foreign names_int
+    unfolding names_unsupported names_int
     op_named jop.Nop at h fits = names_nothing plain.nop
     op_named jop.Null at h fits = names_nothing plain.aconst_null
     op_named (jop.Number z) at h fits = names_nothing (plain.number h.numbers)
@@ -132,8 +132,8 @@ module _ (list : List ℕ) (files : Files) (codes : List MethodCode) (settings :
     op_named (jop.New name) at h fits =
         let ok = op_there list files codes settings unbroken class (jop.New name) at in
         a_class (object_fields w name) (new_fields files class name ok.0 ok.2) (objects_have_words list files codes settings (let u = whole.unbroken in u.checks) (let u = whole.unbroken in u.no_int) whole.read (is_solid list files codes settings tables whole) name)
-    op_named (jop.NewArray n) at h fits = array_named n h (foreign_not (jop.NewArray n) at) (int_not (jop.NewArray n) at)
-    op_named (jop.ANewArray name) at h fits = let c = array_of_class w name (op_there list files codes settings unbroken class (jop.ANewArray name) at).0 (foreign_not (jop.ANewArray name) at) in an_array c.0 c.1
+    op_named (jop.NewArray n) at h fits = array_named n h (unsupported_not (jop.NewArray n) at) (int_not (jop.NewArray n) at)
+    op_named (jop.ANewArray name) at h fits = let c = array_of_class w name (op_there list files codes settings unbroken class (jop.ANewArray name) at).0 (unsupported_not (jop.ANewArray name) at) in an_array c.0 c.1
     op_named jop.ArrayLength at h fits = is_on_array arraylength
     op_named jop.Throw at h fits = throws
     op_named (jop.CheckCast name) at h fits = let c = cast_there list files codes settings unbroken spelt class name at in a_cast c.0 c.1 c.2

@@ -28,7 +28,7 @@ use Rattle.cjc_upward_laws.specs.Upwards.{Has, after, foremost}
 use Rattle.cjc_upward_laws.proofs.Lines.{has-cons, has-either, line_named, of_line}
 use Rattle.cjc_world.specs.Classes.{Class, Member, all_classes, class_named, field_of_class}
 use Rattle.cjc_world.specs.Files.{Files}
-use Rattle.cjc_world.specs.Kin.{line}
+use Rattle.cjc_world.specs.Supertypes.{line}
 
 -- ---- lists
 

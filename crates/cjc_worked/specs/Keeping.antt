@@ -1,6 +1,6 @@
 -- A package made by hand as class files and as components: static fields of all kinds, and what they hold at first.
 use Rattle.std.specs.Prelude.{ℕ, List, [], ◌∷◌, None, pos, codes}
-use Rattle.cjc_bytes.specs.declared.names.Kind.TheVariants as kinds
+use Rattle.cjc_bytes.specs.declared.descriptor.Kind.TheVariants as kinds
 use Rattle.cjc_bytes.specs.declared.fault.MemberId.{MemberId}
 use Rattle.cjc_classfile.specs.declared.tree.ClassTree.{ClassTree}
 use Rattle.cjc_classfile.specs.PoolItem as items

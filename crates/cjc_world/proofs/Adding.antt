@@ -11,19 +11,19 @@ use Rattle.cjc_world.specs.declared.tables.Order.TheVariants as orders
 use Rattle.cjc_classfile.specs.declared.tree.ClassTree.{ClassTree}
 use Rattle.cjc_world.specs.Files.{Files}
 use Rattle.cjc_world.specs.Classes.{Member, Class, class_named, declared, all_classes}
-use Rattle.cjc_world.specs.Kin.{Kin, End, Known, IsKin, ends, unknown_here, known_here, IsAcyclic, kin, upwards}
+use Rattle.cjc_world.specs.Supertypes.{Supertypes, End, Known, AreSupertypes, ends, unknown_here, known_here, IsAcyclic, supertypes, upwards}
 use Rattle.cjc_world.specs.Interfaces.{where_listed, gathered, known}
 use Rattle.cjc_world.specs.Lookup.{is_called}
 use Rattle.cjc_world.specs.Working.Places.{place_named, places_of, is_in, joined}
 use Rattle.cjc_world.specs.Working.Tables.{in_field_order, told, IsTable, row_at, pieces, above_at, is_row, is_ready_at, is_ready, are_ready, IsPart, IsClear}
 use Rattle.cjc_world.specs.Added.{takes_added, declares_open, own_methods, methods_of, asked_by, is_one_of, has_open, lacking, added, named_by, added_to, added_at}
 use Rattle.cjc_world.specs.Working.Asked.{is_asked_of, is_asked_at, is_open_of, is_open_at, is_had, has_id, got_one, got, methods_of_option, got_all}
-use Rattle.cjc_world.proofs.Settled.{bytes-refl, lists-front, lists-behind, clear-up, clear-IsKin, kin-IsKin, IsKin-one}
+use Rattle.cjc_world.proofs.Settled.{bytes-refl, lists-front, lists-behind, clear-up, clear-AreSupertypes, supertypes-AreSupertypes, AreSupertypes-one}
 use Rattle.cjc_world.proofs.Cycles.{class_named-name}
 use Rattle.cjc_world.proofs.Rising.{known-append}
 use Rattle.cjc_world.proofs.Joined.{same-true, joined-append, any-joined}
 use Rattle.cjc_world.proofs.ByPlace.{AreNamed, named-append, class-place, places-append}
-use Rattle.cjc_world.proofs.Trees.{Alike, grove, all-front, all-back, tree-clear, listed-clear, tree-is-kin}
+use Rattle.cjc_world.proofs.Trees.{Alike, grove, all-front, all-back, tree-clear, listed-clear, tree-is-supertypes}
 use Rattle.cjc_world.proofs.Filling.{all-listed, same_or}
 use Rattle.cjc_world.proofs.Mapped.{any_of_map}
 
@@ -33,21 +33,21 @@ module _ (w : List Class) where
   itself : (x : List ℕ) (c : Class) → class_named w x ≡ Some c → class_named w c.name ≡ Some c
   itself x c e = ap (class_named w) (class_named-name w x c e) ∙ e
 
-  pub named-upwards : (xs : List (List ℕ)) (k : Kin) → IsKin w xs k → AreNamed w (upwards k)
+  pub named-upwards : (xs : List (List ℕ)) (k : Supertypes) → AreSupertypes w xs k → AreNamed w (upwards k)
   unfolding AreNamed
   named-upwards xs k ends = tt
   named-upwards xs k (unknown_here {xs = rest} {next = next} e n) = named-upwards rest next n
   named-upwards xs k (known_here {x = x} {xs = rest} {c = c} {supers = s} {next = next} e sk ik n) =
       (itself x c e, named-append w (upwards s) (upwards next) (named-upwards c.supers s sk) (named-upwards rest next n))
 
-  pub named-fields : (xs : List (List ℕ)) (k : Kin) → IsKin w xs k → AreNamed w (in_field_order k)
+  pub named-fields : (xs : List (List ℕ)) (k : Supertypes) → AreSupertypes w xs k → AreNamed w (in_field_order k)
   unfolding AreNamed
   named-fields xs k ends = tt
   named-fields xs k (unknown_here {xs = rest} {next = next} e n) = named-fields rest next n
   named-fields xs k (known_here {x = x} {xs = rest} {c = c} {supers = s} {interfaces = i} {next = next} e sk ik n) =
       (itself x c e, named-append w (in_field_order i ++ in_field_order s) (in_field_order next) (named-append w (in_field_order i) (in_field_order s) (named-fields c.interfaces i ik) (named-fields c.supers s sk)) (named-fields rest next n))
 
-  pub named-known : (listed : Bool) (xs : List (List ℕ)) (k : Kin) → IsKin w xs k → AreNamed w (known (gathered listed k))
+  pub named-known : (listed : Bool) (xs : List (List ℕ)) (k : Supertypes) → AreSupertypes w xs k → AreNamed w (known (gathered listed k))
   unfolding AreNamed gathered known
   named-known listed xs k ends = tt
   named-known true xs k (unknown_here {xs = rest} {next = next} e n) = named-known true rest next n
@@ -85,7 +85,7 @@ module _ (w : List Class) where
   clear-append [] ds a b = b
   clear-append (c ∷ cs) ds a b = (a.0, a.1, clear-append cs ds a.2 b)
 
-  pub clear-upwards : (xs : List (List ℕ)) (k : Kin) → IsKin w xs k → AreClear (upwards k)
+  pub clear-upwards : (xs : List (List ℕ)) (k : Supertypes) → AreSupertypes w xs k → AreClear (upwards k)
   unfolding AreClear
   clear-upwards xs k ends = tt
   clear-upwards xs k (unknown_here {xs = rest} {next = next} e n) = clear-upwards rest next n
@@ -118,7 +118,7 @@ module _ (w : List Class) where
 
 pub part-of : (w : List Class) (rows : List (Option Above)) → IsTable w rows → IsPart w rows
 part-of w rows table = record {
-  right = λ x p a e f. (kin w (x ∷ []), kin-IsKin w table.acyclic (x ∷ []), let t = table.tells x p e in cc);
+  right = λ x p a e f. (supertypes w (x ∷ []), supertypes-AreSupertypes w table.acyclic (x ∷ []), let t = table.tells x p e in cc);
   there = λ x p e clear. ap is_row (table.tells x p e);
 }
 
@@ -136,25 +136,25 @@ table-ready w rows table xs = all-listed w rows xs (λ y i. ready y)
 
 module _ (w : List Class) (rows : List (Option Above)) (part : IsPart w rows) where
   -- what is kept of a class with a tree
-  tells : (x : List ℕ) (p : ℕ) (k : Kin) → place_named w x ≡ Some p → IsKin w (x ∷ []) k → slice_get rows p ≡ Some (Some (told w k))
+  tells : (x : List ℕ) (p : ℕ) (k : Supertypes) → place_named w x ≡ Some p → AreSupertypes w (x ∷ []) k → slice_get rows p ≡ Some (Some (told w k))
   tells x p k e is = by (slice_get rows p) refl (part.there x p e (tree-clear w x k is))
     where
       by : (o : Option (Option Above)) → slice_get rows p ≡ o → is_row o ≡ true → o ≡ Some (Some (told w k))
       by None f ready = cc
       by (Some None) f ready = cc
-      by (Some (Some a)) f ready = let t = part.right x p a e f in ap (λ v. Some (Some v)) (t.2 ∙ ap (told w) (IsKin-one w (x ∷ []) t.0 k t.1 is))
+      by (Some (Some a)) f ready = let t = part.right x p a e f in ap (λ v. Some (Some v)) (t.2 ∙ ap (told w) (AreSupertypes-one w (x ∷ []) t.0 k t.1 is))
 
   pub table-of : IsAcyclic w → IsTable w rows
-  table-of acyclic = record { acyclic = acyclic; tells = λ x p e. tells x p (kin w (x ∷ [])) e (kin-IsKin w acyclic (x ∷ [])) }
+  table-of acyclic = record { acyclic = acyclic; tells = λ x p e. tells x p (supertypes w (x ∷ [])) e (supertypes-AreSupertypes w acyclic (x ∷ [])) }
 
-  ready-kin : (xs : List (List ℕ)) → list_all (λ x. is_ready w rows x) xs ≡ true → IsKin w xs (kin w xs)
-  ready-kin xs e = let g = grove w rows part.right xs e in clear-IsKin w xs (listed-clear w xs g.tree g.is_kin)
+  ready-supertypes : (xs : List (List ℕ)) → list_all (λ x. is_ready w rows x) xs ≡ true → AreSupertypes w xs (supertypes w xs)
+  ready-supertypes xs e = let g = grove w rows part.right xs e in clear-AreSupertypes w xs (listed-clear w xs g.tree g.are_supertypes)
 
-  pub line-above : (c : Class) → list_all (λ x. is_ready w rows x) c.supers ≡ true → joined [] (pieces w orders.Line false rows c.supers) ≡ joined [] (places_of w (upwards (kin w c.supers)))
+  pub line-above : (c : Class) → list_all (λ x. is_ready w rows x) c.supers ≡ true → joined [] (pieces w orders.Line false rows c.supers) ≡ joined [] (places_of w (upwards (supertypes w c.supers)))
   unfolding Alike
-  line-above c ready = let g = grove w rows part.right c.supers ready in g.lines [] ∙ ap (λ k. joined [] (places_of w (upwards k))) (tree-is-kin w c.supers g.tree g.is_kin)
+  line-above c ready = let g = grove w rows part.right c.supers ready in g.lines [] ∙ ap (λ k. joined [] (places_of w (upwards k))) (tree-is-supertypes w c.supers g.tree g.are_supertypes)
 
-  pub interfaces-of : (c : Class) → list_all (λ x. is_ready w rows x) c.supers ≡ true → list_all (λ x. is_ready w rows x) c.interfaces ≡ true → (above_at w rows 0 c).interfaces ≡ joined [] (places_of w (known (gathered false (kin w c.supers) ++ gathered true (kin w c.interfaces))))
+  pub interfaces-of : (c : Class) → list_all (λ x. is_ready w rows x) c.supers ≡ true → list_all (λ x. is_ready w rows x) c.interfaces ≡ true → (above_at w rows 0 c).interfaces ≡ joined [] (places_of w (known (gathered false (supertypes w c.supers) ++ gathered true (supertypes w c.interfaces))))
   unfolding Alike above_at
   interfaces-of c ready listed =
       let s = grove w rows part.right c.supers ready in
@@ -164,38 +164,38 @@ module _ (w : List Class) (rows : List (Option Above)) (part : IsPart w rows) wh
       ∙ sym (joined-append [] (places_of w (known (gathered false s.tree))) (places_of w (known (gathered true i.tree))))
       ∙ ap (joined []) (sym (places-append w (known (gathered false s.tree)) (known (gathered true i.tree))))
       ∙ ap (λ cs. joined [] (places_of w cs)) (sym (known-append (gathered false s.tree) (gathered true i.tree)))
-      ∙ ap (λ k. joined [] (places_of w (known (gathered false k ++ gathered true i.tree)))) (tree-is-kin w c.supers s.tree s.is_kin)
-      ∙ ap (λ k. joined [] (places_of w (known (gathered false (kin w c.supers) ++ gathered true k)))) (tree-is-kin w c.interfaces i.tree i.is_kin)
+      ∙ ap (λ k. joined [] (places_of w (known (gathered false k ++ gathered true i.tree)))) (tree-is-supertypes w c.supers s.tree s.are_supertypes)
+      ∙ ap (λ k. joined [] (places_of w (known (gathered false (supertypes w c.supers) ++ gathered true k)))) (tree-is-supertypes w c.interfaces i.tree i.are_supertypes)
 
   -- ---- whether superclasses have a method
 
   module _ (name desc : List ℕ) where
     gives : Class → Bool
-    gives d = declares_open name desc d || (takes_added d && is_one_of (asked_by (kin w d.supers) (kin w d.interfaces)) name desc)
+    gives d = declares_open name desc d || (takes_added d && is_one_of (asked_by (supertypes w d.supers) (supertypes w d.interfaces)) name desc)
 
     opens : (d : Class) (q : ℕ) → class_named w d.name ≡ Some d → IsClear w d.name → place_named w d.name ≡ Some q → slice_get w q ≡ Some d → is_open_at w rows name desc q ≡ gives d
     unfolding gives told gathered asked_by
     opens d q named clear place e =
-        let ds = clear-IsKin w d.supers (λ y i. clear-up w d.name y d named (lists-front y d.supers d.interfaces i) clear) in
-        let di = clear-IsKin w d.interfaces (λ y i. clear-up w d.name y d named (lists-behind y d.supers d.interfaces i) clear) in
-        let S = gathered false (kin w d.supers) in
-        let I = gathered true (kin w d.interfaces) in
+        let ds = clear-AreSupertypes w d.supers (λ y i. clear-up w d.name y d named (lists-front y d.supers d.interfaces i) clear) in
+        let di = clear-AreSupertypes w d.interfaces (λ y i. clear-up w d.name y d named (lists-behind y d.supers d.interfaces i) clear) in
+        let S = gathered false (supertypes w d.supers) in
+        let I = gathered true (supertypes w d.interfaces) in
         ap (λ o. is_open_of w rows name desc q o) e
-        ∙ ap (λ o. declares_open name desc d || (takes_added d && list_any (λ q. is_asked_at w name desc q) (row_at orders.Interfaces o))) (tells d.name q (Known d (kin w d.supers) (kin w d.interfaces) End) place (known_here named ds di ends))
+        ∙ ap (λ o. declares_open name desc d || (takes_added d && list_any (λ q. is_asked_at w name desc q) (row_at orders.Interfaces o))) (tells d.name q (Known d (supertypes w d.supers) (supertypes w d.interfaces) End) place (known_here named ds di ends))
         ∙ ap (λ is. declares_open name desc d || (takes_added d && list_any (λ q. is_asked_at w name desc q) (joined [] (places_of w (known is))))) (append-nil (S ++ I ++ []) ∙ append-nil (S ++ I))
-        ∙ ap (λ b. declares_open name desc d || (takes_added d && b)) (asked-row w name desc (known (S ++ I)) (named-both w (kin w d.supers) (kin w d.interfaces) d.supers d.interfaces ds di))
+        ∙ ap (λ b. declares_open name desc d || (takes_added d && b)) (asked-row w name desc (known (S ++ I)) (named-both w (supertypes w d.supers) (supertypes w d.interfaces) d.supers d.interfaces ds di))
       where
-        named-both : (w : List Class) (s i : Kin) (xs ys : List (List ℕ)) → IsKin w xs s → IsKin w ys i → AreNamed w (known (gathered false s ++ gathered true i))
+        named-both : (w : List Class) (s i : Supertypes) (xs ys : List (List ℕ)) → AreSupertypes w xs s → AreSupertypes w ys i → AreNamed w (known (gathered false s ++ gathered true i))
         named-both w s i xs ys a b = subst (AreNamed w) (sym (known-append (gathered false s) (gathered true i))) (named-append w (known (gathered false s)) (known (gathered true i)) (named-known w false xs s a) (named-known w true ys i b))
 
-    opens-upwards : (xs : List (List ℕ)) (k : Kin) → IsKin w xs k → list_any gives (upwards k) ≡ has_open name desc k
+    opens-upwards : (xs : List (List ℕ)) (k : Supertypes) → AreSupertypes w xs k → list_any gives (upwards k) ≡ has_open name desc k
     unfolding gives has_open
     opens-upwards xs k ends = refl
     opens-upwards xs k (unknown_here {xs = rest} {next = next} e n) = opens-upwards rest next n
     opens-upwards xs k (known_here {xs = rest} {c = c} {supers = s} {interfaces = i} {next = next} e sk ik n) =
-        ap (λ b. (declares_open name desc c || (takes_added c && is_one_of (asked_by (kin w c.supers) (kin w c.interfaces)) name desc)) || b) (list_any-append gives (upwards s) (upwards next))
-        ∙ ap (λ v. (declares_open name desc c || (takes_added c && is_one_of (asked_by v (kin w c.interfaces)) name desc)) || (list_any gives (upwards s) || list_any gives (upwards next))) (sym (tree-is-kin w c.supers s sk))
-        ∙ ap (λ v. (declares_open name desc c || (takes_added c && is_one_of (asked_by s v) name desc)) || (list_any gives (upwards s) || list_any gives (upwards next))) (sym (tree-is-kin w c.interfaces i ik))
+        ap (λ b. (declares_open name desc c || (takes_added c && is_one_of (asked_by (supertypes w c.supers) (supertypes w c.interfaces)) name desc)) || b) (list_any-append gives (upwards s) (upwards next))
+        ∙ ap (λ v. (declares_open name desc c || (takes_added c && is_one_of (asked_by v (supertypes w c.interfaces)) name desc)) || (list_any gives (upwards s) || list_any gives (upwards next))) (sym (tree-is-supertypes w c.supers s sk))
+        ∙ ap (λ v. (declares_open name desc c || (takes_added c && is_one_of (asked_by s v) name desc)) || (list_any gives (upwards s) || list_any gives (upwards next))) (sym (tree-is-supertypes w c.interfaces i ik))
         ∙ ap (λ b. (declares_open name desc c || (takes_added c && is_one_of (asked_by s i) name desc)) || (b || list_any gives (upwards next))) (opens-upwards c.supers s sk)
         ∙ ap (λ b. (declares_open name desc c || (takes_added c && is_one_of (asked_by s i) name desc)) || (has_open name desc s || b)) (opens-upwards rest next n)
         ∙ regroup (declares_open name desc c) (takes_added c && is_one_of (asked_by s i) name desc) (has_open name desc s) (has_open name desc next)
@@ -207,15 +207,15 @@ module _ (w : List Class) (rows : List (Option Above)) (part : IsPart w rows) wh
         regroup false false true b = refl
         regroup false false false b = refl
 
-  had : (c : Class) → list_all (λ x. is_ready w rows x) c.supers ≡ true → (name desc : List ℕ) → is_had w rows c (joined [] (pieces w orders.Line false rows c.supers)) name desc ≡ (declares_open name desc c || has_open name desc (kin w c.supers))
+  had : (c : Class) → list_all (λ x. is_ready w rows x) c.supers ≡ true → (name desc : List ℕ) → is_had w rows c (joined [] (pieces w orders.Line false rows c.supers)) name desc ≡ (declares_open name desc c || has_open name desc (supertypes w c.supers))
   unfolding is_had
   had c ready name desc =
-      let k = ready-kin c.supers ready in
+      let k = ready-supertypes c.supers ready in
       ap (λ b. declares_open name desc c || b)
       (ap (list_any (λ p. is_open_at w rows name desc p)) (line-above c ready)
-      ∙ any-joined (λ p. is_open_at w rows name desc p) [] (places_of w (upwards (kin w c.supers)))
-      ∙ any-clear w (λ p. is_open_at w rows name desc p) (gives name desc) (upwards (kin w c.supers)) (clear-upwards w c.supers (kin w c.supers) k) (opens name desc)
-      ∙ opens-upwards name desc c.supers (kin w c.supers) k)
+      ∙ any-joined (λ p. is_open_at w rows name desc p) [] (places_of w (upwards (supertypes w c.supers)))
+      ∙ any-clear w (λ p. is_open_at w rows name desc p) (gives name desc) (upwards (supertypes w c.supers)) (clear-upwards w c.supers (supertypes w c.supers) k) (opens name desc)
+      ∙ opens-upwards name desc c.supers (supertypes w c.supers) k)
 
 -- ---- getting
 
@@ -375,11 +375,11 @@ module _ (w : List Class) (rows : List (Option Above)) (part : IsPart w rows) (c
   gets-added ready takes =
       let rs = all-front (list_all (λ x. is_ready w rows x) c.supers) (list_all (λ x. is_ready w rows x) c.interfaces) ready in
       let ri = all-back (list_all (λ x. is_ready w rows x) c.supers) (list_all (λ x. is_ready w rows x) c.interfaces) ready in
-      let G = gathered false (kin w c.supers) ++ gathered true (kin w c.interfaces) in
-      let is_there = λ (m : Member). declares_open m.name m.desc c || has_open m.name m.desc (kin w c.supers) in
-      let a = named-known w false c.supers (kin w c.supers) (ready-kin w rows part c.supers rs) in
-      let b = named-known w true c.interfaces (kin w c.interfaces) (ready-kin w rows part c.interfaces ri) in
-      let named = subst (AreNamed w) (sym (known-append (gathered false (kin w c.supers)) (gathered true (kin w c.interfaces)))) (named-append w (known (gathered false (kin w c.supers))) (known (gathered true (kin w c.interfaces))) a b) in
+      let G = gathered false (supertypes w c.supers) ++ gathered true (supertypes w c.interfaces) in
+      let is_there = λ (m : Member). declares_open m.name m.desc c || has_open m.name m.desc (supertypes w c.supers) in
+      let a = named-known w false c.supers (supertypes w c.supers) (ready-supertypes w rows part c.supers rs) in
+      let b = named-known w true c.interfaces (supertypes w c.interfaces) (ready-supertypes w rows part c.interfaces ri) in
+      let named = subst (AreNamed w) (sym (known-append (gathered false (supertypes w c.supers)) (gathered true (supertypes w c.interfaces)))) (named-append w (known (gathered false (supertypes w c.supers))) (known (gathered true (supertypes w c.interfaces))) a b) in
       ap (got_all w there c.name []) (interfaces-of w rows part c rs ri)
       ∙ all-joined there c.name w [] [] (places_of w (known G))
       ∙ ap (λ ids. got_all w there c.name ids (places_of w (known G))) (all-none c.name there)
@@ -389,7 +389,7 @@ module _ (w : List Class) (rows : List (Option Above)) (part : IsPart w rows) (c
 
   pub gets-none : takes_added c ≡ false → [] ≡ map (named_by c.name) (added w c)
   unfolding added
-  gets-none not = ap (λ b. map (named_by c.name) (if b then lacking (λ m. declares_open m.name m.desc c || has_open m.name m.desc (kin w c.supers)) [] (asked_by (kin w c.supers) (kin w c.interfaces)) else [])) (sym not)
+  gets-none not = ap (λ b. map (named_by c.name) (if b then lacking (λ m. declares_open m.name m.desc c || has_open m.name m.desc (supertypes w c.supers)) [] (asked_by (supertypes w c.supers) (supertypes w c.interfaces)) else [])) (sym not)
 
 -- ---- of each class of the package
 

@@ -9,7 +9,7 @@ use Rattle.cjc_classfile.specs.declared.tree.ClassTree.{ClassTree}
 use Rattle.cjc_export.specs.declared.tree.ExportClass.{ExportClass}
 use Rattle.cjc_export.specs.declared.tree.ExportTree.{ExportTree}
 use Rattle.cjc_world.specs.declared.numbers.Numbers.{Numbers}
-use Rattle.cjc_world.specs.declared.spot.Spot.{Spot}
+use Rattle.cjc_world.specs.declared.spot.ClassPlace.{ClassPlace}
 use Rattle.cjc_world.specs.Classes.{Class, declared, imported, of_class_file, of_export_file, numbered, size, classes_from, class_at}
 use Rattle.cjc_world.specs.Working.Numbers.{is_of_kind, places_in, places_of}
 use Rattle.cjc_world.specs.Working.Spots.{at, stood}
@@ -17,21 +17,21 @@ use Rattle.cjc_world.proofs.Noted.{stood-few}
 
 -- ---- the walk over spots
 
-pub place-here : (b : Bool) (ss : List Spot) (i : ℕ) (d : Spot) → i < length ss → is_of_kind b (get_or ss i d).imported ≡ true → places_of b i (drop i ss) ≡ i ∷ places_of b (i + 1) (drop (i + 1) ss)
+pub place-here : (b : Bool) (ss : List ClassPlace) (i : ℕ) (d : ClassPlace) → i < length ss → is_of_kind b (get_or ss i d).imported ≡ true → places_of b i (drop i ss) ≡ i ∷ places_of b (i + 1) (drop (i + 1) ss)
 unfolding places_of
 place-here b ss i d l e =
     ap (places_of b i) (drop-cons ss i d l)
     ∙ ap (λ t. if t then i ∷ places_of b (i + 1) (drop (suc i) ss) else places_of b (i + 1) (drop (suc i) ss)) e
     ∙ ap (λ n. i ∷ places_of b (i + 1) (drop n ss)) (sym (add-one i))
 
-pub place-over : (b : Bool) (ss : List Spot) (i : ℕ) (d : Spot) → i < length ss → is_of_kind b (get_or ss i d).imported ≡ false → places_of b i (drop i ss) ≡ places_of b (i + 1) (drop (i + 1) ss)
+pub place-over : (b : Bool) (ss : List ClassPlace) (i : ℕ) (d : ClassPlace) → i < length ss → is_of_kind b (get_or ss i d).imported ≡ false → places_of b i (drop i ss) ≡ places_of b (i + 1) (drop (i + 1) ss)
 unfolding places_of
 place-over b ss i d l e =
     ap (places_of b i) (drop-cons ss i d l)
     ∙ ap (λ t. if t then i ∷ places_of b (i + 1) (drop (suc i) ss) else places_of b (i + 1) (drop (suc i) ss)) e
     ∙ ap (λ n. places_of b (i + 1) (drop n ss)) (sym (add-one i))
 
-pub place-end : (b : Bool) (ss : List Spot) (i : ℕ) → length ss ≤ i → places_of b i (drop i ss) ≡ []
+pub place-end : (b : Bool) (ss : List ClassPlace) (i : ℕ) → length ss ≤ i → places_of b i (drop i ss) ≡ []
 unfolding places_of
 place-end b ss i past = let e : drop i ss ≡ [] = grind (arith, common_steps) in ap (places_of b i) e
 
@@ -42,7 +42,7 @@ classes_of b n [] = []
 classes_of b n (c ∷ w) = if is_of_kind b c.is_imported then n ∷ classes_of b (n + 1) w else classes_of b (n + 1) w
 
 module _ (cs : List ClassTree) (es : List ExportTree) where
-  spot-kind : (s : Spot) (c : Class) → at cs es s ≡ Some c → s.imported ≡ c.is_imported
+  spot-kind : (s : ClassPlace) (c : Class) → at cs es s ≡ Some c → s.imported ≡ c.is_imported
   spot-kind s c e = by s.imported (slice_get cs s.tree) (option_and_then (λ t. slice_get t.classes s.class) (slice_get es s.tree)) e
     where
       by : (b : Bool) (o : Option ClassTree) (x : Option ExportClass) → (if b then option_map (λ c. imported s.number c) x else option_map (λ c. declared s.number c) o) ≡ Some c → b ≡ c.is_imported
@@ -51,7 +51,7 @@ module _ (cs : List ClassTree) (es : List ExportTree) where
       by false None x e = cc
       by false (Some o) x e = let is : declared s.number o ≡ c = cc in ap (λ (v : Class). v.is_imported) is
 
-  spots-classes : (b : Bool) (n : ℕ) (ss : List Spot) → length ss ≡ length (stood cs es ss) → places_of b n ss ≡ classes_of b n (stood cs es ss)
+  spots-classes : (b : Bool) (n : ℕ) (ss : List ClassPlace) → length ss ≡ length (stood cs es ss) → places_of b n ss ≡ classes_of b n (stood cs es ss)
   unfolding places_of classes_of
   spots-classes b n [] l = refl
   spots-classes b n (s ∷ ss) l = by (at cs es s) refl l (spots-classes b (n + 1) ss)
@@ -187,7 +187,7 @@ module _ (cs : List ClassTree) (es : List ExportTree) where
   rises false lines = files-rise 0 0 0 lines
 
   -- what the list of places answers
-  pub number-place : (b : Bool) (lines : List FileLine) (ss : List Spot) → stood cs es ss ≡ classes_from cs es 0 0 0 lines → length ss ≡ length (stood cs es ss) → (n p : ℕ)
+  pub number-place : (b : Bool) (lines : List FileLine) (ss : List ClassPlace) → stood cs es ss ≡ classes_from cs es 0 0 0 lines → length ss ≡ length (stood cs es ss) → (n p : ℕ)
       → slice_get (places_of b 0 ss) n ≡ Some p → slice_get (classes_from cs es 0 0 0 lines) p ≡ class_at (classes_from cs es 0 0 0 lines) b n
   unfolding Meets
   number-place b lines ss all few n p e =
@@ -196,7 +196,7 @@ module _ (cs : List ClassTree) (es : List ExportTree) where
       let met = subst (λ o. Meets w (class_at w b n) 0 o) listed (subst (λ k. Meets w (class_at w b k) 0 (slice_get (classes_of b 0 w) n)) (let z : 0 + n ≡ n = omega arith in z) (number-meets b 0 0 w (rises b lines) n)) in
       ap (slice_get w) (let z : p ≡ met.0 = met.1 ∙ (let y : 0 + met.0 ≡ met.0 = omega arith in y) in z) ∙ met.2
 
-  pub number-none : (b : Bool) (lines : List FileLine) (ss : List Spot) → stood cs es ss ≡ classes_from cs es 0 0 0 lines → length ss ≡ length (stood cs es ss) → (n : ℕ)
+  pub number-none : (b : Bool) (lines : List FileLine) (ss : List ClassPlace) → stood cs es ss ≡ classes_from cs es 0 0 0 lines → length ss ≡ length (stood cs es ss) → (n : ℕ)
       → slice_get (places_of b 0 ss) n ≡ None → class_at (classes_from cs es 0 0 0 lines) b n ≡ None
   unfolding Meets
   number-none b lines ss all few n e =
@@ -205,6 +205,6 @@ module _ (cs : List ClassTree) (es : List ExportTree) where
       subst (λ o. Meets w (class_at w b n) 0 o) listed (subst (λ k. Meets w (class_at w b k) 0 (slice_get (classes_of b 0 w) n)) (let z : 0 + n ≡ n = omega arith in z) (number-meets b 0 0 w (rises b lines) n))
 
 -- what is noted of one kind
-pub noted-places : (b : Bool) (n : Numbers) (ss : List Spot) → n.declared ≡ places_of false 0 ss → n.imported ≡ places_of true 0 ss → places_in b n ≡ places_of b 0 ss
+pub noted-places : (b : Bool) (n : Numbers) (ss : List ClassPlace) → n.declared ≡ places_of false 0 ss → n.imported ≡ places_of true 0 ss → places_in b n ≡ places_of b 0 ss
 noted-places true n ss d i = i
 noted-places false n ss d i = d

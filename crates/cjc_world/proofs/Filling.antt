@@ -5,7 +5,7 @@ use Rattle.std.specs.List.{list_all}
 use Rattle.std.proofs.Math.ListN.{set}
 use Rattle.cjc_world.specs.declared.tables.Above.{Above}
 use Rattle.cjc_world.specs.Classes.{Class}
-use Rattle.cjc_world.specs.Kin.{Lists, foremost, after, IsAcyclic}
+use Rattle.cjc_world.specs.Supertypes.{Lists, foremost, after, IsAcyclic}
 use Rattle.cjc_world.specs.Working.Places.{place_named}
 use Rattle.cjc_world.specs.Working.Tables.{above_at, is_row, is_ready_at, is_ready, are_ready, AreRight, IsPart, Closer}
 use Rattle.cjc_world.proofs.Settled.{Settles, nothing, something, clear_settles, clear-up, lists-front, lists-behind}

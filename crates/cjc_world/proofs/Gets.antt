@@ -8,13 +8,13 @@ use Rattle.cjc_bytes.specs.declared.fault.MemberId.{MemberId}
 use Rattle.cjc_classfile.specs.declared.tree.ClassTree.{ClassTree}
 use Rattle.cjc_export.specs.declared.tree.ExportClass.{ExportClass}
 use Rattle.cjc_world.specs.declared.circular.Cycles.{Cycles}
-use Rattle.cjc_world.specs.declared.draft.Tables.{Tables}
+use Rattle.cjc_world.specs.declared.unchecked.Tables.{Tables}
 use Rattle.cjc_world.specs.declared.tables.Above.{Above as Row}
 use Rattle.cjc_world.specs.Files.{Files}
 use Rattle.cjc_world.specs.Classes.{Class, class_named, declared, imported, all_classes}
-use Rattle.cjc_world.specs.Kin.{End, Lists, foremost, after, Above, IsAcyclic, grown, kin, stands, stands_above}
+use Rattle.cjc_world.specs.Supertypes.{End, Lists, foremost, after, Above, IsAcyclic, supertypes_within, supertypes, stands, stands_above}
 use Rattle.cjc_world.specs.Added.{added, added_at, named_by}
-use Rattle.cjc_world.specs.Working.Drafts.{AreTables, IsKept, is_ready_of, is_number_ready}
+use Rattle.cjc_world.specs.Working.Unchecked.{AreTables, IsKept, is_ready_of, is_number_ready}
 use Rattle.cjc_world.specs.Working.Places.{place_named}
 use Rattle.cjc_world.specs.Working.Tables.{is_row, is_ready_at, is_ready, are_ready, IsClear, IsPart}
 use Rattle.cjc_world.specs.Rules.{is_own_super, is_under_cycle, is_desc_missing, gets_missing}
@@ -77,11 +77,11 @@ module _ (w : List Class) where
   or-there true b e = refl
   or-there false b e = e
 
-  listed-stands : (v y : List ℕ) (xs : List (List ℕ)) → Lists y xs → stands v (kin w (y ∷ [])) ≡ true → stands v (kin w xs) ≡ true
-  unfolding kin
+  listed-stands : (v y : List ℕ) (xs : List (List ℕ)) → Lists y xs → stands v (supertypes w (y ∷ [])) ≡ true → stands v (supertypes w xs) ≡ true
+  unfolding supertypes
   listed-stands v y [] i e = elim i [ ]
-  listed-stands v y (x ∷ xs) foremost e = stands-row w v (suc (length w)) y xs ∙ or-here (stands v (kin w (y ∷ []))) (stands v (kin w xs)) e
-  listed-stands v y (x ∷ xs) (after i) e = stands-row w v (suc (length w)) x xs ∙ or-there (stands v (kin w (x ∷ []))) (stands v (kin w xs)) (listed-stands v y xs i e)
+  listed-stands v y (x ∷ xs) foremost e = stands-row w v (suc (length w)) y xs ∙ or-here (stands v (supertypes w (y ∷ []))) (stands v (supertypes w xs)) e
+  listed-stands v y (x ∷ xs) (after i) e = stands-row w v (suc (length w)) x xs ∙ or-there (stands v (supertypes w (x ∷ []))) (stands v (supertypes w xs)) (listed-stands v y xs i e)
 
   -- ---- a class is ready exactly where no cycle is at it or above it
 
@@ -112,14 +112,14 @@ module _ (w : List Class) where
         by (Some p) e = part.there y p e clear
 
     is_at_cycle : Class → Bool
-    is_at_cycle d = stands d.name (kin w (c.supers ++ c.interfaces)) && is_own_super w d
+    is_at_cycle d = stands d.name (supertypes w (c.supers ++ c.interfaces)) && is_own_super w d
 
     not-both : are_ready w rows c ≡ true → is_under_cycle w c ≡ true → ⊥
-    unfolding are_ready is_under_cycle kin From
+    unfolding are_ready is_under_cycle supertypes From
     not-both ready cycle =
-        let d = any-there (λ d. stands d.name (kin w (c.supers ++ c.interfaces)) && is_own_super w d) w cycle in
-        let up = tree-above w (suc (length w)) d.0.name (c.supers ++ c.interfaces) (and-left (stands d.0.name (kin w (c.supers ++ c.interfaces))) (is_own_super w d.0) d.1) in
-        let far : Above w d.0.name d.0.name = (stands_where_above w d.0.name d.0.name).0 (and-right (stands d.0.name (kin w (c.supers ++ c.interfaces))) (is_own_super w d.0) d.1) in
+        let d = any-there (λ d. stands d.name (supertypes w (c.supers ++ c.interfaces)) && is_own_super w d) w cycle in
+        let up = tree-above w (suc (length w)) d.0.name (c.supers ++ c.interfaces) (and-left (stands d.0.name (supertypes w (c.supers ++ c.interfaces))) (is_own_super w d.0) d.1) in
+        let far : Above w d.0.name d.0.name = (stands_where_above w d.0.name d.0.name).0 (and-right (stands d.0.name (supertypes w (c.supers ++ c.interfaces))) (is_own_super w d.0) d.1) in
         ready-clear up.0
         (⊎_elim
         (λ i. one c.supers up.0 i (all-front (list_all (λ x. is_ready w rows x) c.supers) (list_all (λ x. is_ready w rows x) c.interfaces) ready))
@@ -138,10 +138,10 @@ module _ (w : List Class) where
         let free-of : (y : List ℕ) → Lists y (c.supers ++ c.interfaces) → is_ready w rows y ≡ true = λ y i. clear-ready y (λ v way far.
         let d = above-class w v v far in
         let name = class_named-name w v d.0 d.1 in
-        let no = named-none (λ d. stands d.name (kin w (c.supers ++ c.interfaces)) && is_own_super w d) w v d.0 d.1 free in
-        let high : stands d.0.name (kin w (c.supers ++ c.interfaces)) ≡ true = ap (λ n. stands n (kin w (c.supers ++ c.interfaces))) name ∙ listed-stands v y (c.supers ++ c.interfaces) i (reaches w y v way) in
+        let no = named-none (λ d. stands d.name (supertypes w (c.supers ++ c.interfaces)) && is_own_super w d) w v d.0 d.1 free in
+        let high : stands d.0.name (supertypes w (c.supers ++ c.interfaces)) ≡ true = ap (λ n. stands n (supertypes w (c.supers ++ c.interfaces))) name ∙ listed-stands v y (c.supers ++ c.interfaces) i (reaches w y v way) in
         let own : is_own_super w d.0 ≡ true = ap (λ n. stands_above w n n) name ∙ (stands_where_above w v v).1 far in
-        let yes = and-both (stands d.0.name (kin w (c.supers ++ c.interfaces))) (is_own_super w d.0) high own in
+        let yes = and-both (stands d.0.name (supertypes w (c.supers ++ c.interfaces))) (is_own_super w d.0) high own in
         let both : ⊥ = cc in
         both) in
         and-both (list_all (λ x. is_ready w rows x) c.supers) (list_all (λ x. is_ready w rows x) c.interfaces)

@@ -10,7 +10,7 @@ use Rattle.cjc_bytes.specs.declared.settings.FileLine.{FileLine}
 use Rattle.cjc_classfile.specs.declared.tree.ClassTree.{ClassTree}
 use Rattle.cjc_export.specs.declared.tree.ExportClass.{ExportClass}
 use Rattle.cjc_export.specs.declared.tree.ExportTree.{ExportTree}
-use Rattle.cjc_world.specs.declared.spot.Spot.{Spot}
+use Rattle.cjc_world.specs.declared.spot.ClassPlace.{ClassPlace}
 use Rattle.cjc_world.specs.Classes.{Class, field_of_class, method_of_class, field_of_export, method_of_export, declared, imported, of_class_file, numbered, of_export_file, size, classes_from}
 use Rattle.cjc_world.specs.Working.Spots.{at, stood, spots_from, IsCounted, Grows, IsIndexed}
 
@@ -32,7 +32,7 @@ all_counted [] f n = all_none
 all_counted (c ∷ cs) f n = all_more (imported n c) (numbered (n + 1) cs) (export_counted n c (f 0 c (omega arith))) (all_counted cs (λ k d l. f (suc k) d (omega arith)) (n + 1))
 
 module _ (cs : List ClassTree) (es : List ExportTree) where
-  pub stood_append : (a b : List Spot) → stood cs es (a ++ b) ≡ stood cs es a ++ stood cs es b
+  pub stood_append : (a b : List ClassPlace) → stood cs es (a ++ b) ≡ stood cs es a ++ stood cs es b
   stood_append [] b = refl
   stood_append (s ∷ a) b = by (at cs es s) (stood_append a b)
     where
@@ -40,13 +40,13 @@ module _ (cs : List ClassTree) (es : List ExportTree) where
       by None e = e
       by (Some c) e = ap (λ t. c ∷ t) e
 
-  pub grows_not : (old : List Spot) → Grows cs es old old []
+  pub grows_not : (old : List ClassPlace) → Grows cs es old old []
   grows_not old = record { all = sym (append-nil (stood cs es old)); count = omega arith; counted = all_none }
 
-  class_spot : ℕ → Spot
+  class_spot : ℕ → ClassPlace
   class_spot place = record { imported = false; tree = place; class = 0; number = place }
 
-  pub grows_class : (old : List Spot) (place : ℕ) (c : ClassTree) → Some c ≡ slice_get cs place → length c.fields + length c.methods < 2 ^ 32
+  pub grows_class : (old : List ClassPlace) (place : ℕ) (c : ClassTree) → Some c ≡ slice_get cs place → length c.fields + length c.methods < 2 ^ 32
       → Grows cs es old (old ++ record { imported = false; tree = place; class = 0; number = place } ∷ []) (declared place c ∷ [])
   grows_class old place c e l = record {
     all = stood_append old (record { imported = false; tree = place; class = 0; number = place } ∷ [])
@@ -85,7 +85,7 @@ module _ (cs : List ClassTree) (es : List ExportTree) where
   numbered-length n [] = refl
   numbered-length n (c ∷ cs) = ap suc (numbered-length (n + 1) cs)
 
-  pub grows_export : (old : List Spot) (e i : ℕ) (t : ExportTree) → Some t ≡ slice_get es e → ((n : ℕ) → All IsCounted (numbered n t.classes))
+  pub grows_export : (old : List ClassPlace) (e i : ℕ) (t : ExportTree) → Some t ≡ slice_get es e → ((n : ℕ) → All IsCounted (numbered n t.classes))
       → Grows cs es old (old ++ spots_from e i 0 (length t.classes)) (numbered i t.classes)
   grows_export old e i t f counted = record {
     all = stood_append old (spots_from e i 0 (length t.classes)) ∙ ap (λ new. stood cs es old ++ new) (stood_from e i t f (length t.classes) 0 (omega arith) ∙ ap (λ m. numbered m t.classes) (let z : i + 0 ≡ i = omega arith in z));
@@ -93,14 +93,14 @@ module _ (cs : List ClassTree) (es : List ExportTree) where
     counted = counted i;
   }
 
-pub spots_step : (old : List Spot) (e i p n : ℕ) → p < n → (old ++ record { imported = true; tree = e; class = p; number = i + p } ∷ []) ++ spots_from e i (p + 1) (n - (p + 1)) ≡ old ++ spots_from e i p (n - p)
+pub spots_step : (old : List ClassPlace) (e i p n : ℕ) → p < n → (old ++ record { imported = true; tree = e; class = p; number = i + p } ∷ []) ++ spots_from e i (p + 1) (n - (p + 1)) ≡ old ++ spots_from e i p (n - p)
 unfolding spots_from
 spots_step old e i p n l =
     let less : n - p ≡ suc (n - (p + 1)) = omega arith in
     append_assoc old (record { imported = true; tree = e; class = p; number = i + p } ∷ []) (spots_from e i (p + 1) (n - (p + 1)))
     ∙ ap (λ m. old ++ spots_from e i p m) (sym less)
 
-pub spots_end : (old : List Spot) (e i p n : ℕ) → n ≤ p → old ≡ old ++ spots_from e i p (n - p)
+pub spots_end : (old : List ClassPlace) (e i p n : ℕ) → n ≤ p → old ≡ old ++ spots_from e i p (n - p)
 unfolding spots_from
 spots_end old e i p n l = let none : n - p ≡ 0 = omega arith in sym (ap (λ m. old ++ spots_from e i p m) none ∙ append-nil old)
 
@@ -114,7 +114,7 @@ got_none (x ∷ xs) (suc i) l = got_none xs i (omega arith)
 
 -- ---- line after line
 
-pub record Indexing (cs : List ClassTree) (es : List ExportTree) (lines : List FileLine) (spots : List Spot) (c e i k : ℕ) : Type 0 where
+pub record Indexing (cs : List ClassTree) (es : List ExportTree) (lines : List FileLine) (spots : List ClassPlace) (c e i k : ℕ) : Type 0 where
   pub all : stood cs es spots ++ classes_from cs es c e i (drop k lines) ≡ classes_from cs es 0 0 0 lines
   pub count : length spots ≡ length (stood cs es spots)
   pub counted : All IsCounted (stood cs es spots)
@@ -131,7 +131,7 @@ module _ (cs : List ClassTree) (es : List ExportTree) (lines : List FileLine) wh
   pub indexing_starts : Indexing cs es lines [] 0 0 0 0
   indexing_starts = record { all = refl; count = refl; counted = all_none }
 
-  step : (old new : List Spot) (more : List Class) (c e i k c' e' i' : ℕ) → Indexing cs es lines old c e i k → Grows cs es old new more
+  step : (old new : List ClassPlace) (more : List Class) (c e i k c' e' i' : ℕ) → Indexing cs es lines old c e i k → Grows cs es old new more
       → classes_from cs es c e i (drop k lines) ≡ more ++ classes_from cs es c' e' i' (drop (k + 1) lines) → Indexing cs es lines new c' e' i' (k + 1)
   step old new more c e i k c' e' i' inv grows next = record {
     all = ap (λ s. s ++ classes_from cs es c' e' i' (drop (k + 1) lines)) grows.all
@@ -141,25 +141,25 @@ module _ (cs : List ClassTree) (es : List ExportTree) (lines : List FileLine) wh
     counted = subst (λ s. All IsCounted s) (sym grows.all) (All-append IsCounted (stood cs es old) more inv.counted grows.counted);
   }
 
-  moved : (new new' : List Spot) (c e i k c' e' i' : ℕ) → new ≡ new' → c ≡ c' → e ≡ e' → i ≡ i' → Indexing cs es lines new c e i k → Indexing cs es lines new' c' e' i' k
+  moved : (new new' : List ClassPlace) (c e i k c' e' i' : ℕ) → new ≡ new' → c ≡ c' → e ≡ e' → i ≡ i' → Indexing cs es lines new c e i k → Indexing cs es lines new' c' e' i' k
   moved new new' c e i k c' e' i' p q r s inv =
       subst (λ v. Indexing cs es lines v c' e' i' k) p (subst (λ v. Indexing cs es lines new v e' i' k) q (subst (λ v. Indexing cs es lines new c v i' k) r (subst (λ v. Indexing cs es lines new c e v k) s inv)))
 
-  pub indexing_class : (old new new' : List Spot) (c e i k c' e' i' : ℕ) (line : FileLine) → k < length lines → line ≡ get_or lines k line → line.class_file ≡ true
+  pub indexing_class : (old new new' : List ClassPlace) (c e i k c' e' i' : ℕ) (line : FileLine) → k < length lines → line ≡ get_or lines k line → line.class_file ≡ true
       → Indexing cs es lines old c e i k → Grows cs es old new (of_class_file c (slice_get cs c)) → new ≡ new' → c + 1 ≡ c' → e ≡ e' → i ≡ i' → Indexing cs es lines new' c' e' i' (k + 1)
   indexing_class old new new' c e i k c' e' i' line l is t inv grows p q r s =
       moved new new' (c + 1) e i (k + 1) c' e' i' p q r s
       (step old new (of_class_file c (slice_get cs c)) c e i k (c + 1) e i inv grows
       (classes_next c e i k line l ∙ ap (λ b. if b then of_class_file c (slice_get cs c) ++ classes_from cs es (c + 1) e i (drop (k + 1) lines) else of_export_file i (slice_get es e) ++ classes_from cs es c (e + 1) (i + size (slice_get es e)) (drop (k + 1) lines)) (ap (λ (v : FileLine). v.class_file) (sym is) ∙ t)))
 
-  pub indexing_export : (old new new' : List Spot) (c e i k c' e' i' : ℕ) (line : FileLine) → k < length lines → line ≡ get_or lines k line → line.class_file ≡ false
+  pub indexing_export : (old new new' : List ClassPlace) (c e i k c' e' i' : ℕ) (line : FileLine) → k < length lines → line ≡ get_or lines k line → line.class_file ≡ false
       → Indexing cs es lines old c e i k → Grows cs es old new (of_export_file i (slice_get es e)) → new ≡ new' → c ≡ c' → e + 1 ≡ e' → i + size (slice_get es e) ≡ i' → Indexing cs es lines new' c' e' i' (k + 1)
   indexing_export old new new' c e i k c' e' i' line l is t inv grows p q r s =
       moved new new' c (e + 1) (i + size (slice_get es e)) (k + 1) c' e' i' p q r s
       (step old new (of_export_file i (slice_get es e)) c e i k c (e + 1) (i + size (slice_get es e)) inv grows
       (classes_next c e i k line l ∙ ap (λ b. if b then of_class_file c (slice_get cs c) ++ classes_from cs es (c + 1) e i (drop (k + 1) lines) else of_export_file i (slice_get es e) ++ classes_from cs es c (e + 1) (i + size (slice_get es e)) (drop (k + 1) lines)) (ap (λ (v : FileLine). v.class_file) (sym is) ∙ t)))
 
-  pub indexing_ends : (spots : List Spot) (c e i k : ℕ) → Indexing cs es lines spots c e i k → length lines ≤ k → length spots < 2 ^ 32 → IsIndexed lines cs es spots
+  pub indexing_ends : (spots : List ClassPlace) (c e i k : ℕ) → Indexing cs es lines spots c e i k → length lines ≤ k → length spots < 2 ^ 32 → IsIndexed lines cs es spots
   unfolding classes_from
   indexing_ends spots c e i k inv past few =
       let none : drop k lines ≡ [] = grind (arith, common_steps) in

@@ -4,13 +4,13 @@ use Rattle.std.specs.Prelude.{All, Option, Some, None, if◌then◌else◌, opti
 use Rattle.std.proofs.Math.Seq.{drop-cons}
 use Rattle.std.proofs.lemmas.Grind.{common_steps}
 use Rattle.std.specs.Str.{bytes_eq}
-use Rattle.cjc_world.specs.declared.spot.Spot.{Spot}
+use Rattle.cjc_world.specs.declared.spot.ClassPlace.{ClassPlace}
 use Rattle.cjc_classfile.specs.declared.tree.ClassTree.{ClassTree}
 use Rattle.cjc_export.specs.declared.tree.ExportTree.{ExportTree}
 use Rattle.cjc_world.specs.Classes.{Class, class_named}
 use Rattle.cjc_world.specs.Working.Spots.{at, stood, IsCounted}
 
-module _ (classes : List ClassTree) (exports : List ExportTree) (ss : List Spot) (i : ℕ) (d : Spot) (within : i < length ss) where
+module _ (classes : List ClassTree) (exports : List ExportTree) (ss : List ClassPlace) (i : ℕ) (d : ClassPlace) (within : i < length ss) where
   pub stood_next : (o : Option Class) → at classes exports (get_or ss i d) ≡ o → stood classes exports (drop i ss) ≡ option_to_list o ++ stood classes exports (drop (i + 1) ss)
   stood_next o e = ap (stood classes exports) (drop-cons ss i d within) ∙ ap (λ o. option_to_list o ++ stood classes exports (drop (suc i) ss)) e ∙ ap (λ n. option_to_list o ++ stood classes exports (drop n ss)) (sym (add-one i))
 
@@ -25,7 +25,7 @@ module _ (classes : List ClassTree) (exports : List ExportTree) (ss : List Spot)
   pub named_over : (name : List ℕ) → at classes exports (get_or ss i d) ≡ None → class_named (stood classes exports (drop i ss)) name ≡ class_named (stood classes exports (drop (i + 1) ss)) name
   named_over name e = ap (λ cs. class_named cs name) (stood_next None e)
 
-pub named_end : (classes : List ClassTree) (exports : List ExportTree) (ss : List Spot) (i : ℕ) (name : List ℕ) → length ss ≤ i → class_named (stood classes exports (drop i ss)) name ≡ None
+pub named_end : (classes : List ClassTree) (exports : List ExportTree) (ss : List ClassPlace) (i : ℕ) (name : List ℕ) → length ss ≤ i → class_named (stood classes exports (drop i ss)) name ≡ None
 unfolding class_named
 named_end classes exports ss i name past = let e : drop i ss ≡ [] = grind (arith, common_steps) in ap (λ ss. class_named (stood classes exports ss) name) e
 

@@ -7,7 +7,7 @@ use Rattle.std.specs.HashMap.{HashMap}
 use Rattle.std.specs.Map.{KeepsOthers}
 use Rattle.cjc_classfile.specs.declared.tree.ClassTree.{ClassTree}
 use Rattle.cjc_export.specs.declared.tree.ExportTree.{ExportTree}
-use Rattle.cjc_world.specs.declared.spot.Spot.{Spot}
+use Rattle.cjc_world.specs.declared.spot.ClassPlace.{ClassPlace}
 use Rattle.cjc_world.specs.Classes.{Class}
 use Rattle.cjc_world.specs.Working.Names.{is_named, spot_named}
 use Rattle.cjc_world.specs.Working.Places.{place_named}
@@ -44,7 +44,7 @@ module _ (cs : List ClassTree) (es : List ExportTree) where
   or_here None true i = Some i
   or_here None false i = None
 
-  more : (ss : List Spot) (i : ℕ) (d : Spot) (x : List ℕ) → i < length ss → spot_named cs es (take (i + 1) ss) x ≡ or_here (spot_named cs es (take i ss) x) (is_named (at cs es (get_or ss i d)) x) i
+  more : (ss : List ClassPlace) (i : ℕ) (d : ClassPlace) (x : List ℕ) → i < length ss → spot_named cs es (take (i + 1) ss) x ≡ or_here (spot_named cs es (take i ss) x) (is_named (at cs es (get_or ss i d)) x) i
   unfolding spot_named or_here
   more [] i d x l = absurd (omega arith)
   more (s ∷ ss) zero d x l = by (is_named (at cs es s) x)
@@ -65,7 +65,7 @@ module _ (cs : List ClassTree) (es : List ExportTree) where
           inner None true = refl
           inner None false = refl
 
-  module _ (ss : List Spot) (i : ℕ) (d : Spot) (within : i < length ss) (old : List ℕ → Option ℕ) (kept : (x : List ℕ) → old x ≡ spot_named cs es (take i ss) x) where
+  module _ (ss : List ClassPlace) (i : ℕ) (d : ClassPlace) (within : i < length ss) (old : List ℕ → Option ℕ) (kept : (x : List ℕ) → old x ≡ spot_named cs es (take i ss) x) where
     -- the spot has no class
     pub none_noted : at cs es (get_or ss i d) ≡ None → (x : List ℕ) → old x ≡ spot_named cs es (take (i + 1) ss) x
     unfolding or_here
@@ -98,7 +98,7 @@ module _ (cs : List ClassTree) (es : List ExportTree) where
             inner None = refl
             inner (Some p) = refl
 
-  pub stood-few : (ss : List Spot) → length (stood cs es ss) < suc (length ss)
+  pub stood-few : (ss : List ClassPlace) → length (stood cs es ss) < suc (length ss)
   stood-few [] = omega arith
   stood-few (s ∷ ss) = by (at cs es s) (stood-few ss)
     where
@@ -107,7 +107,7 @@ module _ (cs : List ClassTree) (es : List ExportTree) where
       by (Some c) l = omega arith
 
   -- where each spot has a class, the spots are at the places of the classes
-  pub spot-place : (ss : List Spot) → length ss ≡ length (stood cs es ss) → (x : List ℕ) → spot_named cs es ss x ≡ place_named (stood cs es ss) x
+  pub spot-place : (ss : List ClassPlace) → length ss ≡ length (stood cs es ss) → (x : List ℕ) → spot_named cs es ss x ≡ place_named (stood cs es ss) x
   unfolding spot_named place_named
   spot-place [] l x = refl
   spot-place (s ∷ ss) l x = by (at cs es s) l (spot-place ss)
@@ -117,21 +117,21 @@ module _ (cs : List ClassTree) (es : List ExportTree) where
       by None l rest = let f = stood-few ss in absurd (omega arith)
       by (Some c) l rest = ap (λ o. if bytes_eq c.name x then Some 0 else option_map suc o) (rest (omega arith) x)
 
-  pub spot-class : (ss : List Spot) → length ss ≡ length (stood cs es ss) → (p : ℕ) (s : Spot) → slice_get ss p ≡ Some s → at cs es s ≡ slice_get (stood cs es ss) p
+  pub spot-class : (ss : List ClassPlace) → length ss ≡ length (stood cs es ss) → (p : ℕ) (s : ClassPlace) → slice_get ss p ≡ Some s → at cs es s ≡ slice_get (stood cs es ss) p
   spot-class [] l p s e = cc
   spot-class (t ∷ ss) l p s e = by (at cs es t) refl p l e (spot-class ss)
     where
       by : (o : Option Class) → at cs es t ≡ o → (p : ℕ) → suc (length ss) ≡ length (option_to_list o ++ stood cs es ss) → slice_get (t ∷ ss) p ≡ Some s
-          → (length ss ≡ length (stood cs es ss) → (p : ℕ) (s : Spot) → slice_get ss p ≡ Some s → at cs es s ≡ slice_get (stood cs es ss) p)
+          → (length ss ≡ length (stood cs es ss) → (p : ℕ) (s : ClassPlace) → slice_get ss p ≡ Some s → at cs es s ≡ slice_get (stood cs es ss) p)
           → at cs es s ≡ slice_get (option_to_list o ++ stood cs es ss) p
       by None h p l e rest = let f = stood-few ss in absurd (omega arith)
       by (Some c) h zero l e rest = let is : t ≡ s = cc in ap (at cs es) (sym is) ∙ h
       by (Some c) h (suc p) l e rest = rest (omega arith) p s e
 
-  pub spot-past : (ss : List Spot) → length ss ≡ length (stood cs es ss) → (p : ℕ) → slice_get ss p ≡ None → None ≡ slice_get (stood cs es ss) p
+  pub spot-past : (ss : List ClassPlace) → length ss ≡ length (stood cs es ss) → (p : ℕ) → slice_get ss p ≡ None → None ≡ slice_get (stood cs es ss) p
   spot-past ss l p e = past ss (stood cs es ss) p l e
     where
-      past : (ss : List Spot) (cs : List Class) (p : ℕ) → length ss ≡ length cs → slice_get ss p ≡ None → None ≡ slice_get cs p
+      past : (ss : List ClassPlace) (cs : List Class) (p : ℕ) → length ss ≡ length cs → slice_get ss p ≡ None → None ≡ slice_get cs p
       past [] [] p l e = refl
       past [] (c ∷ cs) p l e = absurd (omega arith)
       past (s ∷ ss) [] p l e = refl

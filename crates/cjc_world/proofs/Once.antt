@@ -6,11 +6,11 @@ use Rattle.std.proofs.lemmas.List.{append-nil}
 use Rattle.cjc_world.specs.declared.tables.Above.{Above}
 use Rattle.cjc_world.specs.declared.tables.Order.TheVariants as orders
 use Rattle.cjc_world.specs.Classes.{Class, class_named}
-use Rattle.cjc_world.specs.Kin.{Kin, IsKin, ends, unknown_here, known_here, kin, upwards, is_one_named, once}
+use Rattle.cjc_world.specs.Supertypes.{Supertypes, AreSupertypes, ends, unknown_here, known_here, supertypes, upwards, is_one_named, once}
 use Rattle.cjc_world.specs.Interfaces.{Interface, where_listed, gathered, is_among, each_once, known}
 use Rattle.cjc_world.specs.Working.Places.{place_named, places_of, at_places, is_in, joined}
 use Rattle.cjc_world.specs.Working.Tables.{IsTable, pieces, above_at}
-use Rattle.cjc_world.proofs.Settled.{bytes-true, bytes-refl, kin-IsKin}
+use Rattle.cjc_world.proofs.Settled.{bytes-true, bytes-refl, supertypes-AreSupertypes}
 use Rattle.cjc_world.proofs.Cycles.{class_named-name}
 use Rattle.cjc_world.proofs.Rising.{known-append}
 use Rattle.cjc_world.proofs.Joined.{same-refl, same-true}
@@ -69,7 +69,7 @@ module _ (w : List Class) where
   told-append [] js a b = b
   told-append (i ∷ is) js a b = (a.0, told-append is js a.1 b)
 
-  told-gathered : (listed : Bool) (xs : List (List ℕ)) (k : Kin) → IsKin w xs k → AreTold (gathered listed k)
+  told-gathered : (listed : Bool) (xs : List (List ℕ)) (k : Supertypes) → AreSupertypes w xs k → AreTold (gathered listed k)
   unfolding AreTold gathered
   told-gathered listed xs k ends = tt
   told-gathered true xs k (unknown_here {xs = rest} {next = next} e n) = (sym e, told-gathered true rest next n)
@@ -124,19 +124,19 @@ module _ (w : List Class) where
 -- ---- by the rows of a table
 
 module _ (w : List Class) (rows : List (Option Above)) (table : IsTable w rows) (c : Class) where
-  pub superclasses-at : at_places w (joined [] (pieces w orders.Line false rows c.supers)) ≡ once [] (upwards (kin w c.supers))
+  pub superclasses-at : at_places w (joined [] (pieces w orders.Line false rows c.supers)) ≡ once [] (upwards (supertypes w c.supers))
   unfolding places_of AreNamed
   superclasses-at =
       ap (at_places w) (line-above w rows (part-of w rows table) c (table-ready w rows table c.supers))
-      ∙ at-joined w [] (upwards (kin w c.supers)) tt (named-upwards w c.supers (kin w c.supers) (kin-IsKin w table.acyclic c.supers))
+      ∙ at-joined w [] (upwards (supertypes w c.supers)) tt (named-upwards w c.supers (supertypes w c.supers) (supertypes-AreSupertypes w table.acyclic c.supers))
 
-  pub interfaces-at : at_places w (above_at w rows 0 c).interfaces ≡ known (each_once [] (gathered false (kin w c.supers) ++ gathered true (kin w c.interfaces)))
+  pub interfaces-at : at_places w (above_at w rows 0 c).interfaces ≡ known (each_once [] (gathered false (supertypes w c.supers) ++ gathered true (supertypes w c.interfaces)))
   unfolding AreNamed AreTold places_of known
   interfaces-at =
-      let s = kin-IsKin w table.acyclic c.supers in
-      let i = kin-IsKin w table.acyclic c.interfaces in
-      let S = gathered false (kin w c.supers) in
-      let I = gathered true (kin w c.interfaces) in
+      let s = supertypes-AreSupertypes w table.acyclic c.supers in
+      let i = supertypes-AreSupertypes w table.acyclic c.interfaces in
+      let S = gathered false (supertypes w c.supers) in
+      let I = gathered true (supertypes w c.interfaces) in
       ap (at_places w) (interfaces-of w rows (part-of w rows table) c (table-ready w rows table c.supers) (table-ready w rows table c.interfaces))
-      ∙ at-joined w [] (known (S ++ I)) tt (subst (AreNamed w) (sym (known-append S I)) (named-append w (known S) (known I) (named-known w false c.supers (kin w c.supers) s) (named-known w true c.interfaces (kin w c.interfaces) i)))
-      ∙ sym (known-once w [] (S ++ I) tt (told-append w S I (told-gathered w false c.supers (kin w c.supers) s) (told-gathered w true c.interfaces (kin w c.interfaces) i)))
+      ∙ at-joined w [] (known (S ++ I)) tt (subst (AreNamed w) (sym (known-append S I)) (named-append w (known S) (known I) (named-known w false c.supers (supertypes w c.supers) s) (named-known w true c.interfaces (supertypes w c.interfaces) i)))
+      ∙ sym (known-once w [] (S ++ I) tt (told-append w S I (told-gathered w false c.supers (supertypes w c.supers) s) (told-gathered w true c.interfaces (supertypes w c.interfaces) i)))

@@ -5,14 +5,14 @@ use Rattle.std.specs.Str.{bytes_eq}
 use Rattle.std.proofs.lemmas.Slice.Eq.{bytes_eq-Decides}
 use Rattle.cjc_world.specs.Classes.{Class, class_named}
 use Rattle.cjc_world.specs.Working.Tables.{IsClear}
-use Rattle.cjc_world.specs.Kin.{Kin, End, Unknown, Known, known_as, in_a_row, grown, kin, IsKin, ends, unknown_here, known_here, Lists, foremost, after, Above, directly, onwards, IsAcyclic}
+use Rattle.cjc_world.specs.Supertypes.{Supertypes, End, Unknown, Known, known_as, in_a_row, supertypes_within, supertypes, AreSupertypes, ends, unknown_here, known_here, Lists, foremost, after, Above, directly, onwards, IsAcyclic}
 
 pub bytes-true : (x y : List ℕ) → bytes_eq x y ≡ true → x ≡ y
-unfolding class_named grown kin
+unfolding class_named supertypes_within supertypes
 bytes-true x y e = grind (arith, bytes_eq-Decides)
 
 pub bytes-refl : (x : List ℕ) → bytes_eq x x ≡ true
-unfolding class_named grown kin
+unfolding class_named supertypes_within supertypes
 bytes-refl x = grind (arith, bytes_eq-Decides)
 
 -- every way upwards from the name ends within so many steps
@@ -31,7 +31,7 @@ without x [] = []
 without x (y ∷ ys) = if bytes_eq y x then without x ys else y ∷ without x ys
 
 without-length : (x : List ℕ) (ys : List (List ℕ)) → length (without x ys) ≤ length ys
-unfolding without class_named grown kin
+unfolding without class_named supertypes_within supertypes
 without-length x [] = omega arith
 without-length x (y ∷ ys) = by (bytes_eq y x) (without-length x ys)
   where
@@ -40,7 +40,7 @@ without-length x (y ∷ ys) = by (bytes_eq y x) (without-length x ys)
     by false h = omega arith
 
 pub without-less : (x : List ℕ) (ys : List (List ℕ)) → is_left ys x ≡ true → length (without x ys) < length ys
-unfolding without is_left class_named grown kin
+unfolding without is_left class_named supertypes_within supertypes
 without-less x [] e = cc
 without-less x (y ∷ ys) e = by (bytes_eq y x) e (without-length x ys) (without-less x ys)
   where
@@ -49,7 +49,7 @@ without-less x (y ∷ ys) e = by (bytes_eq y x) e (without-length x ys) (without
     by false e h rest = let r = rest e in omega arith
 
 pub without-left : (x z : List ℕ) (ys : List (List ℕ)) → bytes_eq x z ≡ false → is_left ys z ≡ true → is_left (without x ys) z ≡ true
-unfolding without is_left class_named grown kin
+unfolding without is_left class_named supertypes_within supertypes
 without-left x z [] n e = cc
 without-left x z (y ∷ ys) n e = by (bytes_eq y x) (bytes_eq y z) refl refl e (without-left x z ys n)
   where
@@ -60,18 +60,18 @@ without-left x z (y ∷ ys) n e = by (bytes_eq y x) (bytes_eq y z) refl refl e (
     by false false f g e rest = ap (λ q. q || is_left (without x ys) z) g ∙ rest e
 
 pub none_left : (left : List (List ℕ)) (x : List ℕ) → length left ≤ 0 → is_left left x ≡ true → ⊥
-unfolding is_left class_named grown kin
+unfolding is_left class_named supertypes_within supertypes
 none_left [] x le e = cc
 none_left (y ∷ left) x le e = absurd (omega arith)
 
 pub lists-front : (y : List ℕ) (a b : List (List ℕ)) → Lists y a → Lists y (a ++ b)
-unfolding class_named grown kin
+unfolding class_named supertypes_within supertypes
 lists-front y [] b i = elim i [ ]
 lists-front y (x ∷ a) b foremost = foremost
 lists-front y (x ∷ a) b (after i) = after (lists-front y a b i)
 
 pub lists-behind : (y : List ℕ) (a b : List (List ℕ)) → Lists y b → Lists y (a ++ b)
-unfolding class_named grown kin
+unfolding class_named supertypes_within supertypes
 lists-behind y [] b i = i
 lists-behind y (x ∷ a) b i = after (lists-behind y a b i)
 
@@ -82,14 +82,14 @@ module _ (w : List Class) where
   AllLeft left x = (z : List ℕ) (c : Class) → (x ≡ z) ⊎ Above w x z → class_named w z ≡ Some c → is_left left z ≡ true
 
   reach : (x y z : List ℕ) (c : Class) → class_named w x ≡ Some c → Lists y (c.supers ++ c.interfaces) → (y ≡ z) ⊎ Above w y z → Above w x z
-  unfolding class_named grown kin
+  unfolding class_named supertypes_within supertypes
   reach x y z c e i way = ⊎_elim (λ is. directly c e (subst (λ q. Lists q (c.supers ++ c.interfaces)) is i)) (λ far. onwards c e i far) way
 
   pub clear-up : (x y : List ℕ) (c : Class) → class_named w x ≡ Some c → Lists y (c.supers ++ c.interfaces) → IsClear w x → IsClear w y
   clear-up x y c e i clear = λ z way. clear z (inr (reach x y z c e i way))
 
   settles : (n : ℕ) (left : List (List ℕ)) (x : List ℕ) → IsClear w x → length left ≤ n → AllLeft left x → Settles w (suc n) x
-  unfolding AllLeft class_named grown kin
+  unfolding AllLeft class_named supertypes_within supertypes
   settles zero left x clear le all = by (class_named w x) refl
     where
       by : (o : Option Class) → class_named w x ≡ o → Settles w (suc zero) x
@@ -112,12 +112,12 @@ names [] = []
 names (c ∷ cs) = c.name ∷ names cs
 
 pub names-length : (w : List Class) → length (names w) ≡ length w
-unfolding names class_named grown kin
+unfolding names class_named supertypes_within supertypes
 names-length [] = refl
 names-length (c ∷ w) = ap suc (names-length w)
 
 pub named-left : (w : List Class) (x : List ℕ) (c : Class) → class_named w x ≡ Some c → is_left (names w) x ≡ true
-unfolding names is_left class_named grown kin
+unfolding names is_left class_named supertypes_within supertypes
 named-left [] x c e = cc
 named-left (d ∷ w) x c e = by (bytes_eq d.name x) e (named-left w x c)
   where
@@ -126,58 +126,58 @@ named-left (d ∷ w) x c e = by (bytes_eq d.name x) e (named-left w x c)
     by false e rest = rest e
 
 pub clear_settles : (w : List Class) (x : List ℕ) → IsClear w x → Settles w (suc (length w)) x
-unfolding AllLeft class_named grown kin
+unfolding AllLeft class_named supertypes_within supertypes
 clear_settles w x clear = let n = names-length w in settles w (length w) (names w) x clear (omega arith) (λ z c way e. named-left w z c e)
 
 -- ---- the steps reach the whole tree where all settles
 
-grown-IsKin : (w : List Class) (n : ℕ) (xs : List (List ℕ)) → ((y : List ℕ) → Lists y xs → Settles w n y) → IsKin w xs (grown w n xs)
-unfolding class_named grown kin
-grown-IsKin w zero [] all = ends
-grown-IsKin w zero (x ∷ xs) all = elim (all x foremost) [ ]
-grown-IsKin w (suc n) xs all = row (grown-IsKin w n) xs all
+supertypes_within-AreSupertypes : (w : List Class) (n : ℕ) (xs : List (List ℕ)) → ((y : List ℕ) → Lists y xs → Settles w n y) → AreSupertypes w xs (supertypes_within w n xs)
+unfolding class_named supertypes_within supertypes
+supertypes_within-AreSupertypes w zero [] all = ends
+supertypes_within-AreSupertypes w zero (x ∷ xs) all = elim (all x foremost) [ ]
+supertypes_within-AreSupertypes w (suc n) xs all = row (supertypes_within-AreSupertypes w n) xs all
   where
-    node : ((ys : List (List ℕ)) → ((y : List ℕ) → Lists y ys → Settles w n y) → IsKin w ys (grown w n ys)) → (x : List ℕ) (xs : List (List ℕ)) (next : Kin) → IsKin w xs next → Settles w (suc n) x → IsKin w (x ∷ xs) (known_as (grown w n) x (class_named w x) next)
-    node rec x xs next k (nothing e) = subst (λ o. IsKin w (x ∷ xs) (known_as (grown w n) x o next)) (sym e) (unknown_here e k)
+    node : ((ys : List (List ℕ)) → ((y : List ℕ) → Lists y ys → Settles w n y) → AreSupertypes w ys (supertypes_within w n ys)) → (x : List ℕ) (xs : List (List ℕ)) (next : Supertypes) → AreSupertypes w xs next → Settles w (suc n) x → AreSupertypes w (x ∷ xs) (known_as (supertypes_within w n) x (class_named w x) next)
+    node rec x xs next k (nothing e) = subst (λ o. AreSupertypes w (x ∷ xs) (known_as (supertypes_within w n) x o next)) (sym e) (unknown_here e k)
     node rec x xs next k (something c e all) =
-        subst (λ o. IsKin w (x ∷ xs) (known_as (grown w n) x o next)) (sym e)
+        subst (λ o. AreSupertypes w (x ∷ xs) (known_as (supertypes_within w n) x o next)) (sym e)
         (known_here e (rec c.supers (λ y i. all y (lists-front y c.supers c.interfaces i))) (rec c.interfaces (λ y i. all y (lists-behind y c.supers c.interfaces i))) k)
 
-    row : ((ys : List (List ℕ)) → ((y : List ℕ) → Lists y ys → Settles w n y) → IsKin w ys (grown w n ys)) → (xs : List (List ℕ)) → ((y : List ℕ) → Lists y xs → Settles w (suc n) y) → IsKin w xs (in_a_row w (grown w n) xs)
+    row : ((ys : List (List ℕ)) → ((y : List ℕ) → Lists y ys → Settles w n y) → AreSupertypes w ys (supertypes_within w n ys)) → (xs : List (List ℕ)) → ((y : List ℕ) → Lists y xs → Settles w (suc n) y) → AreSupertypes w xs (in_a_row w (supertypes_within w n) xs)
     row rec [] all = ends
-    row rec (x ∷ xs) all = node rec x xs (in_a_row w (grown w n) xs) (row rec xs (λ y i. all y (after i))) (all x foremost)
+    row rec (x ∷ xs) all = node rec x xs (in_a_row w (supertypes_within w n) xs) (row rec xs (λ y i. all y (after i))) (all x foremost)
 
 -- ---- The laws of names with no cycle at them or above them: the tree is there, and there is one.
-pub clear-IsKin : (w : List Class) (xs : List (List ℕ)) → ((y : List ℕ) → Lists y xs → IsClear w y) → IsKin w xs (kin w xs)
-unfolding class_named grown kin
-clear-IsKin w xs clear = grown-IsKin w (suc (length w)) xs (λ y i. clear_settles w y (clear y i))
+pub clear-AreSupertypes : (w : List Class) (xs : List (List ℕ)) → ((y : List ℕ) → Lists y xs → IsClear w y) → AreSupertypes w xs (supertypes w xs)
+unfolding class_named supertypes_within supertypes
+clear-AreSupertypes w xs clear = supertypes_within-AreSupertypes w (suc (length w)) xs (λ y i. clear_settles w y (clear y i))
 
-pub kin-IsKin : (w : List Class) → IsAcyclic w → (xs : List (List ℕ)) → IsKin w xs (kin w xs)
-kin-IsKin w acyclic xs = clear-IsKin w xs (λ y i z way far. acyclic z far)
+pub supertypes-AreSupertypes : (w : List Class) → IsAcyclic w → (xs : List (List ℕ)) → AreSupertypes w xs (supertypes w xs)
+supertypes-AreSupertypes w acyclic xs = clear-AreSupertypes w xs (λ y i z way far. acyclic z far)
 
-pub IsKin-one : (w : List Class) (xs : List (List ℕ)) (j k : Kin) → IsKin w xs j → IsKin w xs k → j ≡ k
-unfolding class_named grown kin
-IsKin-one w xs j k ends ends = refl
-IsKin-one w (x ∷ xs) j k (unknown_here {next = p} e a) (unknown_here {next = q} f b) = ap (λ r. Unknown x r) (IsKin-one w xs p q a b)
-IsKin-one w xs j k (unknown_here e a) (known_here f s i b) = cc
-IsKin-one w xs j k (known_here e s i a) (unknown_here f b) = cc
-IsKin-one w (x ∷ xs) j k (known_here {c = c} {supers = p} {interfaces = q} {next = r} e s i a) (known_here {c = d} {supers = p'} {interfaces = q'} {next = r'} f s' i' b) =
+pub AreSupertypes-one : (w : List Class) (xs : List (List ℕ)) (j k : Supertypes) → AreSupertypes w xs j → AreSupertypes w xs k → j ≡ k
+unfolding class_named supertypes_within supertypes
+AreSupertypes-one w xs j k ends ends = refl
+AreSupertypes-one w (x ∷ xs) j k (unknown_here {next = p} e a) (unknown_here {next = q} f b) = ap (λ r. Unknown x r) (AreSupertypes-one w xs p q a b)
+AreSupertypes-one w xs j k (unknown_here e a) (known_here f s i b) = cc
+AreSupertypes-one w xs j k (known_here e s i a) (unknown_here f b) = cc
+AreSupertypes-one w (x ∷ xs) j k (known_here {c = c} {supers = p} {interfaces = q} {next = r} e s i a) (known_here {c = d} {supers = p'} {interfaces = q'} {next = r'} f s' i' b) =
     let is : c ≡ d = cc in
-    let ps = IsKin-one w c.supers p p' s (subst (λ (k : Class). IsKin w k.supers p') (sym is) s') in
-    let qs = IsKin-one w c.interfaces q q' i (subst (λ (k : Class). IsKin w k.interfaces q') (sym is) i') in
-    let rs = IsKin-one w xs r r' a b in
+    let ps = AreSupertypes-one w c.supers p p' s (subst (λ (k : Class). AreSupertypes w k.supers p') (sym is) s') in
+    let qs = AreSupertypes-one w c.interfaces q q' i (subst (λ (k : Class). AreSupertypes w k.interfaces q') (sym is) i') in
+    let rs = AreSupertypes-one w xs r r' a b in
     cc
 
-pub clear-known : (w : List Class) (x : List ℕ) (c : Class) → IsClear w x → class_named w x ≡ Some c → kin w (x ∷ []) ≡ Known c (kin w c.supers) (kin w c.interfaces) End
+pub clear-known : (w : List Class) (x : List ℕ) (c : Class) → IsClear w x → class_named w x ≡ Some c → supertypes w (x ∷ []) ≡ Known c (supertypes w c.supers) (supertypes w c.interfaces) End
 clear-known w x c clear e =
-    IsKin-one w (x ∷ []) (kin w (x ∷ [])) (Known c (kin w c.supers) (kin w c.interfaces) End) (clear-IsKin w (x ∷ []) (λ y i. alone y i))
+    AreSupertypes-one w (x ∷ []) (supertypes w (x ∷ [])) (Known c (supertypes w c.supers) (supertypes w c.interfaces) End) (clear-AreSupertypes w (x ∷ []) (λ y i. alone y i))
     (known_here e
-    (clear-IsKin w c.supers (λ y i. clear-up w x y c e (lists-front y c.supers c.interfaces i) clear))
-    (clear-IsKin w c.interfaces (λ y i. clear-up w x y c e (lists-behind y c.supers c.interfaces i) clear)) ends)
+    (clear-AreSupertypes w c.supers (λ y i. clear-up w x y c e (lists-front y c.supers c.interfaces i) clear))
+    (clear-AreSupertypes w c.interfaces (λ y i. clear-up w x y c e (lists-behind y c.supers c.interfaces i) clear)) ends)
   where
     alone : (y : List ℕ) → Lists y (x ∷ []) → IsClear w y
     alone y foremost = clear
     alone y (after i) = elim i [ ]
 
-pub kin-known : (w : List Class) → IsAcyclic w → (x : List ℕ) (c : Class) → class_named w x ≡ Some c → kin w (x ∷ []) ≡ Known c (kin w c.supers) (kin w c.interfaces) End
-kin-known w acyclic x c e = clear-known w x c (λ z way far. acyclic z far) e
+pub supertypes-known : (w : List Class) → IsAcyclic w → (x : List ℕ) (c : Class) → class_named w x ≡ Some c → supertypes w (x ∷ []) ≡ Known c (supertypes w c.supers) (supertypes w c.interfaces) End
+supertypes-known w acyclic x c e = clear-known w x c (λ z way far. acyclic z far) e

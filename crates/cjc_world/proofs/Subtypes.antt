@@ -3,7 +3,7 @@ use Rattle.std.proofs.Common.{◌≡◌, ℕ, suc, refl, sym, ap, subst, ◌∙�
 use Rattle.std.specs.Prelude.{not, ◌==◌, ◌&&◌, ◌||◌, ◌⊎◌, if◌then◌else◌}
 use Rattle.std.specs.Str.{bytes_eq}
 use Rattle.cjc_world.specs.Classes.{Class}
-use Rattle.cjc_world.specs.Kin.{End, known_as, grown, kin, Lists, foremost, after, Above, directly, onwards, stands}
+use Rattle.cjc_world.specs.Supertypes.{End, known_as, supertypes_within, supertypes, Lists, foremost, after, Above, directly, onwards, stands}
 use Rattle.cjc_world.specs.Lookup.{object}
 use Rattle.cjc_world.proofs.Settled.{names, names-length, bytes-true, bytes-refl}
 use Rattle.cjc_world.proofs.Cycles.{From, tree-above, stands-itself, stands-append, through-tree, above-class, above-through}
@@ -46,7 +46,7 @@ above_trans w x y z (onwards {y = m} c e i rest) far = onwards c e i (above_tran
 
 -- one is the other, or it stands above it
 subclass_above : (w : List Class) (x y : List ℕ) → is_subclass w x y ≡ true → (x ≡ y) ⊎ Above w x y
-unfolding is_subclass kin From
+unfolding is_subclass supertypes From
 subclass_above w x y e = by (tree-above w (suc (length w)) y (x ∷ []) e)
   where
     by : (z : List ℕ) × Lists z (x ∷ []) × ((z ≡ y) ⊎ Above w z y) → (x ≡ y) ⊎ Above w x y
@@ -54,20 +54,20 @@ subclass_above w x y e = by (tree-above w (suc (length w)) y (x ∷ []) e)
     by (z, after i, way) = elim i [ ]
 
 subclass_itself : (w : List Class) (x : List ℕ) → is_subclass w x x ≡ true
-unfolding is_subclass kin grown
+unfolding is_subclass supertypes supertypes_within
 subclass_itself w x = stands-itself w (length w) x End
 
 subclass_of_above : (w : List Class) (x y : List ℕ) → Above w x y → is_subclass w x y ≡ true
-unfolding is_subclass kin grown
+unfolding is_subclass supertypes supertypes_within
 subclass_of_above w x y far =
     let c = above-class w x y far in
     let n = names-length w in
     let high = through-tree w (length w) (names w) x y c.0 (omega (arith, n)) c.1 (above-through w far) in
-    ap (λ o. stands y (known_as (grown w (length w)) x o End)) c.1
-    ∙ or_true (bytes_eq c.0.name y || stands y (grown w (length w) c.0.supers) || stands y (grown w (length w) c.0.interfaces)) false
+    ap (λ o. stands y (known_as (supertypes_within w (length w)) x o End)) c.1
+    ∙ or_true (bytes_eq c.0.name y || stands y (supertypes_within w (length w) c.0.supers) || stands y (supertypes_within w (length w) c.0.interfaces)) false
     (⊎_elim
-    (λ h. or_true (bytes_eq c.0.name y || stands y (grown w (length w) c.0.supers)) (stands y (grown w (length w) c.0.interfaces)) (or_second (bytes_eq c.0.name y) (stands y (grown w (length w) c.0.supers)) h))
-    (λ h. or_second (bytes_eq c.0.name y || stands y (grown w (length w) c.0.supers)) (stands y (grown w (length w) c.0.interfaces)) h)
+    (λ h. or_true (bytes_eq c.0.name y || stands y (supertypes_within w (length w) c.0.supers)) (stands y (supertypes_within w (length w) c.0.interfaces)) (or_second (bytes_eq c.0.name y) (stands y (supertypes_within w (length w) c.0.supers)) h))
+    (λ h. or_second (bytes_eq c.0.name y || stands y (supertypes_within w (length w) c.0.supers)) (stands y (supertypes_within w (length w) c.0.interfaces)) h)
     (stands-append w (length w) y c.0.supers c.0.interfaces high))
   where
     or_second : (a b : Bool) → b ≡ true → (a || b) ≡ true
@@ -75,9 +75,9 @@ subclass_of_above w x y far =
     or_second false b e = e
 
 -- a name, and what stands above it, stand in its tree
-pub reaches : (w : List Class) (x y : List ℕ) → (x ≡ y) ⊎ Above w x y → stands y (kin w (x ∷ [])) ≡ true
+pub reaches : (w : List Class) (x y : List ℕ) → (x ≡ y) ⊎ Above w x y → stands y (supertypes w (x ∷ [])) ≡ true
 unfolding is_subclass
-reaches w x y way = ⊎_elim (λ same. subst (λ v. stands v (kin w (x ∷ [])) ≡ true) same (subclass_itself w x)) (λ far. subclass_of_above w x y far) way
+reaches w x y way = ⊎_elim (λ same. subst (λ v. stands v (supertypes w (x ∷ [])) ≡ true) same (subclass_itself w x)) (λ far. subclass_of_above w x y far) way
 
 subclass_trans : (w : List Class) (x y z : List ℕ) → is_subclass w x y ≡ true → is_subclass w y z ≡ true → is_subclass w x z ≡ true
 subclass_trans w x y z e f =

@@ -7,11 +7,11 @@ use Rattle.cjc_world.specs.declared.tables.Above.{Above}
 use Rattle.cjc_world.specs.declared.tables.Order.{Order}
 use Rattle.cjc_world.specs.declared.tables.Order.TheVariants as orders
 use Rattle.cjc_world.specs.Classes.{Class, class_named}
-use Rattle.cjc_world.specs.Kin.{Kin, End, Unknown, Known, IsKin, ends, unknown_here, known_here, Lists, foremost, after, Above as IsAbove, directly, onwards, kin, upwards}
+use Rattle.cjc_world.specs.Supertypes.{Supertypes, End, Unknown, Known, AreSupertypes, ends, unknown_here, known_here, Lists, foremost, after, Above as IsAbove, directly, onwards, supertypes, upwards}
 use Rattle.cjc_world.specs.Interfaces.{Interface, where_listed, gathered, known}
 use Rattle.cjc_world.specs.Working.Places.{place_named, places_of, joined}
 use Rattle.cjc_world.specs.Working.Tables.{in_field_order, told, row_at, piece, pieces, above_at, is_row, is_ready_at, is_ready, are_ready, AreRight, IsClear}
-use Rattle.cjc_world.proofs.Settled.{IsKin-one, clear-IsKin}
+use Rattle.cjc_world.proofs.Settled.{AreSupertypes-one, clear-AreSupertypes}
 use Rattle.cjc_world.proofs.Cycles.{class_named-name}
 use Rattle.cjc_world.proofs.Rising.{known-append}
 use Rattle.cjc_world.proofs.Joined.{joined-append, joined-once}
@@ -37,8 +37,8 @@ alike-same a b e = λ seen. ap (joined seen) e
 -- ---- from the rows of some names
 
 pub record Grove (w : List Class) (rows : List (Option Above)) (xs : List (List ℕ)) : Type 0 where
-  pub tree : Kin
-  pub is_kin : IsKin w xs tree
+  pub tree : Supertypes
+  pub are_supertypes : AreSupertypes w xs tree
   pub lines : Alike (pieces w orders.Line false rows xs) (places_of w (upwards tree))
   pub interfaces : (listed : Bool) → Alike (pieces w orders.Interfaces listed rows xs) (places_of w (known (gathered listed tree)))
   pub fields : Alike (pieces w orders.Fields false rows xs) (places_of w (in_field_order tree))
@@ -54,13 +54,13 @@ all-back false q e = cc
 module _ (w : List Class) (rows : List (Option Above)) (right : AreRight w rows) where
   pub grove : (xs : List (List ℕ)) → list_all (λ x. is_ready w rows x) xs ≡ true → Grove w rows xs
   unfolding Alike pieces places_of gathered known told
-  grove [] e = record { tree = End; is_kin = ends; lines = λ s. refl; interfaces = λ l s. refl; fields = λ s. refl }
+  grove [] e = record { tree = End; are_supertypes = ends; lines = λ s. refl; interfaces = λ l s. refl; fields = λ s. refl }
   grove (x ∷ xs) e = by (place_named w x) refl (all-front (is_ready w rows x) (list_all (λ x. is_ready w rows x) xs) e) (grove xs (all-back (is_ready w rows x) (list_all (λ x. is_ready w rows x) xs) e))
     where
       by : (o : Option ℕ) → place_named w x ≡ o → is_ready_at rows o ≡ true → Grove w rows xs → Grove w rows (x ∷ xs)
       by None f ready g = record {
         tree = Unknown x g.tree;
-        is_kin = unknown_here (place-none w x f) g.is_kin;
+        are_supertypes = unknown_here (place-none w x f) g.are_supertypes;
         lines = λ s. ap (λ o. joined s (piece orders.Line false rows o ++ pieces w orders.Line false rows xs)) f ∙ g.lines s;
         interfaces = λ l s. ap (λ o. joined s (piece orders.Interfaces l rows o ++ pieces w orders.Interfaces l rows xs)) f ∙ g.interfaces l s ∙ ap (λ is. joined s (places_of w is)) (sym (unknown-known l x (gathered l g.tree)));
         fields = λ s. ap (λ o. joined s (piece orders.Fields false rows o ++ pieces w orders.Fields false rows xs)) f ∙ g.fields s;
@@ -74,10 +74,10 @@ module _ (w : List Class) (rows : List (Option Above)) (right : AreRight w rows)
           tail : (order : Order) (listed : Bool) → List ℕ
           tail order listed = pieces w order listed rows xs
 
-          top : (a : Above) → slice_get rows q ≡ Some (Some a) → (tree : Kin) → IsKin w (x ∷ []) tree → a ≡ told w tree → Grove w rows (x ∷ xs)
+          top : (a : Above) → slice_get rows q ≡ Some (Some a) → (tree : Supertypes) → AreSupertypes w (x ∷ []) tree → a ≡ told w tree → Grove w rows (x ∷ xs)
           top a h (Known c s i End) (known_here e sk ik ends) tells = record {
             tree = Known c s i g.tree;
-            is_kin = known_here e sk ik g.is_kin;
+            are_supertypes = known_here e sk ik g.are_supertypes;
             lines = λ seen.
                 ap (λ o. joined seen (piece orders.Line false rows o ++ tail orders.Line false)) f
                 ∙ ap (λ o. joined seen ((row_at orders.Line o ++ []) ++ tail orders.Line false)) h
@@ -127,7 +127,7 @@ module _ (w : List Class) (rows : List (Option Above)) (right : AreRight w rows)
   same_above : (a b : Above) → a.line ≡ b.line → a.interfaces ≡ b.interfaces → a.fields ≡ b.fields → a ≡ b
   same_above a b l i f = ap (λ v. record { line = v; interfaces = a.interfaces; fields = a.fields }) l ∙ ap (λ v. record { line = b.line; interfaces = v; fields = a.fields }) i ∙ ap (λ v. record { line = b.line; interfaces = b.interfaces; fields = v }) f
 
-  pub above-tells : (x : List ℕ) (p : ℕ) (c : Class) → place_named w x ≡ Some p → slice_get w p ≡ Some c → are_ready w rows c ≡ true → (tree : Kin) × IsKin w (x ∷ []) tree × (above_at w rows p c ≡ told w tree)
+  pub above-tells : (x : List ℕ) (p : ℕ) (c : Class) → place_named w x ≡ Some p → slice_get w p ≡ Some c → are_ready w rows c ≡ true → (tree : Supertypes) × AreSupertypes w (x ∷ []) tree × (above_at w rows p c ≡ told w tree)
   unfolding Alike pieces places_of gathered known told above_at are_ready joined
   above-tells x p c e f ready =
       let d = place-class w x p e in
@@ -138,7 +138,7 @@ module _ (w : List Class) (rows : List (Option Above)) (right : AreRight w rows)
       let i = grove c.interfaces (all-back (list_all (λ x. is_ready w rows x) c.supers) (list_all (λ x. is_ready w rows x) c.interfaces) ready) in
       let G = gathered false s.tree ++ gathered true i.tree in (
         Known c s.tree i.tree End,
-        known_here named s.is_kin i.is_kin ends,
+        known_here named s.are_supertypes i.are_supertypes ends,
         same_above (above_at w rows p c) (told w (Known c s.tree i.tree End)) (
             s.lines (p ∷ []) ∙ ap (λ o. joined [] (option_to_list o ++ places_of w (upwards s.tree))) (sym self) ∙ ap (λ cs. joined [] (places_of w cs)) (sym (append-nil (c ∷ upwards s.tree))))
             (ap (λ v. joined v (pieces w orders.Interfaces true rows c.interfaces)) (s.interfaces false [])
@@ -156,7 +156,7 @@ module _ (w : List Class) (rows : List (Option Above)) (right : AreRight w rows)
 
 -- ---- a name with a tree is not above itself
 
-size : Kin → ℕ
+size : Supertypes → ℕ
 size End = 0
 size (Unknown name next) = suc (size next)
 size (Known c supers interfaces next) = suc (size supers + size interfaces + size next)
@@ -168,16 +168,16 @@ lists-split y (x ∷ a) b (after i) = ⊎_elim (λ h. inl (after h)) (λ h. inr 
 
 module _ (w : List Class) where
   Smaller : List ℕ → ℕ → Type 0
-  Smaller y n = (j : Kin) × IsKin w (y ∷ []) j × (size j ≤ n)
+  Smaller y n = (j : Supertypes) × AreSupertypes w (y ∷ []) j × (size j ≤ n)
 
-  listed-tree : (y : List ℕ) (xs : List (List ℕ)) → Lists y xs → (k : Kin) → IsKin w xs k → Smaller y (size k)
+  listed-tree : (y : List ℕ) (xs : List (List ℕ)) → Lists y xs → (k : Supertypes) → AreSupertypes w xs k → Smaller y (size k)
   unfolding Smaller size
   listed-tree y xs foremost k (unknown_here {next = next} e rest) = (Unknown y End, unknown_here e ends, omega arith)
   listed-tree y xs foremost k (known_here {c = c} {supers = s} {interfaces = i} {next = next} e sk ik rest) = (Known c s i End, known_here e sk ik ends, omega arith)
   listed-tree y (x ∷ xs) (after l) k (unknown_here {next = next} e rest) = let t = listed-tree y xs l next rest in (t.0, t.1, let h = t.2 in omega arith)
   listed-tree y (x ∷ xs) (after l) k (known_here {c = c} {supers = s} {interfaces = i} {next = next} e sk ik rest) = let t = listed-tree y xs l next rest in (t.0, t.1, let h = t.2 in omega arith)
 
-  step : (x y : List ℕ) (c : Class) → class_named w x ≡ Some c → Lists y (c.supers ++ c.interfaces) → (k : Kin) → IsKin w (x ∷ []) k → (j : Kin) × IsKin w (y ∷ []) j × (size j < size k)
+  step : (x y : List ℕ) (c : Class) → class_named w x ≡ Some c → Lists y (c.supers ++ c.interfaces) → (k : Supertypes) → AreSupertypes w (x ∷ []) k → (j : Supertypes) × AreSupertypes w (y ∷ []) j × (size j < size k)
   unfolding Smaller size
   step x y c e l k (unknown_here f rest) = cc
   step x y c e l k (known_here {c = d} {supers = s} {interfaces = i} {next = next} f sk ik rest) =
@@ -187,32 +187,32 @@ module _ (w : List Class) where
       (λ h. let t = listed-tree y d.interfaces (subst (λ (v : Class). Lists y v.interfaces) is h) i ik in (t.0, t.1, let n = t.2 in omega arith))
       (lists-split y c.supers c.interfaces l)
 
-  smaller : (x y : List ℕ) → IsAbove w x y → (k : Kin) → IsKin w (x ∷ []) k → (j : Kin) × IsKin w (y ∷ []) j × (size j < size k)
+  smaller : (x y : List ℕ) → IsAbove w x y → (k : Supertypes) → AreSupertypes w (x ∷ []) k → (j : Supertypes) × AreSupertypes w (y ∷ []) j × (size j < size k)
   smaller x y (directly c e l) k is = step x y c e l k is
   smaller x y (onwards {y = z} c e l rest) k is =
       let t = step x z c e l k is in
       let u = smaller z y rest t.0 t.1 in
       (u.0, u.1, let a = t.2 in let b = u.2 in omega arith)
 
-  pub not-own-super : (x : List ℕ) (k : Kin) → IsKin w (x ∷ []) k → IsAbove w x x → ⊥
+  pub not-own-super : (x : List ℕ) (k : Supertypes) → AreSupertypes w (x ∷ []) k → IsAbove w x x → ⊥
   not-own-super x k is far =
       let t = smaller x x far k is in
-      let same : t.0 ≡ k = IsKin-one w (x ∷ []) t.0 k t.1 is in
+      let same : t.0 ≡ k = AreSupertypes-one w (x ∷ []) t.0 k t.1 is in
       let less : size t.0 < size k = t.2 in
       let eq : size t.0 ≡ size k = ap size same in
       absurd (omega arith)
 
-  -- ---- nor is anything that stands above it, so the tree is the one that `kin` grows
+  -- ---- nor is anything that stands above it, so the tree is the one that `supertypes` grows
 
-  pub tree-clear : (x : List ℕ) (k : Kin) → IsKin w (x ∷ []) k → IsClear w x
+  pub tree-clear : (x : List ℕ) (k : Supertypes) → AreSupertypes w (x ∷ []) k → IsClear w x
   tree-clear x k is = λ z way far. ⊎_elim
       (λ same. not-own-super x k is (subst (λ v. IsAbove w v v) (sym same) far))
       (λ up. let t = smaller x z up k is in not-own-super z t.0 t.1 far)
       way
 
-  pub listed-clear : (xs : List (List ℕ)) (k : Kin) → IsKin w xs k → (y : List ℕ) → Lists y xs → IsClear w y
+  pub listed-clear : (xs : List (List ℕ)) (k : Supertypes) → AreSupertypes w xs k → (y : List ℕ) → Lists y xs → IsClear w y
   unfolding Smaller
   listed-clear xs k is y i = let t = listed-tree y xs i k is in tree-clear y t.0 t.1
 
-  pub tree-is-kin : (xs : List (List ℕ)) (k : Kin) → IsKin w xs k → k ≡ kin w xs
-  tree-is-kin xs k is = IsKin-one w xs k (kin w xs) is (clear-IsKin w xs (listed-clear xs k is))
+  pub tree-is-supertypes : (xs : List (List ℕ)) (k : Supertypes) → AreSupertypes w xs k → k ≡ supertypes w xs
+  tree-is-supertypes xs k is = AreSupertypes-one w xs k (supertypes w xs) is (clear-AreSupertypes w xs (listed-clear xs k is))

@@ -10,7 +10,7 @@ use Rattle.cjc_classfile.specs.declared.tree.ClassTree.{ClassTree}
 use Rattle.cjc_export.specs.declared.tree.ExportTree.{ExportTree}
 use Rattle.cjc_world.specs.Files.{Files}
 use Rattle.cjc_world.specs.Classes.{Class, declared, numbered, size, of_class_file, of_export_file, classes_from, all_classes, class_named}
-use Rattle.cjc_world.specs.Kin.{IsAcyclic, stands_above}
+use Rattle.cjc_world.specs.Supertypes.{IsAcyclic, stands_above}
 use Rattle.cjc_world.specs.Rules.{gets_missing, when, at_class, class_rules, members_from, class_breaks, classes_breaks, class_file_breaks, export_file_breaks, breaks_from, breaks, is_of_package, is_second, lists_missing, is_own_super, lists_wrong, is_second_package, has_language}
 use Rattle.cjc_world.proofs.Cycles.{class_named-name, above-class, stands_where_above}
 

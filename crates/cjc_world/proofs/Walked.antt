@@ -10,13 +10,13 @@ use Rattle.cjc_world.specs.declared.found.Found.{Found}
 use Rattle.cjc_world.specs.declared.tables.Above.{Above}
 use Rattle.cjc_world.specs.declared.tables.Order.TheVariants as orders
 use Rattle.cjc_world.specs.Classes.{Class, class_named}
-use Rattle.cjc_world.specs.Kin.{Kin, End, Unknown, Known, IsKin, ends, unknown_here, known_here, known_as, grown, kin, upwards, line, is_below, stands, stands_by_supers}
+use Rattle.cjc_world.specs.Supertypes.{Supertypes, End, Unknown, Known, AreSupertypes, ends, unknown_here, known_here, known_as, supertypes_within, supertypes, upwards, line, is_below, stands, stands_by_supers}
 use Rattle.cjc_world.specs.Interfaces.{gathered, has_interface, known}
 use Rattle.cjc_world.specs.Lookup.{or_else, first, own_field, field_in, find_field, own_method}
 use Rattle.cjc_world.specs.Subtype.{is_subclass}
 use Rattle.cjc_world.specs.Working.Places.{place_named, places_of, joined, first_place, field_of, method_of, has_name, names, names_of, names_super, names_super_of}
 use Rattle.cjc_world.specs.Working.Tables.{in_field_order, told, IsTable, row_at}
-use Rattle.cjc_world.proofs.Settled.{kin-IsKin, kin-known}
+use Rattle.cjc_world.proofs.Settled.{supertypes-AreSupertypes, supertypes-known}
 use Rattle.cjc_world.proofs.Cycles.{class_named-name}
 use Rattle.cjc_world.proofs.Rising.{first-append}
 use Rattle.cjc_world.proofs.Joined.{first-joined, any-joined}
@@ -63,7 +63,7 @@ or_else-assoc : (f g h : Option Found) → or_else (or_else f g) h ≡ or_else f
 or_else-assoc None g h = refl
 or_else-assoc (Some f) g h = refl
 
-fields-first : (own : Class → Option Found) (k : Kin) → field_in own k ≡ first own (in_field_order k)
+fields-first : (own : Class → Option Found) (k : Supertypes) → field_in own k ≡ first own (in_field_order k)
 unfolding first
 fields-first own End = refl
 fields-first own (Unknown x next) = fields-first own next
@@ -96,7 +96,7 @@ or-assoc : (a b c : Bool) → (a || (b || c)) ≡ ((a || b) || c)
 or-assoc true b c = refl
 or-assoc false b c = refl
 
-stands-listed : (w : List Class) (y : List ℕ) (xs : List (List ℕ)) (k : Kin) → IsKin w xs k → stands y k ≡ (list_any (λ x. bytes_eq x y) xs || list_any (names y) (in_field_order k))
+stands-listed : (w : List Class) (y : List ℕ) (xs : List (List ℕ)) (k : Supertypes) → AreSupertypes w xs k → stands y k ≡ (list_any (λ x. bytes_eq x y) xs || list_any (names y) (in_field_order k))
 stands-listed w y xs k ends = refl
 stands-listed w y (x ∷ xs) k (unknown_here {next = next} e n) =
     ap (λ b. bytes_eq x y || b) (stands-listed w y xs next n) ∙ or-assoc (bytes_eq x y) (list_any (λ x. bytes_eq x y) xs) (list_any (names y) (in_field_order next))
@@ -126,7 +126,7 @@ together false false true false l = refl
 together false false false true l = refl
 together false false false false l = refl
 
-below-listed : (w : List Class) (y : List ℕ) (xs : List (List ℕ)) (k : Kin) → IsKin w xs k → stands_by_supers y k ≡ (list_any (λ x. bytes_eq x y) xs || list_any (names_super y) (upwards k))
+below-listed : (w : List Class) (y : List ℕ) (xs : List (List ℕ)) (k : Supertypes) → AreSupertypes w xs k → stands_by_supers y k ≡ (list_any (λ x. bytes_eq x y) xs || list_any (names_super y) (upwards k))
 below-listed w y xs k ends = refl
 below-listed w y (x ∷ xs) k (unknown_here {next = next} e n) =
     ap (λ b. bytes_eq x y || b) (below-listed w y xs next n) ∙ or-assoc (bytes_eq x y) (list_any (λ x. bytes_eq x y) xs) (list_any (names_super y) (upwards next))
@@ -144,26 +144,26 @@ below-listed w y (x ∷ xs) k (known_here {c = c} {supers = s} {interfaces = i} 
 -- ---- by the table
 
 module _ (w : List Class) (rows : List (Option Above)) (table : IsTable w rows) (x : List ℕ) where
-  tree : Kin
-  tree = kin w (x ∷ [])
+  tree : Supertypes
+  tree = supertypes w (x ∷ [])
 
-  is_tree : IsKin w (x ∷ []) (kin w (x ∷ []))
-  is_tree = kin-IsKin w table.acyclic (x ∷ [])
+  is_tree : AreSupertypes w (x ∷ []) (supertypes w (x ∷ []))
+  is_tree = supertypes-AreSupertypes w table.acyclic (x ∷ [])
 
-  nowhere : place_named w x ≡ None → kin w (x ∷ []) ≡ Unknown x End
-  unfolding kin grown
-  nowhere e = ap (λ o. known_as (grown w (length w)) x o End) (place-none w x e)
+  nowhere : place_named w x ≡ None → supertypes w (x ∷ []) ≡ Unknown x End
+  unfolding supertypes supertypes_within
+  nowhere e = ap (λ o. known_as (supertypes_within w (length w)) x o End) (place-none w x e)
 
   module _ (p : ℕ) (place : place_named w x ≡ Some p) where
-    pub line-row : row_at orders.Line (slice_get rows p) ≡ joined [] (places_of w (upwards (kin w (x ∷ []))))
+    pub line-row : row_at orders.Line (slice_get rows p) ≡ joined [] (places_of w (upwards (supertypes w (x ∷ []))))
     unfolding told
     line-row = ap (row_at orders.Line) (table.tells x p place)
 
-    interfaces-row : row_at orders.Interfaces (slice_get rows p) ≡ joined [] (places_of w (known (gathered false (kin w (x ∷ [])))))
+    interfaces-row : row_at orders.Interfaces (slice_get rows p) ≡ joined [] (places_of w (known (gathered false (supertypes w (x ∷ [])))))
     unfolding told
     interfaces-row = ap (row_at orders.Interfaces) (table.tells x p place)
 
-    fields-row : row_at orders.Fields (slice_get rows p) ≡ joined [] (places_of w (in_field_order (kin w (x ∷ []))))
+    fields-row : row_at orders.Fields (slice_get rows p) ≡ joined [] (places_of w (in_field_order (supertypes w (x ∷ []))))
     unfolding told
     fields-row = ap (row_at orders.Fields) (table.tells x p place)
 
@@ -171,54 +171,54 @@ module _ (w : List Class) (rows : List (Option Above)) (table : IsTable w rows) 
     unfolding line
     line-finds selecting name desc =
         ap (first_place (λ q. method_of selecting name desc (slice_get w q))) line-row
-        ∙ first-told w (λ q. method_of selecting name desc (slice_get w q)) (own_method selecting name desc) (upwards (kin w (x ∷ []))) (named-upwards w (x ∷ []) (kin w (x ∷ [])) is_tree) (λ d q e. ap (method_of selecting name desc) e)
+        ∙ first-told w (λ q. method_of selecting name desc (slice_get w q)) (own_method selecting name desc) (upwards (supertypes w (x ∷ []))) (named-upwards w (x ∷ []) (supertypes w (x ∷ [])) is_tree) (λ d q e. ap (method_of selecting name desc) e)
 
-    pub interfaces-find : (name desc : List ℕ) → first_place (λ q. method_of false name desc (slice_get w q)) (row_at orders.Interfaces (slice_get rows p)) ≡ first (own_method false name desc) (known (gathered false (kin w (x ∷ []))))
+    pub interfaces-find : (name desc : List ℕ) → first_place (λ q. method_of false name desc (slice_get w q)) (row_at orders.Interfaces (slice_get rows p)) ≡ first (own_method false name desc) (known (gathered false (supertypes w (x ∷ []))))
     interfaces-find name desc =
         ap (first_place (λ q. method_of false name desc (slice_get w q))) interfaces-row
-        ∙ first-told w (λ q. method_of false name desc (slice_get w q)) (own_method false name desc) (known (gathered false (kin w (x ∷ [])))) (named-known w false (x ∷ []) (kin w (x ∷ [])) is_tree) (λ d q e. ap (method_of false name desc) e)
+        ∙ first-told w (λ q. method_of false name desc (slice_get w q)) (own_method false name desc) (known (gathered false (supertypes w (x ∷ [])))) (named-known w false (x ∷ []) (supertypes w (x ∷ [])) is_tree) (λ d q e. ap (method_of false name desc) e)
 
     pub fields-find : (name desc : List ℕ) → first_place (λ q. field_of name desc (slice_get w q)) (row_at orders.Fields (slice_get rows p)) ≡ find_field w x name desc
     unfolding find_field
     fields-find name desc =
         ap (first_place (λ q. field_of name desc (slice_get w q))) fields-row
-        ∙ first-told w (λ q. field_of name desc (slice_get w q)) (own_field name desc) (in_field_order (kin w (x ∷ []))) (named-fields w (x ∷ []) (kin w (x ∷ [])) is_tree) (λ d q e. ap (field_of name desc) e)
-        ∙ sym (fields-first (own_field name desc) (kin w (x ∷ [])))
+        ∙ first-told w (λ q. field_of name desc (slice_get w q)) (own_field name desc) (in_field_order (supertypes w (x ∷ []))) (named-fields w (x ∷ []) (supertypes w (x ∷ [])) is_tree) (λ d q e. ap (field_of name desc) e)
+        ∙ sym (fields-first (own_field name desc) (supertypes w (x ∷ [])))
 
     pub line-below : (y : List ℕ) → list_any (λ q. names_super_of y (slice_get w q)) (row_at orders.Line (slice_get rows p)) ≡ is_below w x y
     unfolding is_below
     line-below y =
         let c = place-class w x p place in
         ap (list_any (λ q. names_super_of y (slice_get w q))) line-row
-        ∙ any-told w (λ q. names_super_of y (slice_get w q)) (names_super y) (upwards (kin w (x ∷ []))) (named-upwards w (x ∷ []) (kin w (x ∷ [])) is_tree) (λ d q e. ap (names_super_of y) e)
+        ∙ any-told w (λ q. names_super_of y (slice_get w q)) (names_super y) (upwards (supertypes w (x ∷ []))) (named-upwards w (x ∷ []) (supertypes w (x ∷ [])) is_tree) (λ d q e. ap (names_super_of y) e)
         ∙ itself c.0 c.2
-        ∙ sym (below-listed w y (x ∷ []) (kin w (x ∷ [])) is_tree)
+        ∙ sym (below-listed w y (x ∷ []) (supertypes w (x ∷ [])) is_tree)
       where
         absorbs : (a b r : Bool) → ((a || b) || r) ≡ ((a || false) || ((a || b) || r))
         absorbs true b r = refl
         absorbs false b r = refl
 
-        itself : (c : Class) → class_named w x ≡ Some c → list_any (names_super y) (upwards (kin w (x ∷ []))) ≡ ((bytes_eq x y || false) || list_any (names_super y) (upwards (kin w (x ∷ []))))
+        itself : (c : Class) → class_named w x ≡ Some c → list_any (names_super y) (upwards (supertypes w (x ∷ []))) ≡ ((bytes_eq x y || false) || list_any (names_super y) (upwards (supertypes w (x ∷ []))))
         itself c e =
-            ap (λ k. list_any (names_super y) (upwards k)) (kin-known w table.acyclic x c e)
-            ∙ absorbs (bytes_eq c.name y) (list_any (λ x. bytes_eq x y) c.supers) (list_any (names_super y) (upwards (kin w c.supers) ++ []))
-            ∙ ap (λ z. (bytes_eq z y || false) || list_any (names_super y) (upwards (Known c (kin w c.supers) (kin w c.interfaces) End))) (class_named-name w x c e)
-            ∙ ap (λ k. (bytes_eq x y || false) || list_any (names_super y) (upwards k)) (sym (kin-known w table.acyclic x c e))
+            ap (λ k. list_any (names_super y) (upwards k)) (supertypes-known w table.acyclic x c e)
+            ∙ absorbs (bytes_eq c.name y) (list_any (λ x. bytes_eq x y) c.supers) (list_any (names_super y) (upwards (supertypes w c.supers) ++ []))
+            ∙ ap (λ z. (bytes_eq z y || false) || list_any (names_super y) (upwards (Known c (supertypes w c.supers) (supertypes w c.interfaces) End))) (class_named-name w x c e)
+            ∙ ap (λ k. (bytes_eq x y || false) || list_any (names_super y) (upwards k)) (sym (supertypes-known w table.acyclic x c e))
 
     pub interfaces-have : (y : List ℕ) → list_any (λ q. has_name y (slice_get w q)) (row_at orders.Interfaces (slice_get rows p)) ≡ has_interface w x y
     unfolding has_interface
     interfaces-have y =
         ap (list_any (λ q. has_name y (slice_get w q))) interfaces-row
-        ∙ any-told w (λ q. has_name y (slice_get w q)) (λ c. bytes_eq c.name y) (known (gathered false (kin w (x ∷ [])))) (named-known w false (x ∷ []) (kin w (x ∷ [])) is_tree) (λ d q e. ap (has_name y) e)
+        ∙ any-told w (λ q. has_name y (slice_get w q)) (λ c. bytes_eq c.name y) (known (gathered false (supertypes w (x ∷ [])))) (named-known w false (x ∷ []) (supertypes w (x ∷ [])) is_tree) (λ d q e. ap (has_name y) e)
 
     pub fields-stand : (y : List ℕ) → list_any (λ q. names_of y (slice_get w q)) (row_at orders.Fields (slice_get rows p)) ≡ is_subclass w x y
     unfolding is_subclass
     fields-stand y =
         let c = place-class w x p place in
         ap (list_any (λ q. names_of y (slice_get w q))) fields-row
-        ∙ any-told w (λ q. names_of y (slice_get w q)) (names y) (in_field_order (kin w (x ∷ []))) (named-fields w (x ∷ []) (kin w (x ∷ [])) is_tree) (λ d q e. ap (names_of y) e)
+        ∙ any-told w (λ q. names_of y (slice_get w q)) (names y) (in_field_order (supertypes w (x ∷ []))) (named-fields w (x ∷ []) (supertypes w (x ∷ [])) is_tree) (λ d q e. ap (names_of y) e)
         ∙ itself y c.0 c.2
-        ∙ sym (stands-listed w y (x ∷ []) (kin w (x ∷ [])) is_tree)
+        ∙ sym (stands-listed w y (x ∷ []) (supertypes w (x ∷ [])) is_tree)
       where
         again : (a b : Bool) → (a || b) ≡ ((a || false) || (a || b))
         again true b = refl
@@ -228,12 +228,12 @@ module _ (w : List Class) (rows : List (Option Above)) (table : IsTable w rows) 
         absorbs true b r = refl
         absorbs false b r = refl
 
-        itself : (y : List ℕ) (c : Class) → class_named w x ≡ Some c → list_any (names y) (in_field_order (kin w (x ∷ []))) ≡ ((bytes_eq x y || false) || list_any (names y) (in_field_order (kin w (x ∷ []))))
+        itself : (y : List ℕ) (c : Class) → class_named w x ≡ Some c → list_any (names y) (in_field_order (supertypes w (x ∷ []))) ≡ ((bytes_eq x y || false) || list_any (names y) (in_field_order (supertypes w (x ∷ []))))
         itself y c e =
-            ap (λ k. list_any (names y) (in_field_order k)) (kin-known w table.acyclic x c e)
-            ∙ absorbs (bytes_eq c.name y) (list_any (λ x. bytes_eq x y) c.supers || list_any (λ x. bytes_eq x y) c.interfaces) (list_any (names y) (in_field_order (kin w c.interfaces) ++ in_field_order (kin w c.supers) ++ []))
-            ∙ ap (λ z. (bytes_eq z y || false) || list_any (names y) (in_field_order (Known c (kin w c.supers) (kin w c.interfaces) End))) (class_named-name w x c e)
-            ∙ ap (λ k. (bytes_eq x y || false) || list_any (names y) (in_field_order k)) (sym (kin-known w table.acyclic x c e))
+            ap (λ k. list_any (names y) (in_field_order k)) (supertypes-known w table.acyclic x c e)
+            ∙ absorbs (bytes_eq c.name y) (list_any (λ x. bytes_eq x y) c.supers || list_any (λ x. bytes_eq x y) c.interfaces) (list_any (names y) (in_field_order (supertypes w c.interfaces) ++ in_field_order (supertypes w c.supers) ++ []))
+            ∙ ap (λ z. (bytes_eq z y || false) || list_any (names y) (in_field_order (Known c (supertypes w c.supers) (supertypes w c.interfaces) End))) (class_named-name w x c e)
+            ∙ ap (λ k. (bytes_eq x y || false) || list_any (names y) (in_field_order k)) (sym (supertypes-known w table.acyclic x c e))
 
   -- ---- of no class
 
@@ -261,7 +261,7 @@ module _ (w : List Class) (rows : List (Option Above)) (table : IsTable w rows) 
   unfolding find_field
   none-field name desc e = sym (ap (field_in (own_field name desc)) (nowhere e))
 
-  pub none-interfaces : (name desc : List ℕ) → place_named w x ≡ None → None ≡ first (own_method false name desc) (known (gathered false (kin w (x ∷ []))))
+  pub none-interfaces : (name desc : List ℕ) → place_named w x ≡ None → None ≡ first (own_method false name desc) (known (gathered false (supertypes w (x ∷ []))))
   unfolding gathered known first
   none-interfaces name desc e = sym (ap (λ k. first (own_method false name desc) (known (gathered false k))) (nowhere e))
 

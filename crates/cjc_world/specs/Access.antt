@@ -3,7 +3,7 @@ use Rattle.std.specs.Prelude.{ℕ, List, Bool, not, ◌&&◌, ◌||◌, if◌the
 use Rattle.std.specs.Str.{bytes_eq}
 use Rattle.cjc_world.specs.Classes.{Class}
 use Rattle.cjc_bytes.specs.AccessFlags.{is_public, is_protected, is_private, is_static}
-use Rattle.cjc_world.specs.Kin.{is_below}
+use Rattle.cjc_world.specs.Supertypes.{is_below}
 
 -- Whether code of the class `holder`, which is of the package, may use a member with these flags that the class
 -- `owner` declares and that it names by the class `named`.

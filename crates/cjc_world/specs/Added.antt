@@ -8,7 +8,7 @@ use Rattle.cjc_classfile.specs.declared.tree.ClassTree.{ClassTree}
 use Rattle.cjc_world.specs.Files.{Files}
 use Rattle.cjc_world.specs.Classes.{Member, Class, declared, all_classes}
 use Rattle.cjc_bytes.specs.AccessFlags.{is_public, is_protected, is_static, is_interface, is_abstract}
-use Rattle.cjc_world.specs.Kin.{Kin, End, Unknown, Known, kin}
+use Rattle.cjc_world.specs.Supertypes.{Supertypes, End, Unknown, Known, supertypes}
 use Rattle.cjc_world.specs.Interfaces.{gathered, known}
 use Rattle.cjc_world.specs.Lookup.{is_called}
 
@@ -52,7 +52,7 @@ methods_of [] = []
 methods_of (c ∷ cs) = own_methods c ++ methods_of cs
 
 -- the methods of all interfaces, as far as some file has them, of a class with these supers and interfaces
-unfoldable pub asked_by : (supers interfaces : Kin) → List Member
+unfoldable pub asked_by : (supers interfaces : Supertypes) → List Member
 asked_by supers interfaces = methods_of (known (gathered false supers ++ gathered true interfaces))
 
 -- ---- what a class has
@@ -62,7 +62,7 @@ abbrev pub is_one_of : List Member → List ℕ → List ℕ → Bool
 is_one_of ms name desc = list_any (λ m. is_called name desc m) ms
 
 -- Whether some class of these or above declares such a method that is public or protected and not static, or gets it.
-unfoldable pub has_open : List ℕ → List ℕ → Kin → Bool
+unfoldable pub has_open : List ℕ → List ℕ → Supertypes → Bool
 has_open name desc End = false
 has_open name desc (Unknown x next) = has_open name desc next
 has_open name desc (Known c supers interfaces next) =
@@ -81,7 +81,7 @@ lacking is_there given (m ∷ ms) =
 unfoldable pub added : List Class → Class → List Member
 added w c =
     if takes_added c
-    then lacking (λ m. declares_open m.name m.desc c || has_open m.name m.desc (kin w c.supers)) [] (asked_by (kin w c.supers) (kin w c.interfaces))
+    then lacking (λ m. declares_open m.name m.desc c || has_open m.name m.desc (supertypes w c.supers)) [] (asked_by (supertypes w c.supers) (supertypes w c.interfaces))
     else []
 
 -- a method of the class of this name, by its own name and its descriptor

@@ -2,7 +2,7 @@
 use Rattle.std.specs.Prelude.{ℕ, List, [], ◌∷◌, ◌++◌, Bool, true, false, ◌||◌, if◌then◌else◌, Option, Some, None, option_to_list}
 use Rattle.std.specs.Str.{bytes_eq}
 use Rattle.cjc_world.specs.Classes.{Class}
-use Rattle.cjc_world.specs.Kin.{Kin, End, Unknown, Known, kin, is_one_named}
+use Rattle.cjc_world.specs.Supertypes.{Supertypes, End, Unknown, Known, supertypes, is_one_named}
 
 -- an interface by its name, with its class where some file has it
 pub record Interface : Type 0 where
@@ -16,7 +16,7 @@ where_listed false i = []
 
 -- The interfaces of some classes in turn: those of its supers, then each listed one preceded by its superinterfaces.
 -- Where the classes are listed interfaces themselves, each follows its own. One that is reached twice stands twice.
-unfoldable pub gathered : (listed : Bool) → Kin → List Interface
+unfoldable pub gathered : (listed : Bool) → Supertypes → List Interface
 gathered listed End = []
 gathered listed (Unknown name next) = where_listed listed (record { name = name; class = None }) ++ gathered listed next
 gathered listed (Known c supers interfaces next) =
@@ -34,7 +34,7 @@ each_once known (i ∷ is) = if is_among known i.name then each_once known is el
 
 -- The interfaces of the class of a name: its supers', then each listed one preceded by its superinterfaces, each once.
 unfoldable pub interfaces_of : List Class → List ℕ → List Interface
-interfaces_of w name = each_once [] (gathered false (kin w (name ∷ [])))
+interfaces_of w name = each_once [] (gathered false (supertypes w (name ∷ [])))
 
 -- those of them that some file has
 unfoldable pub known : List Interface → List Class
@@ -43,4 +43,4 @@ known (i ∷ is) = option_to_list i.class ++ known is
 
 -- whether some file has the second name, and its class is one of the interfaces of the class of the first
 unfoldable pub has_interface : List Class → (class interface : List ℕ) → Bool
-has_interface w class interface = is_one_named (known (gathered false (kin w (class ∷ [])))) interface
+has_interface w class interface = is_one_named (known (gathered false (supertypes w (class ∷ [])))) interface

@@ -2,7 +2,7 @@
 use Rattle.std.specs.Prelude.{◌≡◌, ℕ, List, [], ◌∷◌, true, false, Option, Some, None}
 use Rattle.cjc_world.specs.declared.found.Found.{Found}
 use Rattle.cjc_world.specs.Classes.{Class, class_named}
-use Rattle.cjc_world.specs.Kin.{line}
+use Rattle.cjc_world.specs.Supertypes.{line}
 use Rattle.cjc_world.specs.Lookup.{first, own_method, find_method}
 use Rattle.cjc_world.specs.Subtype.{is_subtype}
 

@@ -1,6 +1,6 @@
 pub mod Files
 pub mod Classes
-pub mod Kin
+pub mod Supertypes
 pub mod Interfaces
 pub mod Lookup
 pub mod Working

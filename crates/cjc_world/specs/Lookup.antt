@@ -5,7 +5,7 @@ use Rattle.std.specs.Str.{bytes_eq}
 use Rattle.cjc_world.specs.declared.found.Found.{Found}
 use Rattle.cjc_world.specs.Classes.{Member, Class, class_named}
 use Rattle.cjc_bytes.specs.AccessFlags.{is_private, is_static}
-use Rattle.cjc_world.specs.Kin.{Kin, End, Unknown, Known, kin, line}
+use Rattle.cjc_world.specs.Supertypes.{Supertypes, End, Unknown, Known, supertypes, line}
 use Rattle.cjc_world.specs.Interfaces.{known, gathered}
 
 -- what was found first, or else the second
@@ -34,14 +34,14 @@ own_field name desc c = option_map (λ i. member_at c i) (position (λ f. is_cal
 
 -- The class, then in the same way each listed interface in order, then in the same way the superclass, or each
 -- listed super in order.
-abbrev pub field_in : (Class → Option Found) → Kin → Option Found
+abbrev pub field_in : (Class → Option Found) → Supertypes → Option Found
 field_in own End = None
 field_in own (Unknown name next) = field_in own next
 field_in own (Known c supers interfaces next) = or_else (or_else (own c) (or_else (field_in own interfaces) (field_in own supers))) (field_in own next)
 
 -- the field of this name and descriptor, looked up from the class of this name on
 unfoldable pub find_field : List Class → (class name desc : List ℕ) → Option Found
-find_field w class name desc = field_in (own_field name desc) (kin w (class ∷ []))
+find_field w class name desc = field_in (own_field name desc) (supertypes w (class ∷ []))
 
 -- ---- methods
 
@@ -60,7 +60,7 @@ own_method selecting name desc c = option_map (λ i. member_at c (length c.field
 
 -- The class, then its superclasses going upwards, then its interfaces in order.
 unfoldable pub find_method : List Class → (class name desc : List ℕ) → Option Found
-find_method w class name desc = or_else (first (own_method false name desc) (line w class)) (first (own_method false name desc) (known (gathered false (kin w (class ∷ [])))))
+find_method w class name desc = or_else (first (own_method false name desc) (line w class)) (first (own_method false name desc) (known (gathered false (supertypes w (class ∷ [])))))
 
 -- the method that a class declares, private and static ones too; none where there is no class
 abbrev pub own_of : (name desc : List ℕ) → Option Class → Option Found
@@ -69,7 +69,7 @@ own_of name desc (Some c) = own_method false name desc c
 
 -- The method of an interface: its own, else that of the first of its superinterfaces, in their order, that declares one.
 unfoldable pub method_of_interface : List Class → (interface name desc : List ℕ) → Option Found
-method_of_interface w interface name desc = or_else (own_of name desc (class_named w interface)) (first (own_method false name desc) (known (gathered false (kin w (interface ∷ [])))))
+method_of_interface w interface name desc = or_else (own_of name desc (class_named w interface)) (first (own_method false name desc) (known (gathered false (supertypes w (interface ∷ [])))))
 
 -- the class above all others
 abbrev pub object : List ℕ

@@ -12,7 +12,7 @@ use Rattle.cjc_export.specs.declared.tree.ExportTree.{ExportTree}
 use Rattle.cjc_world.specs.Files.{Files}
 use Rattle.cjc_world.specs.Classes.{Member, Class, declared, numbered, size, all_classes, class_named}
 use Rattle.cjc_bytes.specs.AccessFlags.{is_interface}
-use Rattle.cjc_world.specs.Kin.{kin, stands, stands_above, is_below}
+use Rattle.cjc_world.specs.Supertypes.{supertypes, stands, stands_above, is_below}
 use Rattle.cjc_world.specs.Lookup.{is_called, object}
 use Rattle.cjc_world.specs.Added.{added}
 use Rattle.cjc_bytes.specs.Breaks.{Break, broken_at, class_spot, list_spot, member_spot}
@@ -108,7 +108,7 @@ is_own_super w c = stands_above w c.name c.name
 
 -- some class that stands above this one is its own super; a class on a cycle stands above itself
 unfoldable pub is_under_cycle : List Class → Class → Bool
-is_under_cycle w c = list_any (λ d. stands d.name (kin w (c.supers ++ c.interfaces)) && is_own_super w d) w
+is_under_cycle w c = list_any (λ d. stands d.name (supertypes w (c.supers ++ c.interfaces)) && is_own_super w d) w
 
 -- ---- 203 again: the descriptor of a method that an abstract class gets names a class that is in no file. Which
 -- ---- methods a class gets is told only where no cycle is at it or above it: else this counts as unbroken.

@@ -2,12 +2,12 @@
 use Rattle.std.specs.Prelude.{ℕ, ◌-◌, List, [], ◌∷◌, length, take, Bool, false, not, ◌&&◌, ◌||◌, ◌==◌, if◌then◌else◌}
 use Rattle.std.specs.Str.{bytes_eq}
 use Rattle.cjc_world.specs.Classes.{Class}
-use Rattle.cjc_world.specs.Kin.{kin, stands}
+use Rattle.cjc_world.specs.Supertypes.{supertypes, stands}
 use Rattle.cjc_world.specs.Lookup.{object}
 
 -- a class or interface, by its name: it is the other, or the other stands above it
 unfoldable pub is_subclass : List Class → List ℕ → List ℕ → Bool
-is_subclass w sub sup = stands sup (kin w (sub ∷ []))
+is_subclass w sub sup = stands sup (supertypes w (sub ∷ []))
 
 -- 91 is [, 76 is L
 abbrev pub starts : ℕ → List ℕ → Bool

@@ -7,4 +7,4 @@ pub mod Asked
 pub mod Known
 pub mod Spots
 pub mod Steps
-pub mod Drafts
+pub mod Unchecked

@@ -8,11 +8,11 @@ ghost use Rattle.cjc_world.specs.Added.{added, added_at, is_one_of, named_by, ow
 ghost use Rattle.cjc_world.specs.Working.Asked.{got, got_all, got_one, has_id, is_asked_at, is_had, is_open_at};
 ghost use Rattle.cjc_world.specs.Classes.{all_classes};
 ghost use Rattle.cjc_world.specs.Working.Known.{class_of};
-ghost use Rattle.cjc_world.specs.Working.Drafts.{is_number_ready};
+ghost use Rattle.cjc_world.specs.Working.Unchecked.{is_number_ready};
 ghost use Rattle.cjc_world.specs.Working.Tables.{are_ready, IsPart};
 
 use crate::class::Known;
-use crate::roster::Roster;
+use crate::class_index::ClassIndex;
 use crate::tables::{Above, Order, row_at};
 use cjc_bytes::{Bytes, MemberId, NoMemory, Row};
 use std::alloc::Global;
@@ -53,7 +53,7 @@ fn member_id(alloc: Global, class: &[u8], name: &[u8], desc: &[u8]) -> Result<Me
     Ok(MemberId { class, name, desc })
 }
 
-impl<'a> Roster<'a> {
+impl<'a> ClassIndex<'a> {
     fn is_asked_at(&self, place: u32, name: &[u8], desc: &[u8]) -> bool
         ensures { result ≡ is_asked_at (all_classes self.now) name.now desc.now place }
     {

@@ -3,14 +3,14 @@
 
 ghost use Rattle.std.specs.Prelude.{◌≡◌, ◌||◌, false, true, ℕ, List, Some, slice_get, unwrap_or, IfOk};
 ghost use Rattle.cjc_world.specs.Classes.{all_classes};
-ghost use Rattle.cjc_world.specs.Kin.{is_below, stands_above};
+ghost use Rattle.cjc_world.specs.Supertypes.{is_below, stands_above};
 ghost use Rattle.cjc_world.specs.Rules.{throwable};
 ghost use Rattle.cjc_world.specs.Working.Known.{class_of};
 ghost use Rattle.cjc_world.specs.Working.Places.{has_name, place_named};
 ghost use Rattle.cjc_world.specs.Working.Steps.{any_stands, AreCycles, class_stands, IsBegun, IsDone, IsStep, name_stands, name_stands_at};
 
 use crate::class::Known;
-use crate::roster::Roster;
+use crate::class_index::ClassIndex;
 use crate::rules::THROWABLE;
 use cjc_bytes::{Bytes, NoMemory, Row};
 use std::alloc::Global;
@@ -42,7 +42,7 @@ fn name_stands_at(known: &[bool], name: &[u8], other: &[u8], place: Option<u32>)
     }
 }
 
-impl<'a> Roster<'a> {
+impl<'a> ClassIndex<'a> {
     fn name_stands(&self, known: &[bool], name: &[u8], other: &[u8]) -> bool
         ensures { result ≡ name_stands (all_classes self.now) name.now known.now other.now }
     {

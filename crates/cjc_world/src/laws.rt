@@ -3,7 +3,7 @@
 ghost use Rattle.std.specs.Prelude.{◌≡◌, ℕ, List, []};
 ghost use Rattle.cjc_world.specs.Classes.{Class, all_classes};
 ghost use Rattle.cjc_world.specs.Files.{Files};
-ghost use Rattle.cjc_world.specs.Kin.{IsAcyclic, IsKin, Kin, StandsWhereAbove, kin};
+ghost use Rattle.cjc_world.specs.Supertypes.{IsAcyclic, AreSupertypes, Supertypes, StandsWhereAbove, supertypes};
 ghost use Rattle.cjc_world.specs.Rules.{breaks};
 ghost use Rattle.cjc_world.specs.Laws.{IsReflexive, IsTransitive, LineGoesUp, LookupGoesUp, SelectionGoesUp};
 
@@ -16,11 +16,11 @@ pub fn subtype_laws()
 {}
 
 /// A package that breaks no rule has no cycles. Without cycles there is one tree of what stands above some
-/// names, and `kin` is it. Look-up and selection from a class go through its superclass.
+/// names, and `supertypes` is it. Look-up and selection from a class go through its superclass.
 pub fn lookup_laws()
     ensures acyclic { (list : List ℕ) (files : Files) → breaks list files ≡ [] → IsAcyclic (all_classes files) }
-    ensures is_kin { (w : List Class) → IsAcyclic w → (xs : List (List ℕ)) → IsKin w xs (kin w xs) }
-    ensures one_kin { (w : List Class) (xs : List (List ℕ)) (j k : Kin) → IsKin w xs j → IsKin w xs k → j ≡ k }
+    ensures are_supertypes { (w : List Class) → IsAcyclic w → (xs : List (List ℕ)) → AreSupertypes w xs (supertypes w xs) }
+    ensures one_supertypes { (w : List Class) (xs : List (List ℕ)) (j k : Supertypes) → AreSupertypes w xs j → AreSupertypes w xs k → j ≡ k }
     ensures line { (w : List Class) → IsAcyclic w → LineGoesUp w }
     ensures selection { (w : List Class) → IsAcyclic w → SelectionGoesUp w }
     ensures lookup { (w : List Class) → IsAcyclic w → LookupGoesUp w }

@@ -6,17 +6,17 @@
 mod added;
 mod circular;
 mod class;
-mod draft;
+mod class_index;
 mod found;
 mod image;
 mod laws;
 mod lookup;
 mod names;
 mod numbers;
-mod roster;
 mod rules;
 mod spot;
 mod tables;
+mod unchecked;
 mod world;
 
 pub use class::Known;

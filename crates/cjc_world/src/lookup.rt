@@ -6,7 +6,7 @@ ghost use Rattle.std.specs.List.{list_any};
 ghost use Rattle.std.specs.Str.{bytes_eq};
 ghost use Rattle.cjc_world.specs.Classes.{all_classes, class_named};
 ghost use Rattle.cjc_world.specs.Interfaces.{gathered, has_interface, known};
-ghost use Rattle.cjc_world.specs.Kin.{is_below, kin, line};
+ghost use Rattle.cjc_world.specs.Supertypes.{is_below, supertypes, line};
 ghost use Rattle.cjc_world.specs.Working.Known.{class_of};
 ghost use Rattle.cjc_world.specs.Lookup.{find_field, find_method, first, method_of_interface, own_method, own_of};
 ghost use Rattle.cjc_world.specs.Subtype.{is_subclass};
@@ -14,8 +14,8 @@ ghost use Rattle.cjc_world.specs.Working.Tables.{IsTable};
 ghost use Rattle.cjc_world.specs.Working.Places.{field_of, first_place, has_name, method_of, names, names_of, names_super, names_super_of};
 
 use crate::class::Known;
+use crate::class_index::ClassIndex;
 use crate::found::Found;
-use crate::roster::Roster;
 use crate::tables::{Above, Order, row_at};
 use cjc_bytes::Bytes;
 
@@ -39,7 +39,7 @@ fn is_naming_super(class: Known<'_, '_>, name: &[u8]) -> bool
     class.name() == name || any_is(class.supers(), name)
 }
 
-impl<'a> Roster<'a> {
+impl<'a> ClassIndex<'a> {
     fn field_in(&self, place: u32, name: &[u8], desc: &[u8]) -> Option<Found>
         ensures { result ≡ field_of name.now desc.now (slice_get (all_classes self.now) place) }
     {
@@ -226,7 +226,7 @@ impl<'a> Roster<'a> {
         desc: &[u8],
     ) -> Option<Found>
         requires { IsTable (all_classes self.now) rows.now }
-        ensures { result ≡ first (own_method false name.now desc.now) (known (gathered false (kin (all_classes self.now) (class.now ∷ [])))) }
+        ensures { result ≡ first (own_method false name.now desc.now) (known (gathered false (supertypes (all_classes self.now) (class.now ∷ [])))) }
     {
         match self.place_named(class) {
             Some(place) => {

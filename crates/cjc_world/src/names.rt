@@ -5,7 +5,7 @@ ghost use Rattle.std.specs.Prelude.{◌≡◌, ◌<◌, ◌^◌, ℕ, List, leng
 ghost use Rattle.std.specs.Str.{bytes_eq};
 ghost use Rattle.cjc_world.specs.Working.Names.{place_in, spot_named};
 
-use crate::spot::{Spot, known};
+use crate::spot::{ClassPlace, known};
 use cjc_bytes::NoMemory;
 use cjc_classfile::ClassTree;
 use cjc_export::ExportTree;
@@ -48,7 +48,7 @@ impl Names {
 /// The names of the classes that these spots mean, each at the place of the first class that has it.
 pub(crate) fn names_of<'w>(
     alloc: Global,
-    spots: &[Spot],
+    spots: &[ClassPlace],
     classes: &'w [ClassTree<'w>],
     exports: &'w [ExportTree],
 ) -> Result<Names, NoMemory>

@@ -4,7 +4,7 @@
 ghost use Rattle.std.specs.Prelude.{◌≡◌, ◌<◌, ◌^◌, false, true, length, slice_get, IfOk};
 ghost use Rattle.cjc_world.specs.Working.Numbers.{is_of_kind, places_in, places_of};
 
-use crate::spot::Spot;
+use crate::spot::ClassPlace;
 use cjc_bytes::{NoMemory, Row};
 use std::alloc::Global;
 
@@ -30,14 +30,14 @@ impl Numbers {
 }
 
 /// Whether a class is of a kind.
-fn is_of_kind(imported: bool, spot: &Spot) -> bool
+fn is_of_kind(imported: bool, spot: &ClassPlace) -> bool
     ensures { result ≡ is_of_kind imported spot.now.imported }
 {
     if spot.imported { imported } else { !imported }
 }
 
 /// The places of the spots of one kind, in order.
-fn places_of(alloc: Global, spots: &[Spot], imported: bool) -> Result<Row<u32>, NoMemory>
+fn places_of(alloc: Global, spots: &[ClassPlace], imported: bool) -> Result<Row<u32>, NoMemory>
     requires { length spots.now < 2 ^ 32 }
     ensures { IfOk result (λ places. places ≡ places_of imported 0 spots.now) }
 {
@@ -51,7 +51,7 @@ fn places_of(alloc: Global, spots: &[Spot], imported: bool) -> Result<Row<u32>, 
 }
 
 /// The places of the spots of both kinds.
-pub(crate) fn numbers_of(alloc: Global, spots: &[Spot]) -> Result<Numbers, NoMemory>
+pub(crate) fn numbers_of(alloc: Global, spots: &[ClassPlace]) -> Result<Numbers, NoMemory>
     requires { length spots.now < 2 ^ 32 }
     ensures declared { IfOk result (λ n. n.declared ≡ places_of false 0 spots.now) }
     ensures imported { IfOk result (λ n. n.imported ≡ places_of true 0 spots.now) }

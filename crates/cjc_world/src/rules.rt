@@ -7,18 +7,18 @@ ghost use Rattle.std.specs.List.{list_any, list_all};
 ghost use Rattle.std.specs.Str.{bytes_eq};
 ghost use Rattle.cjc_world.specs.Classes.{all_classes, class_named, numbered};
 ghost use Rattle.cjc_bytes.specs.AccessFlags.{is_interface};
-ghost use Rattle.cjc_world.specs.Working.Drafts.{IsHeld};
-ghost use Rattle.cjc_world.specs.Kin.{is_below, stands_above};
+ghost use Rattle.cjc_world.specs.Working.Unchecked.{IsHeld};
+ghost use Rattle.cjc_world.specs.Supertypes.{is_below, stands_above};
 ghost use Rattle.cjc_world.specs.Working.Known.{class_of};
 ghost use Rattle.cjc_world.specs.Lookup.{object};
 ghost use Rattle.cjc_world.specs.Rules.{breaks, breaks_from, class_breaks, class_file_breaks, classes_breaks, export_file_breaks, is_second_package, class_rules, is_earlier, member_rules, members, members_before, members_from, told, gets_missing, has_array_exceptions, has_class, has_exception, has_language, has_needed, has_other_exceptions, has_roots, head, is_class_of, is_desc_missing, is_element_missing, is_interface_of, is_missing, is_of_class_file, is_of_package, is_part, is_part_byte, is_second, is_slash_part, is_type_missing, lists_missing, lists_wrong, same_place, throwable};
 
 use crate::class::Known;
-use crate::draft::Draft;
-use crate::roster::Roster;
+use crate::class_index::ClassIndex;
 use crate::spot::{size, sum};
+use crate::unchecked::UncheckedWorld;
 use crate::world::OBJECT;
-use cjc_bytes::{Break, Bytes, Desc, FileKey, MemberId, NoMemory, Part, PlaceRef, Spot};
+use cjc_bytes::{Break, Bytes, Desc, FileKey, MemberId, NoMemory, Part, PlaceRef, RulePlace};
 use cjc_export::{ExportClass, ExportTree};
 
 const LANGUAGE: &[u8] = b"java/lang";
@@ -87,7 +87,7 @@ fn has_roots(tree: &ExportTree) -> bool
     has_class(tree, OBJECT) && has_class(tree, THROWABLE)
 }
 
-impl<'a> Roster<'a> {
+impl<'a> ClassIndex<'a> {
     fn is_missing(&self, name: &[u8]) -> bool
         ensures { result ≡ is_missing (all_classes self.now) name.now }
     {
@@ -279,7 +279,7 @@ impl<'a> Roster<'a> {
             if let Some(rule) = self.member_rule(known, field, place, name, desc) {
                 return Some(Break {
                     rule,
-                    spot: Spot {
+                    spot: RulePlace {
                         file,
                         class,
                         member: member_number(known, field, place),
@@ -307,13 +307,14 @@ impl<'a> Roster<'a> {
     }
 }
 
-fn any_desc_missing<'w>(roster: &Roster<'w>, ids: &[MemberId]) -> bool
-    ensures { result ≡ list_any (λ i. is_desc_missing (all_classes roster.now) i.desc) ids.now }
+fn any_desc_missing<'w>(class_index: &ClassIndex<'w>, ids: &[MemberId]) -> bool
+    ensures { result ≡ list_any (λ i. is_desc_missing (all_classes class_index.now) i.desc) ids.now }
 {
-    ids.iter().any(|id| roster.is_desc_missing(id.desc.items()))
+    ids.iter()
+        .any(|id| class_index.is_desc_missing(id.desc.items()))
 }
 
-impl<'a> Draft<'a> {
+impl<'a> UncheckedWorld<'a> {
     /// Whether a method that a class gets from its interfaces names a class that is in no file.
     fn gets_missing(&self, class: Known<'_, 'a>) -> bool
         requires { IsHeld self.now class }
@@ -322,8 +323,8 @@ impl<'a> Draft<'a> {
         match class {
             Known::Declared(number, _) => {
                 let added = self.tables.added.items();
-                self.roster.are_ready(self.tables.above.items(), class)
-                    && any_desc_missing(&self.roster, added[number as usize].items())
+                self.class_index.are_ready(self.tables.above.items(), class)
+                    && any_desc_missing(&self.class_index, added[number as usize].items())
             }
             Known::Imported(..) => false,
         }
@@ -335,17 +336,17 @@ impl<'a> Draft<'a> {
         requires { IsHeld self.now class }
         ensures { result ≡ head (class_rules self.now.package_name (all_classes self.now) (class_of class.entry)) }
     {
-        if !class.is_imported() && !is_of_package(self.roster.package(), class.name()) {
+        if !class.is_imported() && !is_of_package(self.class_index.package(), class.name()) {
             Some(201)
-        } else if self.roster.is_second(class) {
+        } else if self.class_index.is_second(class) {
             Some(202)
         } else if !class.is_imported()
-            && (self.roster.lists_missing(class) || self.gets_missing(class))
+            && (self.class_index.lists_missing(class) || self.gets_missing(class))
         {
             Some(203)
         } else if self.is_own_super(class.name()) {
             Some(204)
-        } else if self.roster.lists_wrong(class) {
+        } else if self.class_index.lists_wrong(class) {
             Some(208)
         } else {
             None
@@ -358,7 +359,7 @@ impl<'a> Draft<'a> {
     {
         match &self.cycles {
             None => false,
-            Some(cycles) => self.roster.is_own_super(cycles, class),
+            Some(cycles) => self.class_index.is_own_super(cycles, class),
         }
     }
 
@@ -368,9 +369,9 @@ impl<'a> Draft<'a> {
     {
         match &self.cycles {
             None => self
-                .roster
+                .class_index
                 .is_below(self.tables.above.items(), class, THROWABLE),
-            Some(cycles) => self.roster.is_throwable(cycles, class),
+            Some(cycles) => self.class_index.is_throwable(cycles, class),
         }
     }
 
@@ -428,7 +429,7 @@ impl<'a> Draft<'a> {
     ) -> Option<Break<'w>>
         ensures { option_map break_of result ≡ head (members_from file file_name.now class (all_classes self.now) (class_of known.entry) field 0 (members field (class_of known.entry))) }
     {
-        self.roster
+        self.class_index
             .member_break(file, file_name, class, known, field)
     }
 
@@ -446,7 +447,7 @@ impl<'a> Draft<'a> {
         if let Some(rule) = self.class_rule(known) {
             return Some(Break {
                 rule,
-                spot: Spot {
+                spot: RulePlace {
                     file,
                     class,
                     member: 0,
@@ -517,10 +518,10 @@ impl<'a> Draft<'a> {
             None => return Ok(None),
         };
         sum(number, tree.classes.items().len())?;
-        if self.roster.is_second_package(place, tree) {
+        if self.class_index.is_second_package(place, tree) {
             return Ok(Some(Break {
                 rule: 202,
-                spot: Spot {
+                spot: RulePlace {
                     file,
                     class: 0,
                     member: 0,
@@ -574,7 +575,7 @@ impl<'a> Draft<'a> {
         if !self.has_language() {
             return Ok(Some(Break {
                 rule: 207,
-                spot: Spot {
+                spot: RulePlace {
                     file: FileKey::List,
                     class: 0,
                     member: 0,

@@ -16,7 +16,7 @@ use std::alloc::Global;
 
 /// The place of a class in the trees of a world.
 #[derive(Clone, Copy)]
-pub(crate) struct Spot {
+pub(crate) struct ClassPlace {
     /// Whether it is a class of an export file.
     pub imported: bool,
     /// Which class file or which export file.
@@ -31,7 +31,7 @@ pub(crate) struct Spot {
 pub(crate) fn known<'w, 'a>(
     classes: &'w [ClassTree<'a>],
     exports: &'w [ExportTree],
-    spot: &Spot,
+    spot: &ClassPlace,
 ) -> Option<Known<'w, 'a>>
     ensures { option_map class_of result ≡ at classes.now exports.now spot.now }
 {
@@ -79,14 +79,18 @@ fn is_export_counted(class: &ExportClass) -> bool
 }
 
 /// Puts the spot of a class file at the end.
-fn put_class(spots: &mut Vec<Spot>, classes: &[ClassTree<'_>], place: u32) -> Result<(), NoMemory>
+fn put_class(
+    spots: &mut Vec<ClassPlace>,
+    classes: &[ClassTree<'_>],
+    place: u32,
+) -> Result<(), NoMemory>
     ensures { (exports : List ExportFile) → OnOk result (Grows classes.now exports spots.old.items spots.new.items (of_class_file place (slice_get classes.now place))) }
 {
     if let Some(class) = classes.get(place as usize) {
         if !is_counted(class) {
             return Err(NoMemory);
         }
-        spots.push(Spot {
+        spots.push(ClassPlace {
             imported: false,
             tree: place,
             class: 0,
@@ -109,12 +113,17 @@ fn are_counted(classes: &[ExportClass]) -> bool
 }
 
 /// Puts the spots of so many classes of an export file at the end.
-fn put_each(spots: &mut Vec<Spot>, place: u32, number: u32, count: u32) -> Result<(), NoMemory>
+fn put_each(
+    spots: &mut Vec<ClassPlace>,
+    place: u32,
+    number: u32,
+    count: u32,
+) -> Result<(), NoMemory>
     requires { number + count < 2 ^ 32 }
     ensures { OnOk result (spots.new.items ≡ spots.old.items ++ spots_from place number 0 count) }
 {
     for class in 0..count {
-        spots.push(Spot {
+        spots.push(ClassPlace {
             imported: true,
             tree: place,
             class,
@@ -126,7 +135,7 @@ fn put_each(spots: &mut Vec<Spot>, place: u32, number: u32, count: u32) -> Resul
 
 /// Puts the spots of an export file at the end.
 fn put_export(
-    spots: &mut Vec<Spot>,
+    spots: &mut Vec<ClassPlace>,
     exports: &[ExportTree],
     place: u32,
     number: u32,
@@ -149,7 +158,7 @@ pub(crate) fn index(
     lines: &[FileLine],
     classes: &[ClassTree<'_>],
     exports: &[ExportTree],
-) -> Result<Row<Spot>, NoMemory>
+) -> Result<Row<ClassPlace>, NoMemory>
     ensures { IfOk result (λ spots. IsIndexed lines.now classes.now exports.now spots) }
 {
     let mut spots = Vec::new(alloc);

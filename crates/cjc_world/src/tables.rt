@@ -4,14 +4,14 @@
 ghost use Rattle.std.specs.Prelude.{◌≡◌, ◌<◌, ◌+◌, ℕ, [], ◌∷◌, false, true, length, is_some, slice_get, IfOk, OnOk};
 ghost use Rattle.std.specs.List.{list_all};
 ghost use Rattle.cjc_world.specs.Classes.{all_classes};
-ghost use Rattle.cjc_world.specs.Kin.{IsAcyclic};
+ghost use Rattle.cjc_world.specs.Supertypes.{IsAcyclic};
 ghost use Rattle.cjc_world.specs.declared.tables.Order.TheVariants as orders;
 ghost use Rattle.cjc_world.specs.Working.Known.{class_of};
 ghost use Rattle.cjc_world.specs.Working.Places.{is_in, joined};
 ghost use Rattle.cjc_world.specs.Working.Tables.{above_at, are_ready, Closer, is_ready, is_ready_at, is_row, IsPart, piece, pieces, row_at, row_in};
 
 use crate::class::Known;
-use crate::roster::Roster;
+use crate::class_index::ClassIndex;
 use cjc_bytes::{Bytes, NoMemory, Row};
 use std::alloc::Global;
 use std::marker::Model;
@@ -154,7 +154,7 @@ fn is_ready_at(rows: &[Option<Above>], place: Option<u32>) -> bool
     }
 }
 
-impl<'a> Roster<'a> {
+impl<'a> ClassIndex<'a> {
     /// Whether a name is of no class, or the row of its class is there.
     fn is_ready(&self, rows: &[Option<Above>], name: &[u8]) -> bool
         ensures { result ≡ is_ready (all_classes self.now) rows.now name.now }

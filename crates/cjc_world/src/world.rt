@@ -8,7 +8,7 @@ ghost use Rattle.cjc_bytes.specs.Breaks.{IsFirstRefusal};
 ghost use Rattle.cjc_world.specs.Rules.{breaks};
 ghost use Rattle.cjc_world.specs.Added.{added_at};
 ghost use Rattle.cjc_world.specs.Exported.{is_exported, is_imported, is_shareable};
-ghost use Rattle.cjc_world.specs.Kin.{IsAcyclic, is_below, kin, once, upwards};
+ghost use Rattle.cjc_world.specs.Supertypes.{IsAcyclic, is_below, supertypes, once, upwards};
 ghost use Rattle.cjc_world.specs.Interfaces.{each_once, gathered, has_interface, known};
 ghost use Rattle.cjc_world.specs.Working.Known.{class_of};
 ghost use Rattle.cjc_world.specs.Working.Places.{at_places};
@@ -18,10 +18,10 @@ ghost use Rattle.cjc_world.specs.Working.Tables.{IsTable};
 ghost use Rattle.cjc_world.specs.Lookup.{find_field, find_method, method_of_interface, receiver, selected};
 
 use crate::class::Known;
-use crate::draft::{Draft, Tables};
+use crate::class_index::ClassIndex;
 use crate::found::Found;
-use crate::roster::Roster;
 use crate::tables::Above;
+use crate::unchecked::{Tables, UncheckedWorld};
 use cjc_bytes::{Fault, FileLine, MemberId, NoMemory, Row, is_public};
 use cjc_classfile::ClassTree;
 use cjc_export::ExportTree;
@@ -35,14 +35,14 @@ const SHAREABLE: &[u8] = b"javacard/framework/Shareable";
 
 /// A package with the export files that it stands on.
 pub struct World<'a> {
-    roster: Roster<'a>,
+    class_index: ClassIndex<'a>,
     tables: Tables,
 }
 
 impl Drop for World<'_> {
     fn drop(self) {
         let World {
-            roster: _roster,
+            class_index: _class_index,
             tables: _tables,
         } = self;
     }
@@ -50,13 +50,13 @@ impl Drop for World<'_> {
 
 impl<'a> Model for World<'a> {
     ghost use Rattle.cjc_world.specs.Files.{Files};
-    ghost use Rattle.cjc_world.specs.Working.Drafts.{AreTables};
+    ghost use Rattle.cjc_world.specs.Working.Unchecked.{AreTables};
 
     ghost Value = { Files };
 
-    ghost view = { λ w. w.roster };
+    ghost view = { λ w. w.class_index };
 
-    ghost invariant = { λ w. AreTables w.roster w.tables };
+    ghost invariant = { λ w. AreTables w.class_index w.tables };
 }
 
 impl<'a> World<'a> {
@@ -75,41 +75,44 @@ impl<'a> World<'a> {
         ensures unbroken { OnOk result (breaks list.now (files_of package_name.now lines classes.entry exports) ≡ []) }
         ensures refused { IfErr result (IsFirstRefusal (breaks list.now (files_of package_name.now lines classes.entry exports))) }
     {
-        let roster = Roster::new(alloc, package_name, lines, classes, exports)?;
-        let draft = Draft::new(alloc, roster)?;
-        if let Some(fault) = draft.first_fault(alloc, list) {
+        let class_index = ClassIndex::new(alloc, package_name, lines, classes, exports)?;
+        let unchecked = UncheckedWorld::new(alloc, class_index)?;
+        if let Some(fault) = unchecked.first_fault(alloc, list) {
             return Err(fault);
         }
-        let (roster, tables) = draft.into_parts();
-        Ok(World { roster, tables })
+        let (class_index, tables) = unchecked.into_parts();
+        Ok(World {
+            class_index,
+            tables,
+        })
     }
 
     /// The class files, in list order.
     pub fn classes(&self) -> &Row<ClassTree<'a>>
         ensures { result.now ≡ self.now.classes }
     {
-        self.roster.classes()
+        self.class_index.classes()
     }
 
     /// The export files, in list order.
     pub fn exports(&self) -> &Row<ExportTree>
         ensures { result.now ≡ self.now.exports }
     {
-        self.roster.exports()
+        self.class_index.exports()
     }
 
     /// The lines of the list that name files.
     pub fn lines(&self) -> &Row<FileLine>
         ensures { result.now ≡ self.now.lines }
     {
-        self.roster.lines()
+        self.class_index.lines()
     }
 
     /// The package's name.
     pub fn package(&self) -> &[u8]
         ensures { result.now ≡ self.now.package_name }
     {
-        self.roster.package()
+        self.class_index.package()
     }
 
     /// The first class of a name, in the order of the list.
@@ -117,7 +120,7 @@ impl<'a> World<'a> {
         ensures named { option_map class_of result ≡ class_named (all_classes self.now) name.now }
         ensures counted { IfSome result (λ k. IsCounted (class_of k)) }
     {
-        self.roster.class_named(name)
+        self.class_index.class_named(name)
     }
 
     /// The class that a look-up means by its number: among the package's classes, or among those of all export files.
@@ -125,7 +128,7 @@ impl<'a> World<'a> {
         ensures at { option_map class_of result ≡ class_at (all_classes self.now) imported class }
         ensures counted { IfSome result (λ k. IsCounted (class_of k)) }
     {
-        self.roster.class_at(imported, class)
+        self.class_index.class_at(imported, class)
     }
 
     /// The class at a place in the order of the list.
@@ -133,23 +136,23 @@ impl<'a> World<'a> {
         ensures at { option_map class_of result ≡ slice_get (all_classes self.now) place }
         ensures counted { IfSome result (λ k. IsCounted (class_of k)) }
     {
-        self.roster.class_in(place)
+        self.class_index.class_in(place)
     }
 
     /// The interfaces of a class that some file has, in order, each once, as places in the order of the list.
     pub fn interfaces(&self, alloc: Global, class: Known<'_, '_>) -> Result<Row<u32>, NoMemory>
-        ensures { IfOk result (λ places. at_places (all_classes self.now) places ≡ known (each_once [] (gathered false (kin (all_classes self.now) (class_of class.entry).supers) ++ gathered true (kin (all_classes self.now) (class_of class.entry).interfaces)))) }
+        ensures { IfOk result (λ places. at_places (all_classes self.now) places ≡ known (each_once [] (gathered false (supertypes (all_classes self.now) (class_of class.entry).supers) ++ gathered true (supertypes (all_classes self.now) (class_of class.entry).interfaces)))) }
     {
-        let places = self.roster.interfaces(alloc, self.rows(), class)?;
+        let places = self.class_index.interfaces(alloc, self.rows(), class)?;
         Ok(places)
     }
 
     /// The superclasses of a class going upwards, of an imported class the supers that its file lists in the order
     /// of the file, each once, as places in the order of the list.
     pub fn superclasses(&self, alloc: Global, class: Known<'_, '_>) -> Result<Row<u32>, NoMemory>
-        ensures { IfOk result (λ places. at_places (all_classes self.now) places ≡ once [] (upwards (kin (all_classes self.now) (class_of class.entry).supers))) }
+        ensures { IfOk result (λ places. at_places (all_classes self.now) places ≡ once [] (upwards (supertypes (all_classes self.now) (class_of class.entry).supers))) }
     {
-        let places = self.roster.line_above(alloc, self.rows(), class)?;
+        let places = self.class_index.line_above(alloc, self.rows(), class)?;
         Ok(places)
     }
 
@@ -179,7 +182,7 @@ impl<'a> World<'a> {
     pub fn is_subclass(&self, sub: &[u8], sup: &[u8]) -> bool
         ensures { result ≡ is_subclass (all_classes self.now) sub.now sup.now }
     {
-        self.roster.is_subclass(self.rows(), sub, sup)
+        self.class_index.is_subclass(self.rows(), sub, sup)
     }
 
     /// Whether a name is that of a class or of a superclass of it: the way up goes by superclasses, of an imported
@@ -187,14 +190,15 @@ impl<'a> World<'a> {
     pub fn is_below(&self, sub: &[u8], sup: &[u8]) -> bool
         ensures { result ≡ is_below (all_classes self.now) sub.now sup.now }
     {
-        self.roster.is_below(self.rows(), sub, sup)
+        self.class_index.is_below(self.rows(), sub, sup)
     }
 
     /// Whether the class of a name, which some file has, is one of the interfaces of another.
     pub fn has_interface(&self, class: &[u8], interface: &[u8]) -> bool
         ensures { result ≡ has_interface (all_classes self.now) class.now interface.now }
     {
-        self.roster.has_interface(self.rows(), class, interface)
+        self.class_index
+            .has_interface(self.rows(), class, interface)
     }
 
     /// Whether elements of one type are of another. Both are descriptors.
@@ -266,7 +270,7 @@ impl<'a> World<'a> {
     pub fn find_field(&self, id: &MemberId) -> Option<Found>
         ensures { result ≡ find_field (all_classes self.now) id.now.class id.now.name id.now.desc }
     {
-        self.roster.find_field(
+        self.class_index.find_field(
             self.rows(),
             id.class.items(),
             id.name.items(),
@@ -279,7 +283,7 @@ impl<'a> World<'a> {
     pub fn find_method(&self, id: &MemberId) -> Option<Found>
         ensures { result ≡ find_method (all_classes self.now) id.now.class id.now.name id.now.desc }
     {
-        self.roster.find_method(
+        self.class_index.find_method(
             self.rows(),
             id.class.items(),
             id.name.items(),
@@ -292,7 +296,7 @@ impl<'a> World<'a> {
     pub fn method_of_interface(&self, interface: &[u8], name: &[u8], desc: &[u8]) -> Option<Found>
         ensures { result ≡ method_of_interface (all_classes self.now) interface.now name.now desc.now }
     {
-        self.roster
+        self.class_index
             .method_of_interface(self.rows(), interface, name, desc)
     }
 
@@ -303,7 +307,7 @@ impl<'a> World<'a> {
     pub fn selected(&self, class: &[u8], id: &MemberId) -> Option<Found>
         ensures { result ≡ selected (all_classes self.now) class.now id.now.name id.now.desc }
     {
-        self.roster.method_above(
+        self.class_index.method_above(
             self.rows(),
             true,
             receiver(class),

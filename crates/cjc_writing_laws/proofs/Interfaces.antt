@@ -38,18 +38,18 @@ use Rattle.cjc_vtable.proofs.Filed.{Has, at-number, behind, get-has}
 use Rattle.cjc_vtable.proofs.Filed as filed
 use Rattle.cjc_vtable.proofs.SlotNames.{get-behind, position-at}
 use Rattle.cjc_world.proofs.Cycles.{class_named-name}
-use Rattle.cjc_world.proofs.Settled.{kin-known}
+use Rattle.cjc_world.proofs.Settled.{supertypes-known}
 use Rattle.cjc_world.specs.Added.{added, asked_by, declares_open, has_open, lacking, own_methods, takes_added}
 use Rattle.cjc_world.specs.Classes.{Class, Member, class_named, declared, field_of_class, method_of_class}
 use Rattle.cjc_world.specs.Exported.{is_exported}
 use Rattle.cjc_world.specs.Interfaces.{gathered, known}
-use Rattle.cjc_world.specs.Kin.{End, Kin, Known, kin}
+use Rattle.cjc_world.specs.Supertypes.{End, Supertypes, Known, supertypes}
 use Rattle.cjc_world.specs.Lookup.{first, is_called, is_wanted, member_at, method_of_interface, or_else, own_method, own_of}
 use Rattle.cjc_world.specs.Rules.{is_twice}
 use Rattle.cjc_world.specs.declared.found.Found.{Found}
 use Rattle.cjc_written_laws.proofs.FittingLaws.Exported.{or_first}
 use Rattle.cjc_written_laws.proofs.FittingLaws.Interfaces.{are_asked, has_front}
-use Rattle.cjc_written_laws.proofs.FittingLaws.Limited.{acyclic, few_imports, is_kin, tokens, unbroken}
+use Rattle.cjc_written_laws.proofs.FittingLaws.Limited.{acyclic, few_imports, are_supertypes, tokens, unbroken}
 use Rattle.cjc_written_laws.proofs.FittingLaws.Lists.{mapped_at}
 use Rattle.cjc_written_laws.proofs.FittingLaws.Meant.{IsMethodRead, named_method}
 use Rattle.cjc_written_laws.proofs.FittingLaws.Order.{has_back, has_either, has_none}
@@ -102,7 +102,7 @@ first_in own (c ∷ cs) f e = by (own c) refl e (first_in own cs f)
     by (Some g) k h rest = (c, filed.at_front, k ∙ h)
     by None k h rest = let r = rest h in (r.0, behind r.1, r.2)
 
-above : (c : Class) (supers interfaces : Kin) → gathered false (Known c supers interfaces End) ≡ gathered false supers ++ gathered true interfaces
+above : (c : Class) (supers interfaces : Supertypes) → gathered false (Known c supers interfaces End) ≡ gathered false supers ++ gathered true interfaces
 unfolding gathered
 above c supers interfaces = append-nil ((gathered false supers ++ gathered true interfaces) ++ []) ∙ append-nil (gathered false supers ++ gathered true interfaces)
 
@@ -186,16 +186,16 @@ module _ (list : ListTree) (files : List (List ℕ)) (judged : Judged) (p : Pack
   unfolding interface_methods
   signed_plain i s e =
       let d = c in
-      let all = asked_by (kin w d.supers) (kin w d.interfaces) ++ own_methods c in
+      let all = asked_by (supertypes w d.supers) (supertypes w d.interfaces) ++ own_methods c in
       let r = mapped_has signature_of s all (new_has [] (map signature_of all) i s e) in
-      ap (λ (u : Signature). is_initialiser u.name) (sym r.2) ∙ asked_plain (kin w d.supers) (kin w d.interfaces) c r.0 r.1
+      ap (λ (u : Signature). is_initialiser u.name) (sym r.2) ∙ asked_plain (supertypes w d.supers) (supertypes w d.interfaces) c r.0 r.1
 
   signed_once : (i : ℕ) (s : Signature) → slice_get its_methods i ≡ Some s → position (λ u. same u s) its_methods ≡ Some i
   unfolding interface_methods
-  signed_once i s e = let d = c in new_once [] (map signature_of (asked_by (kin w d.supers) (kin w d.interfaces) ++ own_methods c)) i s e
+  signed_once i s e = let d = c in new_once [] (map signature_of (asked_by (supertypes w d.supers) (supertypes w d.interfaces) ++ own_methods c)) i s e
 
   own_signed : (k : ℕ) (m : Member) → slice_get methods k ≡ Some m → is_initialiser m.name ≡ false → (i : ℕ) × (slice_get its_methods i ≡ Some (signature_of m))
-  own_signed k m e plain = let d = c in has_token w c m (own_kept_there (kin w d.supers) (kin w d.interfaces) c refl k m e plain)
+  own_signed k m e plain = let d = c in has_token w c m (own_kept_there (supertypes w d.supers) (supertypes w d.interfaces) c refl k m e plain)
 
   -- ---- the tokens of its own methods
 
@@ -276,16 +276,16 @@ module _ (list : ListTree) (files : List (List ℕ)) (judged : Judged) (p : Pack
   super_of s f start e = by (own_method false s.name s.desc c) refl (sym (ap (λ q. or_else (own_of s.name s.desc q) rest) named) ∙ e)
     where
       rest : Option Found
-      rest = first (own_method false s.name s.desc) (known (gathered false (kin w ((let d = c in d.name) ∷ []))))
+      rest = first (own_method false s.name s.desc) (known (gathered false (supertypes w ((let d = c in d.name) ∷ []))))
 
       by : (q : Option Found) → own_method false s.name s.desc c ≡ q → or_else q rest ≡ Some f → IsSuper s f
       by (Some g) k h = of_own c named interface s f start (k ∙ h)
       by None k h = let u = unbroken list files judged p is in
           let d = c in
-          let r = first_in (own_method false s.name s.desc) (known (gathered false (kin w (d.name ∷ [])))) f h in
-          let gathered_is : gathered false (kin w (d.name ∷ [])) ≡ gathered false (kin w d.supers) ++ gathered true (kin w d.interfaces) =
-          ap (gathered false) (kin-known w (acyclic list files judged p is) d.name c named) ∙ above c (kin w d.supers) (kin w d.interfaces) in
-          let asked = are_asked list.name p.files u.listed (few_imports list files judged p is) u.world (acyclic list files judged p is) (is_kin list files judged p is) d.name c r.0 named (subst (λ is. Has r.0 (known is)) gathered_is r.1) in
+          let r = first_in (own_method false s.name s.desc) (known (gathered false (supertypes w (d.name ∷ [])))) f h in
+          let gathered_is : gathered false (supertypes w (d.name ∷ [])) ≡ gathered false (supertypes w d.supers) ++ gathered true (supertypes w d.interfaces) =
+          ap (gathered false) (supertypes-known w (acyclic list files judged p is) d.name c named) ∙ above c (supertypes w d.supers) (supertypes w d.interfaces) in
+          let asked = are_asked list.name p.files u.listed (few_imports list files judged p is) u.world (acyclic list files judged p is) (are_supertypes list files judged p is) d.name c r.0 named (subst (λ is. Has r.0 (known is)) gathered_is r.1) in
           of_own r.0 (ap (class_named w) (class_named-name w asked.1.0 r.0 asked.1.1) ∙ asked.1.1) asked.0 s f start r.2
 
   -- ---- its entries
@@ -298,7 +298,7 @@ module _ (list : ListTree) (files : List (List ℕ)) (judged : Judged) (p : Pack
 
   none_added : added w c ≡ []
   unfolding added
-  none_added = let d = c in ap (λ b. if b then lacking (λ m. declares_open m.name m.desc c || has_open m.name m.desc (kin w d.supers)) [] (asked_by (kin w d.supers) (kin w d.interfaces)) else []) takes
+  none_added = let d = c in ap (λ b. if b then lacking (λ m. declares_open m.name m.desc c || has_open m.name m.desc (supertypes w d.supers)) [] (asked_by (supertypes w d.supers) (supertypes w d.interfaces)) else []) takes
     where
       takes : takes_added c ≡ false
       takes = by (let d = c in is_abstract d.flags) (let d = c in is_interface d.flags) interface

@@ -12,7 +12,7 @@ use Rattle.cjc_vtable.proofs.Filed.{Has, at_front, behind}
 use Rattle.cjc_world.specs.Added.{asked_by, by_token, methods_of, own_methods, without_initialiser}
 use Rattle.cjc_world.specs.Classes.{Class, Member}
 use Rattle.cjc_world.specs.Interfaces.{gathered, known}
-use Rattle.cjc_world.specs.Kin.{Kin}
+use Rattle.cjc_world.specs.Supertypes.{Supertypes}
 use Rattle.cjc_written_laws.proofs.FittingLaws.Order.{has_cons, has_either, has_none}
 
 -- ---- signatures that are new
@@ -85,7 +85,7 @@ unfolding methods_of
 of_plain [] m h = has_none m h
 of_plain (d ∷ ds) m h = ⊎_elim (λ g. own_plain d m g) (λ g. of_plain ds m g) (has_either m (own_methods d) (methods_of ds) h)
 
-pub asked_plain : (supers interfaces : Kin) (d : Class) (m : Member) → Has m (asked_by supers interfaces ++ own_methods d) → is_initialiser m.name ≡ false
+pub asked_plain : (supers interfaces : Supertypes) (d : Class) (m : Member) → Has m (asked_by supers interfaces ++ own_methods d) → is_initialiser m.name ≡ false
 unfolding asked_by
 asked_plain supers interfaces d m h =
     ⊎_elim (λ g. of_plain (known (gathered false supers ++ gathered true interfaces)) m g) (λ g. own_plain d m g) (has_either m (methods_of (known (gathered false supers ++ gathered true interfaces))) (own_methods d) h)
@@ -107,7 +107,7 @@ contains_back : (xs ys : List Member) (m : Member) → Contains ys m → Contain
 contains_back [] ys m h = h
 contains_back (x ∷ xs) ys m h = contains_tail x (xs ++ ys) m (contains_back xs ys m h)
 
-pub own_kept_there : (supers interfaces : Kin) (d : Class) → d.is_imported ≡ false → (k : ℕ) (m : Member) → slice_get d.methods k ≡ Some m → is_initialiser m.name ≡ false → Contains (asked_by supers interfaces ++ own_methods d) m
+pub own_kept_there : (supers interfaces : Supertypes) (d : Class) → d.is_imported ≡ false → (k : ℕ) (m : Member) → slice_get d.methods k ≡ Some m → is_initialiser m.name ≡ false → Contains (asked_by supers interfaces ++ own_methods d) m
 unfolding own_methods
 own_kept_there supers interfaces d own k m e plain =
     contains_back (asked_by supers interfaces) (without_initialiser (if d.is_imported then by_token (length d.methods) 0 d.methods else d.methods)) m

@@ -9,7 +9,7 @@ use Rattle.cjc_bytecode.specs.Alike.{start_as}
 use Rattle.cjc_bytecode.specs.Machine.{Start}
 use Rattle.cjc_bytecode.specs.Renaming.{option_as}
 use Rattle.cjc_by_name.specs.Linked.{Method}
-use Rattle.cjc_by_name.specs.OnePackage.{Hit, entry_in, entry_named, is_initialiser, method_at, method_hit, method_in as method_in_file}
+use Rattle.cjc_by_name.specs.OnePackage.{ResolvedMember, entry_in, entry_named, is_initialiser, method_at, method_hit, method_in as method_in_file}
 use Rattle.cjc_by_token.proofs.Members.{bytes_tell}
 use Rattle.cjc_calls_by_token.specs.Reaching.{BeginsAtOffsets, is_in_method, start_placed}
 use Rattle.cjc_capread.specs.declared.tree.ClassDescriptor.{ClassDescriptor}
@@ -143,7 +143,7 @@ hit_is c i m e =
 entry_none : (files : Files) (id : MemberId) (c : Class) → c.is_imported ≡ true → entry_in files id c ≡ None
 entry_none files id c import = by (own_method false id.name id.desc c) refl
   where
-    hidden : (f : Found) → f.imported ≡ true → (h : Option Hit) → option_and_then (λ (hit : Hit). if is_static hit.flags then method_at files f else None) h ≡ None
+    hidden : (f : Found) → f.imported ≡ true → (h : Option ResolvedMember) → option_and_then (λ (hit : ResolvedMember). if is_static hit.flags then method_at files f else None) h ≡ None
     hidden f is None = refl
     hidden f is (Some hit) = split (is_static hit.flags)
       where
@@ -151,7 +151,7 @@ entry_none files id c import = by (own_method false id.name id.desc c) refl
         split true = ap (λ t. if t then None else option_and_then (method_in_file f.member) (slice_get files.classes f.class)) is
         split false = refl
 
-    by : (o : Option Found) → own_method false id.name id.desc c ≡ o → option_and_then (λ f. option_and_then (λ (hit : Hit). if is_static hit.flags then method_at files f else None) (method_hit (c ∷ []) f)) o ≡ None
+    by : (o : Option Found) → own_method false id.name id.desc c ≡ o → option_and_then (λ f. option_and_then (λ (hit : ResolvedMember). if is_static hit.flags then method_at files f else None) (method_hit (c ∷ []) f)) o ≡ None
     by None is = refl
     by (Some f) is = let o = own_is (c ∷ []) false id.name id.desc c f is in hidden f (ap (λ (g : Found). g.imported) o.is ∙ import) (method_hit (c ∷ []) f)
 
@@ -338,8 +338,8 @@ module _ (p : Package) (facts : Facts p) where
           ∙ ap (option_and_then (static_start (loaded p))) (declared_is id.class c known own id)
 
       -- a method that is declared
-      declared_same : is_initialiser id.name ≡ false → (f : Found) → OwnMethod w false id.name id.desc c f → starts c (Some f) ≡ begun (option_and_then (λ (hit : Hit). if is_static hit.flags then method_at p.files f else None) (method_hit (c ∷ []) f))
-      declared_same plain f o = subst (λ q. starts c (Some q) ≡ begun (option_and_then (λ (hit : Hit). if is_static hit.flags then method_at p.files q else None) (method_hit (c ∷ []) q))) (sym o.is) (same_here (is_static o.method.flags) refl)
+      declared_same : is_initialiser id.name ≡ false → (f : Found) → OwnMethod w false id.name id.desc c f → starts c (Some f) ≡ begun (option_and_then (λ (hit : ResolvedMember). if is_static hit.flags then method_at p.files f else None) (method_hit (c ∷ []) f))
+      declared_same plain f o = subst (λ q. starts c (Some q) ≡ begun (option_and_then (λ (hit : ResolvedMember). if is_static hit.flags then method_at p.files q else None) (method_hit (c ∷ []) q))) (sym o.is) (same_here (is_static o.method.flags) refl)
         where
           g : Found
           g = member_at c (length c.fields + o.place)
@@ -355,10 +355,10 @@ module _ (p : Package) (facts : Facts p) where
               split true is = let clash : true ≡ false = sym (interfaces id.class c known own is o.place o.method o.there static) ∙ ap is_initialiser o.name_is ∙ plain in absurd (cc)
 
           same_here : (s : Bool) → is_static o.method.flags ≡ s → starts c (Some (member_at c (length c.fields + o.place)))
-              ≡ begun (option_and_then (λ (hit : Hit). if is_static hit.flags then method_at p.files (member_at c (length c.fields + o.place)) else None) (method_hit (c ∷ []) (member_at c (length c.fields + o.place))))
+              ≡ begun (option_and_then (λ (hit : ResolvedMember). if is_static hit.flags then method_at p.files (member_at c (length c.fields + o.place)) else None) (method_hit (c ∷ []) (member_at c (length c.fields + o.place))))
           same_here false is =
               ap (λ t. if t then start_of (loaded p) 0 (method_offset p (member_at c (length c.fields + o.place))) else None) (flags_same ∙ is)
-              ∙ sym (ap (λ h. begun (option_and_then (λ (hit : Hit). if is_static hit.flags then method_at p.files (member_at c (length c.fields + o.place)) else None) h)) (hit_is c o.place o.method o.there)
+              ∙ sym (ap (λ h. begun (option_and_then (λ (hit : ResolvedMember). if is_static hit.flags then method_at p.files (member_at c (length c.fields + o.place)) else None) h)) (hit_is c o.place o.method o.there)
               ∙ ap (λ t. begun (if t then method_at p.files (member_at c (length c.fields + o.place)) else None)) is)
           same_here true is =
               let k = facts.filed id.class c known own o.place o.method o.there in
@@ -366,7 +366,7 @@ module _ (p : Package) (facts : Facts p) where
               let inside = stands_in_method w i.number c i.ordered (class_here is) own o.place o.method o.there (ap is_initialiser o.name_is ∙ plain) in
               ap (λ t. if t then start_of (loaded p) 0 (method_offset p (member_at c (length c.fields + o.place))) else None) (flags_same ∙ is)
               ∙ begins (member_at c (length c.fields + o.place)) k.0 inside k.1
-              ∙ sym (ap (λ h. begun (option_and_then (λ (hit : Hit). if is_static hit.flags then method_at p.files (member_at c (length c.fields + o.place)) else None) h)) (hit_is c o.place o.method o.there)
+              ∙ sym (ap (λ h. begun (option_and_then (λ (hit : ResolvedMember). if is_static hit.flags then method_at p.files (member_at c (length c.fields + o.place)) else None) h)) (hit_is c o.place o.method o.there)
               ∙ ap (λ t. begun (if t then method_at p.files (member_at c (length c.fields + o.place)) else None)) is
               ∙ ap begun k.1)
 
@@ -374,7 +374,7 @@ module _ (p : Package) (facts : Facts p) where
       called_own = by_token ∙ by (is_initialiser id.name) refl
         where
           found : is_initialiser id.name ≡ false → (o : Option Found) → own_method false id.name id.desc c ≡ o
-              → starts c o ≡ begun (option_and_then (λ f. option_and_then (λ (hit : Hit). if is_static hit.flags then method_at p.files f else None) (method_hit (c ∷ []) f)) o)
+              → starts c o ≡ begun (option_and_then (λ f. option_and_then (λ (hit : ResolvedMember). if is_static hit.flags then method_at p.files f else None) (method_hit (c ∷ []) f)) o)
           found plain None is = refl
           found plain (Some f) is = declared_same plain f (own_is w false id.name id.desc c f is)
 
@@ -415,12 +415,12 @@ module _ (p : Package) (facts : Facts p) where
     started k start e there = let same : start_placed place k ≡ start = cc in subst (λ (s : Start Placed). IsAmong (placed_methods p) s.code) same there
 
     found_there : (id : MemberId) (c : Class) → class_named w id.class ≡ Some c → is_initialiser id.name ≡ false → (start : Start Placed) (o : Option Found) → own_method false id.name id.desc c ≡ o
-        → option_map (start_placed place) (option_and_then (λ f. option_and_then (λ (hit : Hit). if is_static hit.flags then method_at p.files f else None) (method_hit (c ∷ []) f)) o) ≡ Some start → IsAmong (placed_methods p) start.code
+        → option_map (start_placed place) (option_and_then (λ f. option_and_then (λ (hit : ResolvedMember). if is_static hit.flags then method_at p.files f else None) (method_hit (c ∷ []) f)) o) ≡ Some start → IsAmong (placed_methods p) start.code
     found_there id c known plain start None is e = absurd (cc)
     found_there id c known plain start (Some f) is e =
         let o = own_is w false id.name id.desc c f is in
         let hit : method_hit (c ∷ []) f ≡ Some (record { owner = c; flags = o.method.flags }) = ap (method_hit (c ∷ [])) o.is ∙ hit_is c o.place o.method o.there in
-        by o (is_static o.method.flags) refl (sym (ap (λ h. option_map (start_placed place) (option_and_then (λ (q : Hit). if is_static q.flags then method_at p.files f else None) h)) hit) ∙ e)
+        by o (is_static o.method.flags) refl (sym (ap (λ h. option_map (start_placed place) (option_and_then (λ (q : ResolvedMember). if is_static q.flags then method_at p.files f else None) h)) hit) ∙ e)
       where
         last : (q : Option Method) → method_at p.files f ≡ q → is_in_method w f ≡ true → option_map (start_placed place) q ≡ Some start → IsAmong (placed_methods p) start.code
         last None there inside h = absurd (cc)

@@ -14,7 +14,7 @@ use Rattle.cjc_tokens.specs.Members.{is_initialiser}
 use Rattle.cjc_vtable.specs.Laws.{InterfaceCallsAgree, KeepsInterfaces, KeepsRules, TokensAreOnce, VirtualCallsAgree}
 use Rattle.cjc_world.specs.declared.found.Found.{Found}
 use Rattle.cjc_world.specs.Classes.{Class, Member, class_at, class_named, imported}
-use Rattle.cjc_world.specs.Kin.{IsKin, Kin, kin}
+use Rattle.cjc_world.specs.Supertypes.{AreSupertypes, Supertypes, supertypes}
 use Rattle.cjc_world.specs.Lookup.{member_at, object, own_method}
 use Rattle.cjc_world.specs.Order.{class_order, in_order}
 
@@ -38,8 +38,8 @@ pub record Facts (p : Package) : Type 0 where
   pub low : (f : Found) → method_offset p f < 0xFFFF
   pub rules : KeepsRules (world p)
   pub interfaces : KeepsInterfaces (world p)
-  pub is_kin : (xs : List (List ℕ)) → IsKin (world p) xs (kin (world p) xs)
-  pub one_kin : (xs : List (List ℕ)) (j k : Kin) → IsKin (world p) xs j → IsKin (world p) xs k → j ≡ k
+  pub are_supertypes : (xs : List (List ℕ)) → AreSupertypes (world p) xs (supertypes (world p) xs)
+  pub one_supertypes : (xs : List (List ℕ)) (j k : Supertypes) → AreSupertypes (world p) xs j → AreSupertypes (world p) xs k → j ≡ k
   pub virtual_calls : VirtualCallsAgree (world p)
   pub interface_calls : InterfaceCallsAgree (world p)
   pub tokens_once : TokensAreOnce (world p)

@@ -25,12 +25,12 @@ use Rattle.cjc_vtable.specs.Naming.{member_named, method_named, named}
 use Rattle.cjc_world.specs.declared.found.Found.{Found}
 use Rattle.cjc_world.specs.Added.{added}
 use Rattle.cjc_world.specs.Classes.{Class, Member, class_at, class_named, imported, method_of_export}
-use Rattle.cjc_world.specs.Kin.{IsKin, Kin, Known, Lists, after, ends, foremost, kin, known_here, unknown_here}
-use Rattle.cjc_world.specs.Kin as kins
+use Rattle.cjc_world.specs.Supertypes.{AreSupertypes, Supertypes, Known, Lists, after, ends, foremost, supertypes, known_here, unknown_here}
+use Rattle.cjc_world.specs.Supertypes as supertype_trees
 use Rattle.cjc_world.specs.Lookup.{first, member_at, or_else}
 use Rattle.cjc_by_token.proofs.Members.{bytes_same, bytes_tell}
 use Rattle.cjc_written_calls.proofs.Facts.{Facts, exported}
-use Rattle.cjc_written_calls.proofs.Kins.{name_is}
+use Rattle.cjc_written_calls.proofs.SupertypeTrees.{name_is}
 
 -- ---- names and members in lists
 
@@ -196,7 +196,7 @@ module _ (p : Package) (facts : Facts p) where
   reached_both names [] fs a b = b
   reached_both names (d ∷ ds) fs a b = (a.0, reached_both names ds fs a.1 b)
 
-  all_reached : (names xs : List (List ℕ)) (k : Kin) → IsKin w xs k → ((x : List ℕ) → Lists x xs → IsAtOrAbove es names x) → ((x : List ℕ) (d : Class) → Lists x xs → class_named w x ≡ Some d → d.is_imported ≡ true) → AllReached names (kins.upwards k)
+  all_reached : (names xs : List (List ℕ)) (k : Supertypes) → AreSupertypes w xs k → ((x : List ℕ) → Lists x xs → IsAtOrAbove es names x) → ((x : List ℕ) (d : Class) → Lists x xs → class_named w x ≡ Some d → d.is_imported ≡ true) → AllReached names (supertype_trees.upwards k)
   all_reached names xs k ends start own = tt
   all_reached names xs k (unknown_here e next) start own = all_reached names _ _ next (λ x h. start x (after h)) (λ x d h. own x d (after h))
   all_reached names xs k (known_here {x = x} {xs = xs'} {c = c} {supers = supers} {interfaces = interfaces} {next = next} e ks ki kn) start own =
@@ -204,34 +204,34 @@ module _ (p : Package) (facts : Facts p) where
       let file = facts.in_file x c e is in
       let name = name_is w x c e in (
         record { imported = is; known = ap (class_named w) name ∙ e; above = subst (IsAtOrAbove es names) (sym name) (start x foremost) },
-        reached_both names (kins.upwards supers) (kins.upwards next)
+        reached_both names (supertype_trees.upwards supers) (supertype_trees.upwards next)
             (all_reached names c.supers supers ks (λ y h. above file.1 (start x foremost) file.2 (ap (λ (q : Class). is_one_of q.supers y) (sym file.3) ∙ lists_one y c.supers h)) (λ y d h named_y. facts.rules.apart x y c d e is h named_y))
             (all_reached names xs' next kn (λ y h. start y (after h)) (λ y d h. own y d (after h))),
       )
 
   -- what is reached from a listed class is reached from the list
-  within : (xs : List (List ℕ)) (k : Kin) → IsKin w xs k → (y : List ℕ) (d : Class) → Lists y xs → class_named w y ≡ Some d → (m : Member) → In m (d.methods ++ all_methods (kins.upwards (kin w d.supers))) → In m (all_methods (kins.upwards k))
+  within : (xs : List (List ℕ)) (k : Supertypes) → AreSupertypes w xs k → (y : List ℕ) (d : Class) → Lists y xs → class_named w y ≡ Some d → (m : Member) → In m (d.methods ++ all_methods (supertype_trees.upwards (supertypes w d.supers))) → In m (all_methods (supertype_trees.upwards k))
   within xs k ends y d h e m there = elim h [ ]
   within xs k (unknown_here {x = x} none next) y d foremost e m there = absurd (cc)
   within xs k (unknown_here none next) y d (after h) e m there = within _ _ next y d h e m there
   within xs k (known_here {c = c} {supers = supers} {next = next} known ks ki kn) y d foremost e m there =
       let same : d ≡ c = cc in
-      let kin_same : kin w c.supers ≡ supers = facts.one_kin c.supers (kin w c.supers) supers (facts.is_kin c.supers) ks in
-      let here : In m (c.methods ++ all_methods (kins.upwards supers)) = subst (λ q. In m (c.methods ++ all_methods (kins.upwards q))) kin_same (subst (λ (q : Class). In m (q.methods ++ all_methods (kins.upwards (kin w q.supers)))) same there) in
-      ⊎_elim (λ a. in_front m c.methods (all_methods (kins.upwards supers ++ kins.upwards next)) a) (λ b. in_back m c.methods (all_methods (kins.upwards supers ++ kins.upwards next)) (methods_front m (kins.upwards supers) (kins.upwards next) b)) (in_either m c.methods (all_methods (kins.upwards supers)) here)
+      let supertypes_same : supertypes w c.supers ≡ supers = facts.one_supertypes c.supers (supertypes w c.supers) supers (facts.are_supertypes c.supers) ks in
+      let here : In m (c.methods ++ all_methods (supertype_trees.upwards supers)) = subst (λ q. In m (c.methods ++ all_methods (supertype_trees.upwards q))) supertypes_same (subst (λ (q : Class). In m (q.methods ++ all_methods (supertype_trees.upwards (supertypes w q.supers)))) same there) in
+      ⊎_elim (λ a. in_front m c.methods (all_methods (supertype_trees.upwards supers ++ supertype_trees.upwards next)) a) (λ b. in_back m c.methods (all_methods (supertype_trees.upwards supers ++ supertype_trees.upwards next)) (methods_front m (supertype_trees.upwards supers) (supertype_trees.upwards next) b)) (in_either m c.methods (all_methods (supertype_trees.upwards supers)) here)
   within xs k (known_here {c = c} {supers = supers} {next = next} known ks ki kn) y d (after h) e m there =
-      in_back m c.methods (all_methods (kins.upwards supers ++ kins.upwards next)) (methods_back m (kins.upwards supers) (kins.upwards next) (within _ _ kn y d h e m there))
+      in_back m c.methods (all_methods (supertype_trees.upwards supers ++ supertype_trees.upwards next)) (methods_back m (supertype_trees.upwards supers) (supertype_trees.upwards next) (within _ _ kn y d h e m there))
 
   -- what is reached over steps is among what stands above
   reached_in : (names : List (List ℕ)) (y : List ℕ) → IsAtOrAbove es names y → ((x : List ℕ) (d : Class) → Lists x names → class_named w x ≡ Some d → d.is_imported ≡ true) → (d : Class) → class_named w y ≡ Some d
-      → (d.is_imported ≡ true) × ((m : Member) → In m (d.methods ++ all_methods (kins.upwards (kin w d.supers))) → In m (all_methods (kins.upwards (kin w names))))
-  reached_in names y (at is) own d e = (own y d (one_lists y names is) e, λ m h. within names (kin w names) (facts.is_kin names) y d (one_lists y names is) e m h)
+      → (d.is_imported ≡ true) × ((m : Member) → In m (d.methods ++ all_methods (supertype_trees.upwards (supertypes w d.supers))) → In m (all_methods (supertype_trees.upwards (supertypes w names))))
+  reached_in names y (at is) own d e = (own y d (one_lists y names is) e, λ m h. within names (supertypes w names) (facts.are_supertypes names) y d (one_lists y names is) e m h)
   reached_in names y (above {x = x} u below named_x is) own d e =
       let up = facts.of_file x u named_x in
       let r = reached_in names x below own (imported up.0 u) up.1 in
       let listed : Lists y u.supers = one_lists y u.supers is in (
         facts.rules.apart x y (imported up.0 u) d up.1 refl listed e,
-        λ m h. r.1 m (in_back m (imported up.0 u).methods (all_methods (kins.upwards (kin w u.supers))) (within u.supers (kin w u.supers) (facts.is_kin u.supers) y d listed e m h)),
+        λ m h. r.1 m (in_back m (imported up.0 u).methods (all_methods (supertype_trees.upwards (supertypes w u.supers))) (within u.supers (supertypes w u.supers) (facts.are_supertypes u.supers) y d listed e m h)),
       )
 
   -- ---- the first that has a method
@@ -280,7 +280,7 @@ module _ (p : Package) (facts : Facts p) where
 
   module _ (x : List ℕ) (c : Class) (is : class_named w x ≡ Some c) (import : c.is_imported ≡ true) where
     abbrev line : List Class
-    line = c ∷ kins.upwards (kin w c.supers)
+    line = c ∷ supertype_trees.upwards (supertypes w c.supers)
 
     pub has : HasEntry p c
     has = facts.file x c is import
@@ -288,8 +288,8 @@ module _ (p : Package) (facts : Facts p) where
     own_supers : (y : List ℕ) (d : Class) → Lists y c.supers → class_named w y ≡ Some d → d.is_imported ≡ true
     own_supers y d h e = facts.rules.apart x y c d is import h e
 
-    above_all : AllReached c.supers (kins.upwards (kin w c.supers))
-    above_all = all_reached c.supers c.supers (kin w c.supers) (facts.is_kin c.supers) (λ y h. at (lists_one y c.supers h)) own_supers
+    above_all : AllReached c.supers (supertype_trees.upwards (supertypes w c.supers))
+    above_all = all_reached c.supers c.supers (supertypes w c.supers) (facts.are_supertypes c.supers) (λ y h. at (lists_one y c.supers h)) own_supers
 
     -- a method of a class by its token
     own_token : (t : ℕ) (d : Class) (f : Found) (s : Signature) → own_by_token t d ≡ Some f → class_at w d.is_imported d.number ≡ Some d → named w f ≡ Some s
@@ -339,9 +339,9 @@ module _ (p : Package) (facts : Facts p) where
     unfolding first
     first_imported_found own kind f e = by (own c) refl e
       where
-        by : (o : Option Found) → own c ≡ o → or_else o (first own (kins.upwards (kin w c.supers))) ≡ Some f → f.imported ≡ true
+        by : (o : Option Found) → own c ≡ o → or_else o (first own (supertype_trees.upwards (supertypes w c.supers))) ≡ Some f → f.imported ≡ true
         by (Some g) is_own h = let same : g ≡ f = cc in kind c f (is_own ∙ ap Some same) ∙ import
-        by None is_own h = let d = first_reached own c.supers (kins.upwards (kin w c.supers)) f above_all h in kind d.0 f d.2 ∙ d.1.imported
+        by None is_own h = let d = first_reached own c.supers (supertype_trees.upwards (supertypes w c.supers)) f above_all h in kind d.0 f d.2 ∙ d.1.imported
 
     -- a class that is no interface: along it and its supers a virtual token has one name and descriptor
     module _ (class_here : is_interface c.flags ≡ false) where
@@ -363,7 +363,7 @@ module _ (p : Package) (facts : Facts p) where
           let known = own 0 e refl in
           let d = facts.of_file e.name e known in
           let r = reached_in c.supers e.name (up e.name (ap (λ q. q || is_one_of (map (λ (u : ExportClass). u.name) us) e.name) (bytes_same e.name))) own_supers (imported d.0 e) d.1 in (
-            says_same t m there virtual token d.0 e (facts.plain e.name e known) (λ o h. in_back o c.methods (all_methods (kins.upwards (kin w c.supers))) (r.1 o (in_front o (imported d.0 e).methods (all_methods (kins.upwards (kin w e.supers))) h))),
+            says_same t m there virtual token d.0 e (facts.plain e.name e known) (λ o h. in_back o c.methods (all_methods (supertype_trees.upwards (supertypes w c.supers))) (r.1 o (in_front o (imported d.0 e).methods (all_methods (supertype_trees.upwards (supertypes w e.supers))) h))),
             all_say t m there virtual token us (λ k u h. own (suc k) u h) (λ y h. up y (later_name y h)),
           )
         where
@@ -379,7 +379,7 @@ module _ (p : Package) (facts : Facts p) where
           → dispatched_outward has.entry.name (has.entry ∷ ups) t ≡ Outward (event x s)
       event_by t s m there virtual token names k e o at_k finds =
           let head : Says t (signature_of m) has.entry = says_same t m there virtual token has.number has.entry entry_plain
-          (λ q h. in_front q c.methods (all_methods (kins.upwards (kin w c.supers))) (subst (λ (d : Class). In q d.methods) (sym has.class) h)) in
+          (λ q h. in_front q c.methods (all_methods (supertype_trees.upwards (supertypes w c.supers))) (subst (λ (d : Class). In q d.methods) (sym has.class) h)) in
           let tail : AllSay t (signature_of m) ups = all_say t m there virtual token ups (own_at es ups (each_own es has.entry.supers))
           (λ y h. subst (λ ns. IsAtOrAbove es ns y) (sym supers_same) (found_is es has.entry.supers y h).0) in
           outward_first t (signature_of m) has.entry.name (has.entry ∷ ups) (head, tail) k e o at_k finds
@@ -390,14 +390,14 @@ module _ (p : Package) (facts : Facts p) where
       unfolding first
       found_event t f s e names = by (own_by_token t c) refl e
         where
-          by : (o : Option Found) → own_by_token t c ≡ o → or_else o (first (own_by_token t) (kins.upwards (kin w c.supers))) ≡ Some f → dispatched_outward has.entry.name (has.entry ∷ ups) t ≡ Outward (event x s)
+          by : (o : Option Found) → own_by_token t c ≡ o → or_else o (first (own_by_token t) (supertype_trees.upwards (supertypes w c.supers))) ≡ Some f → dispatched_outward has.entry.name (has.entry ∷ ups) t ≡ Outward (event x s)
           by (Some g) own h =
               let same : g ≡ f = cc in
               let r = own_token t c f s (own ∙ ap Some same) (facts.placed x c is) names in
               let o = exported_method t r.0 has.number has.entry r.1 entry_plain (ap (λ (q : Class). slice_get q.methods r.0) (sym has.class) ∙ r.2) r.3 r.4 in
-              event_by t s r.1 (in_front r.1 c.methods (all_methods (kins.upwards (kin w c.supers))) (in_at c.methods r.0 r.1 r.2)) r.3 r.4 r.5 0 has.entry o.0 refl o.1
+              event_by t s r.1 (in_front r.1 c.methods (all_methods (supertype_trees.upwards (supertypes w c.supers))) (in_at c.methods r.0 r.1 r.2)) r.3 r.4 r.5 0 has.entry o.0 refl o.1
           by None own h =
-              let d = first_reached (own_by_token t) c.supers (kins.upwards (kin w c.supers)) f above_all h in
+              let d = first_reached (own_by_token t) c.supers (supertype_trees.upwards (supertypes w c.supers)) f above_all h in
               let known = d.1.known in
               let r = own_token t d.0 f s d.2 (facts.placed d.0.name d.0 known) names in
               let file = facts.in_file d.0.name d.0 known d.1.imported in
@@ -406,7 +406,7 @@ module _ (p : Package) (facts : Facts p) where
               let same : u.1 ≡ file.1 =
               let both : Some u.1 ≡ Some file.1 = sym (own_at es ups (each_own es has.entry.supers) u.0 u.1 u.2) ∙ ap (exports.class_named es) u.3 ∙ file.2 in cc in
               let o = exported_method t r.0 file.0 file.1 r.1 (facts.plain d.0.name file.1 file.2) (ap (λ (q : Class). slice_get q.methods r.0) (sym file.3) ∙ r.2) r.3 r.4 in
-              event_by t s r.1 (in_back r.1 c.methods (all_methods (kins.upwards (kin w c.supers))) (d.3 r.1 (in_at d.0.methods r.0 r.1 r.2))) r.3 r.4 r.5 (suc u.0) u.1 o.0 u.2 (ap (virtual_method t) same ∙ o.1)
+              event_by t s r.1 (in_back r.1 c.methods (all_methods (supertype_trees.upwards (supertypes w c.supers))) (d.3 r.1 (in_at d.0.methods r.0 r.1 r.2))) r.3 r.4 r.5 (suc u.0) u.1 o.0 u.2 (ap (virtual_method t) same ∙ o.1)
 
       pub file_says : SaysFile w (naming p) x c
       file_says = record {

@@ -6,7 +6,7 @@ use Rattle.cjc_bytes.specs.AccessFlags.{is_interface}
 use Rattle.cjc_bytes.specs.declared.fault.MemberId.{MemberId}
 use Rattle.cjc_bytecode.specs.Meanings.{Calls, Special, Static, Virtual}
 use Rattle.cjc_calls_by_token.specs.Selecting.{signature}
-use Rattle.cjc_card.specs.Classes.{Foreign, Own}
+use Rattle.cjc_card.specs.Classes.{External, Own}
 use Rattle.cjc_card.specs.Dispatch.{Open, Token}
 use Rattle.cjc_card.specs.Operations.{token_of}
 use Rattle.cjc_components.specs.Names.{class_at, fixed_as, member_ref, member_token, offset_where, virtual_token}
@@ -14,7 +14,7 @@ use Rattle.cjc_components.specs.Package.{Package, world}
 use Rattle.cjc_lower.specs.Naming.{Fit, IsFixed, IsToken, calls_special, calls_static, calls_super, calls_virtual}
 use Rattle.cjc_ncode.specs.declared.narrow.PoolKey.TheVariants as keys
 use Rattle.cjc_tables_by_token.specs.Loading.{naming}
-use Rattle.cjc_tokens.proofs.Walks.{kin-known}
+use Rattle.cjc_tokens.proofs.Walks.{supertypes-known}
 use Rattle.cjc_tokens.specs.Lines.{Declared, Imported, line_in, line_of}
 use Rattle.cjc_tokens.specs.Methods.{with_high_bit}
 use Rattle.cjc_tokens.specs.Slots.{hidden_slots, slots, token}
@@ -22,21 +22,21 @@ use Rattle.cjc_vtable.specs.Calls.{finds_hidden}
 use Rattle.cjc_vtable.specs.Tables.{or_zero}
 use Rattle.cjc_world.specs.Added.{added}
 use Rattle.cjc_world.specs.Classes.{Class, class_named}
-use Rattle.cjc_world.specs.Kin.{kin, upwards}
+use Rattle.cjc_world.specs.Supertypes.{supertypes, upwards}
 use Rattle.cjc_world.specs.Lookup.{find_method}
 use Rattle.cjc_written_calls.specs.Calls.{KeepsTokens}
 use Rattle.cjc_written_calls.proofs.Facts.{Facts}
-use Rattle.cjc_written_calls.proofs.Kins.{name_is}
+use Rattle.cjc_written_calls.proofs.SupertypeTrees.{name_is}
 use Rattle.cjc_written_calls.proofs.Tables.{class_meant}
 
 -- a token that is there is the one that is taken
 own_taken : (q offset t : ℕ) → token_of (Own q offset) t ≡ Some (unwrap_or (token_of (Own q offset) t) (Open 0))
 own_taken q offset t = refl
 
-file_taken : (tree number t : ℕ) → t < 128 → token_of (Foreign tree number) t ≡ Some (unwrap_or (token_of (Foreign tree number) t) (Open 0))
+file_taken : (tree number t : ℕ) → t < 128 → token_of (External tree number) t ≡ Some (unwrap_or (token_of (External tree number) t) (Open 0))
 file_taken tree number t low =
     let small : nat_lt t 128 ≡ true = grind (arith, nat_tests, low) in
-    let is : token_of (Foreign tree number) t ≡ Some (Open t) = ap (λ (b : Bool). if b then Some (Open t) else None) small in
+    let is : token_of (External tree number) t ≡ Some (Open t) = ap (λ (b : Bool). if b then Some (Open t) else None) small in
     is ∙ ap (λ (o : Option Token). Some (unwrap_or o (Open 0))) (sym is)
 
 module _ (p : Package) (facts : Facts p) (tokens : KeepsTokens (world p)) where
@@ -45,7 +45,7 @@ module _ (p : Package) (facts : Facts p) (tokens : KeepsTokens (world p)) where
 
   token_low : (m : MemberId) (d : Class) → class_named w m.class ≡ Some d → is_interface d.flags ≡ false → d.is_imported ≡ true → virtual_token p m < 128
   token_low m d known class_here import =
-      let line : line_of w m.class ≡ Imported (d ∷ upwards (kin w d.supers)) = ap (line_in w) (kin-known w facts.is_kin facts.one_kin m.class d known) ∙ ap (λ t. if t then Imported (d ∷ upwards (kin w d.supers)) else Declared d (added w d) (line_in w (kin w d.supers))) import in
+      let line : line_of w m.class ≡ Imported (d ∷ upwards (supertypes w d.supers)) = ap (line_in w) (supertypes-known w facts.are_supertypes facts.one_supertypes m.class d known) ∙ ap (λ t. if t then Imported (d ∷ upwards (supertypes w d.supers)) else Declared d (added w d) (line_in w (supertypes w d.supers))) import in
       let open_one : virtual_token p m ≡ or_zero (token (slots (line_of w m.class)) (signature m)) =
       ap (λ b. if b then with_high_bit (or_zero (token (hidden_slots (line_of w m.class)) (signature m))) else or_zero (token (slots (line_of w m.class)) (signature m))) (ap (λ l. finds_hidden l (signature m)) line) in
       by (token (slots (line_of w m.class)) (signature m)) refl open_one

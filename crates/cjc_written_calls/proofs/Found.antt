@@ -13,11 +13,11 @@ use Rattle.cjc_vtable.specs.Naming.{member_named, method_named, named}
 use Rattle.cjc_world.specs.declared.found.Found.{Found}
 use Rattle.cjc_world.specs.Added.{added}
 use Rattle.cjc_world.specs.Classes.{Class, Member, class_at, class_named}
-use Rattle.cjc_world.specs.Kin.{Kin, End, Known, Unknown, kin, line, upwards}
+use Rattle.cjc_world.specs.Supertypes.{Supertypes, End, Known, Unknown, supertypes, line, upwards}
 use Rattle.cjc_world.specs.Lookup.{first, is_called, is_wanted, member_at, or_else, own_method}
 use Rattle.cjc_world.specs.Order.{class_order, in_order, method_order, methods_in_turn, methods_of_class, places, written}
 use Rattle.cjc_written_calls.proofs.Files.{and_true, get_front, position_has, some_member}
-use Rattle.cjc_written_calls.proofs.Kins.{KinFine, kin_fine}
+use Rattle.cjc_written_calls.proofs.SupertypeTrees.{SupertypesFine, supertypes_fine}
 use Rattle.cjc_written_calls.proofs.Orders.{order_own}
 use Rattle.cjc_written_calls.proofs.Begins.{any_at, any_both, same_itself}
 
@@ -31,14 +31,14 @@ module _ (w : List Class) where
   named_both [] ds a b = b
   named_both (c ∷ cs) ds a b = (a.0, named_both cs ds a.1 b)
 
-  upwards_named : (k : Kin) → KinFine w k → AllNamed (upwards k)
+  upwards_named : (k : Supertypes) → SupertypesFine w k → AllNamed (upwards k)
   upwards_named End f = tt
   upwards_named (Unknown name next) f = upwards_named next f
   upwards_named (Known c supers interfaces next) f = (f.0, named_both (upwards supers) (upwards next) (upwards_named supers f.1) (upwards_named next f.3))
 
   pub line_named : (x : List ℕ) → AllNamed (line w x)
   unfolding line
-  line_named x = upwards_named (kin w (x ∷ [])) (kin_fine w (x ∷ []))
+  line_named x = upwards_named (supertypes w (x ∷ [])) (supertypes_fine w (x ∷ []))
 
   pub first_own : (own : Class → Option Found) (cs : List Class) (f : Found) → AllNamed cs → first own cs ≡ Some f → (d : Class) × (class_named w d.name ≡ Some d) × (own d ≡ Some f)
   unfolding first

@@ -25,7 +25,7 @@ use Rattle.cjc_tokens.proofs.Facts.{own-at}
 use Rattle.cjc_world.specs.declared.found.Found.{Found}
 use Rattle.cjc_world.specs.Added.{added}
 use Rattle.cjc_world.specs.Classes.{Class, Member, class_named, field_of_class, method_of_class}
-use Rattle.cjc_world.specs.Kin.{End, IsKin, Kin, Known, Unknown, kin, known_here, unknown_here, upwards}
+use Rattle.cjc_world.specs.Supertypes.{End, AreSupertypes, Supertypes, Known, Unknown, supertypes, known_here, unknown_here, upwards}
 use Rattle.cjc_world.specs.Lookup.{first, is_called, is_selectable, member_at, or_else}
 use Rattle.cjc_world.specs.Order.{class_order, in_order, method_order, places, written}
 use Rattle.cjc_written_calls.proofs.Begins.{any_at, any_both, same_itself}
@@ -106,19 +106,19 @@ module _ (p : Package) (facts : Facts p) where
     pub class_here : is_interface class.flags ≡ false
     pub has : (own is_shown s class ≡ Some f) ⊎ (got (added w class) s class ≡ Some f)
 
-  holder_by : (s : Signature) (f : Found) → f.imported ≡ false → (k : Kin) (x : List ℕ) → IsKin w (x ∷ []) k → ((d : Class) → class_named w x ≡ Some d → is_interface d.flags ≡ false) → implementing (line_in w k) s ≡ Some f → Holder s f
+  holder_by : (s : Signature) (f : Found) → f.imported ≡ false → (k : Supertypes) (x : List ℕ) → AreSupertypes w (x ∷ []) k → ((d : Class) → class_named w x ≡ Some d → is_interface d.flags ≡ false) → implementing (line_in w k) s ≡ Some f → Holder s f
   holder_by s f here End x h classes e = elim h [ ]
   holder_by s f here (Unknown y next) x (unknown_here none rest) classes e = absurd (cc)
   holder_by s f here (Known d supers interfaces next) x (known_here known ks ki kn) classes e = by d.is_imported refl e (λ y a is not_interface h. holder_by s f here supers y a (λ b g. not_interface b g) h)
     where
       Rest : Type 0
-      Rest = (y : List ℕ) → IsKin w (y ∷ []) supers → (b : Class) → ((c : Class) → class_named w y ≡ Some c → is_interface c.flags ≡ false) → implementing (line_in w supers) s ≡ Some f → Holder s f
+      Rest = (y : List ℕ) → AreSupertypes w (y ∷ []) supers → (b : Class) → ((c : Class) → class_named w y ≡ Some c → is_interface c.flags ≡ false) → implementing (line_in w supers) s ≡ Some f → Holder s f
 
       kind : (c : Class) (g : Found) → own is_virtual s c ≡ Some g → g.imported ≡ c.is_imported
       kind c g h = let r = own-at is_virtual s c g h in ap (λ (q : Found). q.imported) r.1
 
-      same : kin w d.supers ≡ supers
-      same = facts.one_kin d.supers (kin w d.supers) supers (facts.is_kin d.supers) ks
+      same : supertypes w d.supers ≡ supers
+      same = facts.one_supertypes d.supers (supertypes w d.supers) supers (facts.are_supertypes d.supers) ks
 
       by : (b : Bool) → d.is_imported ≡ b → implementing (if b then Imported (d ∷ upwards supers) else Declared d (added w d) (line_in w supers)) s ≡ Some f → Rest → Holder s f
       by true is h rest =
@@ -127,7 +127,7 @@ module _ (p : Package) (facts : Facts p) where
       by false is h rest = split (own is_shown s d) refl (got (added w d) s d) refl h
         where
           holder : (own is_shown s d ≡ Some f) ⊎ (got (added w d) s d ≡ Some f) → Holder s f
-          holder has = record { class = d; known = Rattle.cjc_written_calls.proofs.Kins.by_own_name w x d known; own_class = is; class_here = classes d known; has = has }
+          holder has = record { class = d; known = Rattle.cjc_written_calls.proofs.SupertypeTrees.by_own_name w x d known; own_class = is; class_here = classes d known; has = has }
 
           split : (o : Option Found) → own is_shown s d ≡ o → (q : Option Found) → got (added w d) s d ≡ q → or_else o (or_else q (implementing (line_in w supers) s)) ≡ Some f → Holder s f
           split (Some g) i q j h = holder (inl (i ∙ h))
@@ -135,12 +135,12 @@ module _ (p : Package) (facts : Facts p) where
           split None i None j h =
               let one = facts.rules.single x d known is in
               let up = facts.super_there x one.0 d known is one.1 in
-              rest one.0 (subst (λ ss. IsKin w ss supers) one.1 ks) up.0 (λ c g. (let both : Some up.0 ≡ Some c = sym up.1 ∙ g in let one_class : up.0 ≡ c = cc in sym (ap (λ (q : Class). is_interface q.flags) one_class) ∙ up.2)) h
+              rest one.0 (subst (λ ss. AreSupertypes w ss supers) one.1 ks) up.0 (λ c g. (let both : Some up.0 ≡ Some c = sym up.1 ∙ g in let one_class : up.0 ≡ c = cc in sym (ap (λ (q : Class). is_interface q.flags) one_class) ∙ up.2)) h
 
   -- the class of the package whose method a class has by a token
-  pub holder : (s : Signature) (f : Found) → f.imported ≡ false → (x : List ℕ) (c : Class) → class_named w x ≡ Some c → is_interface c.flags ≡ false → implementing (line_in w (kin w (x ∷ []))) s ≡ Some f → Holder s f
+  pub holder : (s : Signature) (f : Found) → f.imported ≡ false → (x : List ℕ) (c : Class) → class_named w x ≡ Some c → is_interface c.flags ≡ false → implementing (line_in w (supertypes w (x ∷ []))) s ≡ Some f → Holder s f
   holder s f here x c known class_here e =
-      holder_by s f here (kin w (x ∷ [])) x (facts.is_kin (x ∷ [])) (λ d g. (let both : Some c ≡ Some d = sym known ∙ g in let same : c ≡ d = cc in sym (ap (λ (q : Class). is_interface q.flags) same) ∙ class_here)) e
+      holder_by s f here (supertypes w (x ∷ [])) x (facts.are_supertypes (x ∷ [])) (λ d g. (let both : Some c ≡ Some d = sym known ∙ g in let same : c ≡ d = cc in sym (ap (λ (q : Class). is_interface q.flags) same) ∙ class_here)) e
 
   -- ---- a method that a class got
 

@@ -7,7 +7,7 @@ use Rattle.cjc_bytecode.specs.Machine.{Start, Reached, Nowhere, Within}
 use Rattle.cjc_bytecode.specs.Machine as machine
 use Rattle.cjc_by_name.specs.Linked.{Method, Inside}
 use Rattle.cjc_by_name.specs.Linked
-use Rattle.cjc_by_name.specs.OnePackage.{Hit, callee_at, first_imported, first_super, interface_callee, is_constructor, is_initialiser, is_sendable, method_at, method_hit, method_in, of_class, select_in, selected_from, sent_by, sent_named}
+use Rattle.cjc_by_name.specs.OnePackage.{ResolvedMember, callee_at, first_imported, first_super, interface_callee, is_constructor, is_initialiser, is_sendable, method_at, method_hit, method_in, of_class, select_in, selected_from, sent_by, sent_named}
 use Rattle.cjc_by_token.specs.Supers.{SaysKinds}
 use Rattle.cjc_calls_by_token.specs.Reaching.{StandsInMethod, is_in_method, reached_at, reached_placed, start_placed}
 use Rattle.cjc_components.specs.Methods.{placed_methods}
@@ -20,7 +20,7 @@ use Rattle.cjc_script.specs.Sorts.{Booleans, Bytes, Shorts, Ints, Shape, shape_n
 use Rattle.cjc_tables_by_token.specs.Loading.{naming}
 use Rattle.cjc_world.specs.declared.found.Found.{Found}
 use Rattle.cjc_world.specs.Classes.{Class, class_named}
-use Rattle.cjc_world.specs.Kin.{kin, line, upwards}
+use Rattle.cjc_world.specs.Supertypes.{supertypes, line, upwards}
 use Rattle.cjc_world.specs.Lookup.{find_method, first, is_selectable, or_else, own_method, receiver, selected}
 use Rattle.cjc_world.specs.Subtype.{is_subtype}
 use Rattle.cjc_written_calls.specs.Calls.{IsNamed, Receives, fixed, numbers, on_interface, on_object, on_super, one_of, references}
@@ -93,7 +93,7 @@ module _ (p : Package) (facts : Facts p) (kinds : SaysKinds (world p) (naming p)
 
   direct_placed : (m : MemberId) (c : Class) (f : Found) → class_named w m.class ≡ Some c → is_interface c.flags ≡ false → is_initialiser m.name ≡ false → own_method false m.name m.desc c ≡ Some f → (start : Start Placed) → reached_placed place (direct p.files w m) ≡ Within start → Stood start
   direct_placed m c f known class_here plain own start e =
-      let line_has = ap (first (own_method false m.name m.desc)) (line_is p facts m.class c known) ∙ first_step (own_method false m.name m.desc) c (upwards (kin w c.supers)) ∙ ap (λ q. or_else q (first (own_method false m.name m.desc) (upwards (kin w c.supers)))) own in
+      let line_has = ap (first (own_method false m.name m.desc)) (line_is p facts m.class c known) ∙ first_step (own_method false m.name m.desc) c (upwards (supertypes w c.supers)) ∙ ap (λ q. or_else q (first (own_method false m.name m.desc) (upwards (supertypes w c.supers)))) own in
       let here = find_first w m.class m.name m.desc f line_has in
       at_place m.class m f (found_stands p facts false m.name m.desc plain m.class c known class_here f line_has) start (sym (ap (λ o. reached_placed place (option_and_then (λ g. callee_at p.files m.class m g) o)) here) ∙ e)
 
@@ -176,7 +176,7 @@ module _ (p : Package) (facts : Facts p) (kinds : SaysKinds (world p) (naming p)
       chosen false plain h = absurd (cc)
       chosen true plain h = let has = received kind receives in sent_selected (shape_name kind) id has.class (plain refl) has.known has.class_here start h
 
-      by_hit : (o : Option Hit) → option_map (start_placed place) (option_and_then (sent_by p.files w (select_in w) (shape_name kind) id) o) ≡ Some start → Stood start
+      by_hit : (o : Option ResolvedMember) → option_map (start_placed place) (option_and_then (sent_by p.files w (select_in w) (shape_name kind) id) o) ≡ Some start → Stood start
       by_hit None h = absurd (cc)
       by_hit (Some hit) h =
           chosen (is_sendable id hit && is_subtype w (shape_name kind) id.class)

@@ -35,12 +35,12 @@ use Rattle.cjc_vtable.proofs.Filed.{Has, at_front, behind}
 use Rattle.cjc_vtable.specs.Kept.{Keeps}
 use Rattle.cjc_vtable.specs.Laws.{InterfaceCallsAgree, TokensAreOnce, VirtualCallsAgree}
 use Rattle.cjc_world.specs.Classes.{Class, class_at, class_named, imported, is_at, Member, method_of_class, field_of_class}
-use Rattle.cjc_world.specs.Kin.{IsKin, Kin, Lists, foremost, kin}
+use Rattle.cjc_world.specs.Supertypes.{AreSupertypes, Supertypes, Lists, foremost, supertypes}
 use Rattle.cjc_world.specs.Order.{class_order, in_order}
 use Rattle.cjc_written_calls.specs.Calls.{ExportsKeep}
 use Rattle.cjc_written_calls.specs.Standing.{ClassesStand, FitsMethod}
 use Rattle.cjc_written_calls.proofs.Facts.{Facts}
-use Rattle.cjc_written_calls.proofs.Kins.{name_is}
+use Rattle.cjc_written_calls.proofs.SupertypeTrees.{name_is}
 use Rattle.cjc_written_calls.proofs.Orders.{order_own}
 
 number_same : (a b : ℕ) → (a == b) ≡ true → a ≡ b
@@ -181,8 +181,8 @@ module _ (list : List ℕ) (p : Package) (sound : IsSound list p.files) where
       no_interface true h = absurd (cc)
       no_interface false h = refl
 
-  pub facts : FitsMethod p → ExportsKeep p → Keeps w → ((xs : List (List ℕ)) → IsKin w xs (kin w xs)) → ((xs : List (List ℕ)) (j k : Kin) → IsKin w xs j → IsKin w xs k → j ≡ k) → VirtualCallsAgree w → InterfaceCallsAgree w → TokensAreOnce w → Facts p
-  facts fits keep keeps is_kin one_kin virtual_calls interface_calls tokens_once = record {
+  pub facts : FitsMethod p → ExportsKeep p → Keeps w → ((xs : List (List ℕ)) → AreSupertypes w xs (supertypes w xs)) → ((xs : List (List ℕ)) (j k : Supertypes) → AreSupertypes w xs j → AreSupertypes w xs k → j ≡ k) → VirtualCallsAgree w → InterfaceCallsAgree w → TokensAreOnce w → Facts p
+  facts fits keep keeps are_supertypes one_supertypes virtual_calls interface_calls tokens_once = record {
     own = info_of_name list p sound;
     file = entry_of_name list p sound;
     filed = filed;
@@ -198,8 +198,8 @@ module _ (list : List ℕ) (p : Package) (sound : IsSound list p.files) where
     low = fits;
     rules = keeps.rules;
     interfaces = keeps.interfaces;
-    is_kin = is_kin;
-    one_kin = one_kin;
+    are_supertypes = are_supertypes;
+    one_supertypes = one_supertypes;
     virtual_calls = virtual_calls;
     interface_calls = interface_calls;
     tokens_once = tokens_once;

@@ -14,7 +14,7 @@ pub mod Found
 pub mod Towers
 pub mod Files
 pub mod Facts
-pub mod Kins
+pub mod SupertypeTrees
 mod Tables
 pub mod Offsets
 mod HeadersRead

@@ -32,7 +32,7 @@ use Rattle.cjc_tables_by_token.specs.Loading.{naming}
 use Rattle.cjc_tokens.specs.Lines.{Declared, Imported, line_in, line_of}
 use Rattle.cjc_tokens.specs.Members.{Signature, same}
 use Rattle.cjc_tokens.specs.Methods.{interface_methods}
-use Rattle.cjc_tokens.proofs.Walks.{kin-known}
+use Rattle.cjc_tokens.proofs.Walks.{supertypes-known}
 use Rattle.cjc_vtable.specs.Calls.{finds_hidden}
 use Rattle.cjc_vtable.specs.Laws.{Under, below, itself}
 use Rattle.cjc_vtable.specs.Tables.{or_zero}
@@ -40,13 +40,13 @@ use Rattle.cjc_tokens.specs.Slots.{slots, token}
 use Rattle.cjc_world.specs.declared.found.Found.{Found}
 use Rattle.cjc_world.specs.Added.{added}
 use Rattle.cjc_world.specs.Classes.{Class, class_named}
-use Rattle.cjc_world.specs.Kin.{Lists, foremost, kin, line, upwards}
+use Rattle.cjc_world.specs.Supertypes.{Lists, foremost, supertypes, line, upwards}
 use Rattle.cjc_world.specs.Lookup.{find_method, first, object, or_else, own_method, receiver, selected}
 use Rattle.cjc_world.specs.Subtype.{array_is, element, is_element, is_subclass, is_subtype, starts}
 use Rattle.cjc_written_calls.specs.Calls.{ExportsKeep, IsNamed, KeepsSubtypes, KeepsTokens, Receives, fixed, got, hidden, none, shown, numbers, on_interface, on_object, on_super, one_of, references}
 use Rattle.cjc_written_calls.proofs.Facts.{Facts}
 use Rattle.cjc_written_calls.proofs.Files.{and_true, position_has}
-use Rattle.cjc_written_calls.proofs.Kins.{name_is}
+use Rattle.cjc_written_calls.proofs.SupertypeTrees.{name_is}
 use Rattle.cjc_written_calls.proofs.Receivers.{first_step, found_stands, line_found, not_array, receiver_says}
 use Rattle.cjc_written_calls.proofs.Found.{Own, own_is, stands_in_method}
 use Rattle.cjc_written_calls.proofs.Tokens.{dispatched_hidden, dispatched_shown, token_says}
@@ -55,7 +55,7 @@ use Rattle.cjc_written_calls.proofs.Tables.{tables}
 
 pub find_first : (w : List Class) (x name desc : List ℕ) (f : Found) → first (own_method false name desc) (line w x) ≡ Some f → find_method w x name desc ≡ Some f
 unfolding find_method
-find_first w x name desc f e = ap (λ o. or_else o (first (own_method false name desc) (Rattle.cjc_world.specs.Interfaces.known (Rattle.cjc_world.specs.Interfaces.gathered false (kin w (x ∷ [])))))) e
+find_first w x name desc f e = ap (λ o. or_else o (first (own_method false name desc) (Rattle.cjc_world.specs.Interfaces.known (Rattle.cjc_world.specs.Interfaces.gathered false (supertypes w (x ∷ [])))))) e
 
 module _ (p : Package) (facts : Facts p) (subtypes : KeepsSubtypes (world p)) (tokens : KeepsTokens (world p)) (keep : ExportsKeep p) (kinds : SaysKinds (world p) (naming p)) (place : Method → Placed) (begins : BeginsAtOffsets p.files (world p) (naming p) (method_offset p) place) where
   abbrev w : List Class
@@ -70,12 +70,12 @@ module _ (p : Package) (facts : Facts p) (subtypes : KeepsSubtypes (world p)) (t
   agrees x c e class_here =
       let s = class_stands p facts x c e class_here in
       selections.selections_agree w n (method_offset p) x s.foot c e class_here facts.virtual_calls facts.interface_calls
-      (dispatch.dispatch_agrees w facts.is_kin facts.one_kin n (method_offset p) facts.low kinds s.height x s.foot s.tower (height_fits p facts x c e s))
+      (dispatch.dispatch_agrees w facts.are_supertypes facts.one_supertypes n (method_offset p) facts.low kinds s.height x s.foot s.tower (height_fits p facts x c e s))
 
   -- ---- virtual calls
 
-  line_imported : (x : List ℕ) (c : Class) → class_named w x ≡ Some c → c.is_imported ≡ true → line_of w x ≡ Imported (c ∷ upwards (kin w c.supers))
-  line_imported x c e import = ap (line_in w) (kin-known w facts.is_kin facts.one_kin x c e) ∙ ap (λ t. if t then Imported (c ∷ upwards (kin w c.supers)) else Declared c (added w c) (line_in w (kin w c.supers))) import
+  line_imported : (x : List ℕ) (c : Class) → class_named w x ≡ Some c → c.is_imported ≡ true → line_of w x ≡ Imported (c ∷ upwards (supertypes w c.supers))
+  line_imported x c e import = ap (line_in w) (supertypes-known w facts.are_supertypes facts.one_supertypes x c e) ∙ ap (λ t. if t then Imported (c ∷ upwards (supertypes w c.supers)) else Declared c (added w c) (line_in w (supertypes w c.supers))) import
 
   -- a package-visible method is found from a class of the package alone
   pub hidden_own : (x : List ℕ) (c : Class) (s : Signature) → class_named w x ≡ Some c → finds_hidden (line_of w x) s ≡ true → (offset : ℕ) × (card_class p x ≡ card_classes.Own 0 offset)
@@ -118,7 +118,7 @@ module _ (p : Package) (facts : Facts p) (subtypes : KeepsSubtypes (world p)) (t
 
   array_virtual : (a : List ℕ) (m : MemberId) → IsArray a → selected_from p.files w (select_in w) a m ≡ selected_from p.files w (select_in w) object m
   unfolding selected
-  array_virtual a m is = ap (λ b. option_and_then (λ f. Rattle.cjc_by_name.specs.OnePackage.callee_at p.files (Rattle.cjc_by_name.specs.OnePackage.first_imported (Rattle.cjc_world.specs.Kin.line w b)) m f) (Rattle.cjc_world.specs.Lookup.first (Rattle.cjc_world.specs.Lookup.own_method true m.name m.desc) (Rattle.cjc_world.specs.Kin.line w b))) is.received
+  array_virtual a m is = ap (λ b. option_and_then (λ f. Rattle.cjc_by_name.specs.OnePackage.callee_at p.files (Rattle.cjc_by_name.specs.OnePackage.first_imported (Rattle.cjc_world.specs.Supertypes.line w b)) m f) (Rattle.cjc_world.specs.Lookup.first (Rattle.cjc_world.specs.Lookup.own_method true m.name m.desc) (Rattle.cjc_world.specs.Supertypes.line w b))) is.received
 
   -- of the types of arrays
   abbrev on_card : Shape (List ℕ) → Option card_classes.Class
@@ -133,8 +133,8 @@ module _ (p : Package) (facts : Facts p) (subtypes : KeepsSubtypes (world p)) (t
       ∙ ap (λ c. if is_subtype w object m.class then reached_placed place c else Nowhere) (array_virtual (shape_name kind) m array)) ∙ h) is
 
   -- no imported class is asked whether it is abstract
-  foreign : (c : Class) → c.is_imported ≡ true → c.is_imported ≡ false → is_abstract c.flags ≡ false
-  foreign c import own = (let clash : false ≡ true = sym own ∙ import in absurd (cc))
+  external : (c : Class) → c.is_imported ≡ true → c.is_imported ≡ false → is_abstract c.flags ≡ false
+  external c import own = (let clash : false ≡ true = sym own ∙ import in absurd (cc))
 
   pub virtual_reached : (m : MemberId) (d : Class) → class_named w m.class ≡ Some d → is_interface d.flags ≡ false → is_initialiser m.name ≡ false → Rattle.cjc_written_calls.specs.Calls.IsSought w m
       → (o : Option (Shape (List ℕ))) → Receives w o → (r : Reached Placed) → reached_at p.files w place (OnObject m) o ≡ r → IsFound r → Calls.reached n.loaded (callee n (OnObject m)) (option_as (shape_as n.class) o) ≡ reached_as (code_of n) (offset_of n) r
@@ -142,10 +142,10 @@ module _ (p : Package) (facts : Facts p) (subtypes : KeepsSubtypes (world p)) (t
   virtual_reached m d known class_here plain sought o (one_of {x = x} c e not_interface made) r h is = virtual_on m d known class_here plain sought x c e not_interface made r h is
   virtual_reached m d known class_here plain sought o (numbers {element = element}) r h is =
       let c = facts.object_class in
-      array_virtual_on m (OfNumbers element) (numbers_array element) refl (kinds.no_array m.class (ap is_some known)) (virtual_on m d known class_here plain sought object c.0 c.1 c.3 (foreign c.0 c.2)) r h is
+      array_virtual_on m (OfNumbers element) (numbers_array element) refl (kinds.no_array m.class (ap is_some known)) (virtual_on m d known class_here plain sought object c.0 c.1 c.3 (external c.0 c.2)) r h is
   virtual_reached m d known class_here plain sought o (references {x = x}) r h is =
       let c = facts.object_class in
-      array_virtual_on m (OfReferences x) (references_array x) refl (kinds.no_array m.class (ap is_some known)) (virtual_on m d known class_here plain sought object c.0 c.1 c.3 (foreign c.0 c.2)) r h is
+      array_virtual_on m (OfReferences x) (references_array x) refl (kinds.no_array m.class (ap is_some known)) (virtual_on m d known class_here plain sought object c.0 c.1 c.3 (external c.0 c.2)) r h is
 
   -- ---- calls of methods of interfaces
 
@@ -255,7 +255,7 @@ module _ (p : Package) (facts : Facts p) (subtypes : KeepsSubtypes (world p)) (t
       (by c.is_imported refl o here, λ q. by_own o q)
     where
       find_own : (c : Class) (f : Found) → class_named w m.class ≡ Some c → own_method false m.name m.desc c ≡ Some f → find_method w m.class m.name m.desc ≡ Some f
-      find_own c f known own = find_first w m.class m.name m.desc f (ap (first (own_method false m.name m.desc)) (line_is p facts m.class c known) ∙ first_step (own_method false m.name m.desc) c (upwards (kin w c.supers)) ∙ ap (λ q. or_else q (first (own_method false m.name m.desc) (upwards (kin w c.supers)))) own)
+      find_own c f known own = find_first w m.class m.name m.desc f (ap (first (own_method false m.name m.desc)) (line_is p facts m.class c known) ∙ first_step (own_method false m.name m.desc) c (upwards (supertypes w c.supers)) ∙ ap (λ q. or_else q (first (own_method false m.name m.desc) (upwards (supertypes w c.supers)))) own)
 
       by : (t : Bool) → c.is_imported ≡ t → Own w false m.name m.desc c f → find_method w m.class m.name m.desc ≡ Some f → n.fixed on m ≡ (if f.imported then Rattle.cjc_card.specs.Operations.Outer on m else Rattle.cjc_card.specs.Operations.Fixed on 0 (method_offset p f))
       by true is o here =

@@ -4,7 +4,7 @@ use Rattle.std.specs.Prelude.{Some, None, slice_get, map, unwrap_or, option_and_
 use Rattle.cjc_bytes.specs.AccessFlags.{is_interface}
 use Rattle.cjc_by_token.specs.Supers.{has_class}
 use Rattle.cjc_calls_by_token.specs.Dispatching.{SaysTables}
-use Rattle.cjc_card.specs.Classes.{Class as CardClass, Own, Foreign, IsClass, IsInterface, class_of, imported_class, info_of, where_there}
+use Rattle.cjc_card.specs.Classes.{Class as CardClass, Own, External, IsClass, IsInterface, class_of, imported_class, info_of, where_there}
 use Rattle.cjc_card.specs.Loaded.{OfFile}
 use Rattle.cjc_components.specs.Class.{class_entry, interface_entry}
 use Rattle.cjc_components.specs.Methods.{method_offset}
@@ -23,7 +23,7 @@ use Rattle.cjc_vtable.specs.Tables.{interface_map}
 use Rattle.cjc_world.specs.Classes.{Class, class_named}
 use Rattle.cjc_world.specs.Interfaces.{known}
 use Rattle.cjc_written_calls.proofs.Facts.{Facts}
-use Rattle.cjc_written_calls.proofs.Kins.{interfaces_fine, name_is}
+use Rattle.cjc_written_calls.proofs.SupertypeTrees.{interfaces_fine, name_is}
 
 -- ---- class_refs mean classes
 
@@ -43,8 +43,8 @@ module _ (p : Package) (facts : Facts p) where
   ref_of_file c h =
       ap (λ (k : CardClass). class_of (loaded p) 0 (ref_to k)) h.on_card
       ∙ ap (option_and_then (imported_class (loaded p) h.entry.token)) (import_at 0 p.files.exports h.file h.tree h.in_list)
-      ∙ (let z : 0 + h.file ≡ h.file = omega arith in ap (λ n. where_there (loaded p) (Foreign n h.entry.token)) z)
-      ∙ ap (λ o. if is_some o then Some (Foreign h.file h.entry.token) else None) h.there
+      ∙ (let z : 0 + h.file ≡ h.file = omega arith in ap (λ n. where_there (loaded p) (External n h.entry.token)) z)
+      ∙ ap (λ o. if is_some o then Some (External h.file h.entry.token) else None) h.there
       ∙ ap Some (sym h.on_card)
 
   pub class_meant : (x : List ℕ) (c : Class) → class_named (world p) x ≡ Some c → Means (naming p) x

@@ -5,7 +5,7 @@ use Rattle.std.proofs.lemmas.Bool.Decides.{nat_tests}
 use Rattle.cjc_bytes.specs.AccessFlags.{is_abstract, is_interface}
 use Rattle.cjc_bytes.specs.declared.fault.MemberId.{MemberId}
 use Rattle.cjc_calls_by_token.specs.Selecting.{SaysToken, got, open_method, package_method, signature}
-use Rattle.cjc_card.specs.Classes.{Class as CardClass, Own, Foreign}
+use Rattle.cjc_card.specs.Classes.{Class as CardClass, Own, External}
 use Rattle.cjc_card.specs.Dispatch.{Hidden, Open}
 use Rattle.cjc_card.specs.Operations.{token_of}
 use Rattle.cjc_components.specs.Names.{class_at}
@@ -23,7 +23,7 @@ use Rattle.cjc_written_calls.specs.Calls as calls
 -- a token of seven bits is a public one
 open_token : (k : CardClass) (t : ℕ) → t < 128 → unwrap_or (token_of k t) (Open 0) ≡ Open t
 open_token (Own q offset) t low = let small : nat_lt t 128 ≡ true = grind (arith, nat_tests, low) in ap (λ b. if b then Open t else Hidden q (t - 128)) small
-open_token (Foreign tree number) t low = let small : nat_lt t 128 ≡ true = grind (arith, nat_tests, low) in ap (λ (b : Bool). unwrap_or (if b then Some (Open t) else None) (Open 0)) small
+open_token (External tree number) t low = let small : nat_lt t 128 ≡ true = grind (arith, nat_tests, low) in ap (λ (b : Bool). unwrap_or (if b then Some (Open t) else None) (Open 0)) small
 
 -- with the high bit it is a package-visible one of the class's package
 hidden_token : (q offset t : ℕ) → unwrap_or (token_of (Own q offset) (t + 128)) (Open 0) ≡ Hidden q t

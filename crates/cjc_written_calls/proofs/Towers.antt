@@ -13,11 +13,11 @@ use Rattle.cjc_components.specs.Methods.{method_offset}
 use Rattle.cjc_components.specs.Package.{Package, world}
 use Rattle.cjc_tables_by_token.specs.Loading.{loaded, naming}
 use Rattle.cjc_world.specs.Classes.{Class, class_named}
-use Rattle.cjc_world.specs.Kin.{IsKin, Kin, Known, Unknown, End, kin, known_here, line, unknown_here, upwards}
+use Rattle.cjc_world.specs.Supertypes.{AreSupertypes, Supertypes, Known, Unknown, End, supertypes, known_here, line, unknown_here, upwards}
 use Rattle.cjc_world.specs.Order.{class_order, in_order}
-use Rattle.cjc_tokens.proofs.Walks.{kin-known}
+use Rattle.cjc_tokens.proofs.Walks.{supertypes-known}
 use Rattle.cjc_written_calls.proofs.Facts.{Facts}
-use Rattle.cjc_written_calls.proofs.Kins.{name_is}
+use Rattle.cjc_written_calls.proofs.SupertypeTrees.{name_is}
 use Rattle.cjc_written_calls.proofs.Files.{file_says}
 use Rattle.cjc_written_calls.proofs.Tables.{tables}
 
@@ -36,11 +36,11 @@ module _ (p : Package) (facts : Facts p) where
     -- an imported class is its own foot
     pub flat : (c : Class) → class_named w x ≡ Some c → c.is_imported ≡ true → height ≡ 0
 
-  pub line_is : (x : List ℕ) (c : Class) → class_named w x ≡ Some c → line w x ≡ c ∷ upwards (kin w c.supers)
+  pub line_is : (x : List ℕ) (c : Class) → class_named w x ≡ Some c → line w x ≡ c ∷ upwards (supertypes w c.supers)
   unfolding line
-  line_is x c e = ap upwards (kin-known w facts.is_kin facts.one_kin x c e) ∙ ap (λ cs. c ∷ cs) (append-nil (upwards (kin w c.supers)))
+  line_is x c e = ap upwards (supertypes-known w facts.are_supertypes facts.one_supertypes x c e) ∙ ap (λ cs. c ∷ cs) (append-nil (upwards (supertypes w c.supers)))
 
-  pub line_of_names : (x : List ℕ) → line w x ≡ upwards (kin w (x ∷ []))
+  pub line_of_names : (x : List ℕ) → line w x ≡ upwards (supertypes w (x ∷ []))
   unfolding line
   line_of_names x = refl
 
@@ -49,7 +49,7 @@ module _ (p : Package) (facts : Facts p) where
     height = 0;
     foot = x;
     tower = of_file c e import (file_says p facts x c e import class_here);
-    imported = ap first_imported (line_is x c e) ∙ ap (λ t. if t then c.name else first_imported (upwards (kin w c.supers))) import ∙ name_is w x c e;
+    imported = ap first_imported (line_is x c e) ∙ ap (λ t. if t then c.name else first_imported (upwards (supertypes w c.supers))) import ∙ name_is w x c e;
     low = λ d k f g. omega arith;
     flat = λ d f g. refl;
   }
@@ -59,7 +59,7 @@ module _ (p : Package) (facts : Facts p) where
     height = suc r.height;
     foot = r.foot;
     tower = of_package c s e own supers (tables p facts x s c e own class_here supers) r.tower;
-    imported = ap first_imported (line_is x c e) ∙ ap (λ t. if t then c.name else first_imported (upwards (kin w c.supers))) own ∙ ap (λ ss. first_imported (upwards (kin w ss))) supers ∙ ap first_imported (sym (line_of_names s)) ∙ r.imported;
+    imported = ap first_imported (line_is x c e) ∙ ap (λ t. if t then c.name else first_imported (upwards (supertypes w c.supers))) own ∙ ap (λ ss. first_imported (upwards (supertypes w ss))) supers ∙ ap first_imported (sym (line_of_names s)) ∙ r.imported;
     low = λ b k f g. let same : c ≡ b = (let both : Some c ≡ Some b = sym e ∙ f in cc) in below k (g ∙ ap Some (sym same)) d.is_imported refl;
     flat = λ b f g. let same : c ≡ b = (let both : Some c ≡ Some b = sym e ∙ f in cc) in let clash : false ≡ true = sym own ∙ ap (λ (q : Class). q.is_imported) same ∙ g in absurd (cc);
   }
@@ -71,22 +71,22 @@ module _ (p : Package) (facts : Facts p) where
           let low = r.low d h.number super_is h.ordered in
           let less = facts.before k h.number c d s g class_here supers super_is h.ordered in omega (arith, low, less)
 
-  tower_by : (k : Kin) (x : List ℕ) (c : Class) → IsKin w (x ∷ []) k → class_named w x ≡ Some c → is_interface c.flags ≡ false → Stands x
+  tower_by : (k : Supertypes) (x : List ℕ) (c : Class) → AreSupertypes w (x ∷ []) k → class_named w x ≡ Some c → is_interface c.flags ≡ false → Stands x
   tower_by End x c h e class_here = elim h [ ]
   tower_by (Unknown name next) x c (unknown_here none rest) e class_here = absurd (cc)
   tower_by (Known d supers interfaces next) x c (known_here known ks ki kn) e class_here =
-      by c.is_imported refl (λ s b is named_s not_interface. tower_by supers s b is named_s not_interface) (let same : d ≡ c = (let both : Some d ≡ Some c = sym known ∙ e in cc) in subst (λ (q : Class). IsKin w q.supers supers) same ks)
+      by c.is_imported refl (λ s b is named_s not_interface. tower_by supers s b is named_s not_interface) (let same : d ≡ c = (let both : Some d ≡ Some c = sym known ∙ e in cc) in subst (λ (q : Class). AreSupertypes w q.supers supers) same ks)
     where
-      by : (t : Bool) → c.is_imported ≡ t → ((s : List ℕ) (b : Class) → IsKin w (s ∷ []) supers → class_named w s ≡ Some b → is_interface b.flags ≡ false → Stands s) → IsKin w c.supers supers → Stands x
+      by : (t : Bool) → c.is_imported ≡ t → ((s : List ℕ) (b : Class) → AreSupertypes w (s ∷ []) supers → class_named w s ≡ Some b → is_interface b.flags ≡ false → Stands s) → AreSupertypes w c.supers supers → Stands x
       by true is rest ks = tower_file x c e is class_here
       by false is rest ks =
           let one = facts.rules.single x c e is in
           let up = facts.super_there x one.0 c e is one.1 in
-          tower_own x one.0 c up.0 e is class_here one.1 up.1 (rest one.0 up.0 (subst (λ ss. IsKin w ss supers) one.1 ks) up.1 up.2)
+          tower_own x one.0 c up.0 e is class_here one.1 up.1 (rest one.0 up.0 (subst (λ ss. AreSupertypes w ss supers) one.1 ks) up.1 up.2)
 
   -- each class that is no interface
   pub class_stands : (x : List ℕ) (c : Class) → class_named w x ≡ Some c → is_interface c.flags ≡ false → Stands x
-  class_stands x c e class_here = tower_by (kin w (x ∷ [])) x c (facts.is_kin (x ∷ [])) e class_here
+  class_stands x c e class_here = tower_by (supertypes w (x ∷ [])) x c (facts.are_supertypes (x ∷ [])) e class_here
 
   depth_is : depth (loaded p) ≡ 1 + (length (class_order w) + 0)
   unfolding class_order

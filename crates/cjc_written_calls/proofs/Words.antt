@@ -39,7 +39,7 @@ use Rattle.cjc_vtable.specs.Laws.{itself, selection}
 use Rattle.cjc_world.specs.declared.found.Found.{Found}
 use Rattle.cjc_world.specs.Classes.{Class, Member, class_at, class_named}
 use Rattle.cjc_world.specs.Files.{Files}
-use Rattle.cjc_world.specs.Kin.{kin, line, upwards}
+use Rattle.cjc_world.specs.Supertypes.{supertypes, line, upwards}
 use Rattle.cjc_world.specs.Lookup.{first, member_at, or_else, own_method, receiver, selected}
 use Rattle.cjc_written_calls.specs.Calls.{ExportsKeep, IsNamed, IsSought, KeepsSubtypes, KeepsTokens, TakesWords, fixed, fixed_words, got, hidden, on_interface, on_object, on_super, shown, super_words, virtual_words}
 use Rattle.cjc_written_calls.specs.Standing.{AreMethods, AreReady, ClassesStand, HaveOwnIds, place}
@@ -48,7 +48,7 @@ use Rattle.cjc_written_calls.proofs.Files.{and_true}
 use Rattle.cjc_written_calls.proofs.Found.{Own, first_own, line_named, own_is, stands_in_method}
 use Rattle.cjc_written_calls.proofs.Got.{Got, Holder, got_in_method, got_is, got_words, holder, shown_is}
 use Rattle.cjc_written_calls.proofs.Held.{FormsLaw, OffsetsLaw}
-use Rattle.cjc_written_calls.proofs.Kins.{name_is}
+use Rattle.cjc_written_calls.proofs.SupertypeTrees.{name_is}
 use Rattle.cjc_written_calls.proofs.Offsets.{added_starts, place_has, stood, stood_has}
 use Rattle.cjc_written_calls.proofs.Reached.{agrees, find_first, fixed_is, hidden_own, super_class, super_says}
 use Rattle.cjc_written_calls.proofs.Receivers.{first_step, found_stands, line_found}
@@ -96,8 +96,8 @@ module _ (p : Package) (facts : Facts p) where
   found_own : (x : List ℕ) (c : Class) → class_named (world p) x ≡ Some c → c.is_imported ≡ false → (i : ℕ) (m : Member) → slice_get c.methods i ≡ Some m → method_found (world p) (member_id x m) ≡ Some (record { owner = c; flags = m.flags })
   found_own x c known own i m there =
       let w = world p in
-      let line_has = ap (first (own_method false m.name m.desc)) (line_is p facts x c known) ∙ first_step (own_method false m.name m.desc) c (upwards (kin w c.supers))
-      ∙ ap (λ q. or_else q (first (own_method false m.name m.desc) (upwards (kin w c.supers)))) (facts.first_one x c known own i m there) in
+      let line_has = ap (first (own_method false m.name m.desc)) (line_is p facts x c known) ∙ first_step (own_method false m.name m.desc) c (upwards (supertypes w c.supers))
+      ∙ ap (λ q. or_else q (first (own_method false m.name m.desc) (upwards (supertypes w c.supers)))) (facts.first_one x c known own i m there) in
       let left : length c.fields + i - length c.fields ≡ i = omega arith in
       ap (option_and_then (method_hit w)) (find_first w x m.name m.desc (member_at c (length c.fields + i)) line_has)
       ∙ ap (option_and_then (λ (d : Class). option_map (λ (q : Member). record { owner = d; flags = q.flags }) (slice_get d.methods (length c.fields + i - length d.fields)))) (facts.placed x c known)
@@ -158,7 +158,7 @@ module _ (p : Package) (facts : Facts p) (subtypes : KeepsSubtypes (world p)) (t
   fixed_taken on m c f known class_here plain own s sig has_receiver =
       let o = own_is w false m.name m.desc c f own in
       let name = name_is w m.class c known in
-      let line_has = ap (first (own_method false m.name m.desc)) (line_is p facts m.class c known) ∙ first_step (own_method false m.name m.desc) c (upwards (kin w c.supers)) ∙ ap (λ q. or_else q (first (own_method false m.name m.desc) (upwards (kin w c.supers)))) own in
+      let line_has = ap (first (own_method false m.name m.desc)) (line_is p facts m.class c known) ∙ first_step (own_method false m.name m.desc) c (upwards (supertypes w c.supers)) ∙ ap (λ q. or_else q (first (own_method false m.name m.desc) (upwards (supertypes w c.supers)))) own in
       let r = fixed_is p facts subtypes tokens keep kinds at begins on m c f known class_here plain own f (find_first w m.class m.name m.desc f line_has) in
       ap (card.words (loaded p)) r.0 ∙ same_words f.imported
       ∙ found_words on m s sig m.class false c (ap (class_named w) name ∙ known) f o r.1
@@ -217,7 +217,7 @@ module _ (p : Package) (facts : Facts p) (subtypes : KeepsSubtypes (world p)) (t
   got_taken m d known class_here plain t e none s sig =
       let r = mean m.class d known class_here (signature m) t e in
       let stands = class_stands p facts m.class d known class_here in
-      let agree = dispatch_agrees w facts.is_kin facts.one_kin n (method_offset p) facts.low kinds stands.height m.class stands.foot stands.tower (height_fits p facts m.class d known stands) in
+      let agree = dispatch_agrees w facts.are_supertypes facts.one_supertypes n (method_offset p) facts.low kinds stands.height m.class stands.foot stands.tower (height_fits p facts m.class d known stands) in
       ap (λ q. card.words_of (loaded p) true (dispatched (tower (loaded p) (n.class m.class)) q)) (dispatched_shown p tokens m d known class_here none t e)
       ∙ ap (card.words_of (loaded p) true) (agree.open_method t r.method (signature m) r.by_token r.name)
       ∙ held_words m plain s sig stands.foot r.method (λ here. holder p facts (signature m) r.method here m.class d known class_here r.nearest)

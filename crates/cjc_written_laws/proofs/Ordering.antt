@@ -7,7 +7,7 @@ use Rattle.cjc_bytecode.specs.Effects.{Memory}
 use Rattle.cjc_bytecode.specs.Machine.{Nowhere, State, Within}
 use Rattle.cjc_bytecode.specs.Machine as machine
 use Rattle.cjc_bytecode.specs.Renaming.{AreAlike, KnownHeap, no_things, numbers_known, object_known, one_thing, option_as, shape_as}
-use Rattle.cjc_bytes.specs.Breaks.{Spot}
+use Rattle.cjc_bytes.specs.Breaks.{RulePlace}
 use Rattle.cjc_bytes.specs.declared.fault.MemberId.{MemberId}
 use Rattle.cjc_by_name.specs.Linked.{Method}
 use Rattle.cjc_by_name.specs.Linked as linked
@@ -61,11 +61,11 @@ placed_is p x = placed_laid p.files (near_fields (pool p)) (Rattle.cjc_component
 abbrev pub IsOrdered : NMethod → Type 0
 IsOrdered m = overtaking [] m.catches ≡ []
 
-none_least : (xs : List ℕ) (place : ℕ → Spot) → order_breaks place (least xs) ≡ [] → xs ≡ []
+none_least : (xs : List ℕ) (place : ℕ → RulePlace) → order_breaks place (least xs) ≡ [] → xs ≡ []
 none_least [] place e = refl
 none_least (x ∷ xs) place e = cc
 
-pub ordered_by : (m : NMethod) (place : ℕ → Spot) → order_breaks place (least (overtaking [] m.catches)) ≡ [] → IsOrdered m
+pub ordered_by : (m : NMethod) (place : ℕ → RulePlace) → order_breaks place (least (overtaking [] m.catches)) ≡ [] → IsOrdered m
 ordered_by m place e = none_least (overtaking [] m.catches) place e
 
 -- no handler is left where nothing is reached

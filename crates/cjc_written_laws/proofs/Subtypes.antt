@@ -12,11 +12,11 @@ use Rattle.cjc_upward_laws.proofs.Lines.{gathered_has, line_below, on_line}
 use Rattle.cjc_upward_laws.specs.Upwards.{Below, Has, IsOrdered, OnLine, after, foremost, here, up}
 use Rattle.cjc_vtable.specs.Laws.{Under, below, interface_named, itself}
 use Rattle.cjc_world.proofs.Cycles.{class_named-name}
-use Rattle.cjc_world.proofs.Settled.{bytes-refl, bytes-true, kin-IsKin}
+use Rattle.cjc_world.proofs.Settled.{bytes-refl, bytes-true, supertypes-AreSupertypes}
 use Rattle.cjc_world.specs.Classes.{Class, class_named}
 use Rattle.cjc_world.specs.Interfaces.{Interface, each_once, gathered, is_among, known, where_listed}
-use Rattle.cjc_world.specs.Kin.{End, IsKin, Kin, Known, ends, kin, known_here, unknown_here}
-use Rattle.cjc_world.specs.Kin as kins
+use Rattle.cjc_world.specs.Supertypes.{End, AreSupertypes, Supertypes, Known, ends, supertypes, known_here, unknown_here}
+use Rattle.cjc_world.specs.Supertypes as supertype_trees
 use Rattle.cjc_world.specs.Lookup.{object}
 use Rattle.cjc_world.specs.Subtype.{is_subtype, starts}
 use Rattle.cjc_written_calls.specs.Calls.{KeepsSubtypes, Receives, numbers, one_of, references}
@@ -42,7 +42,7 @@ told_both : (w : List Class) (is js : List Interface) → AreTold w is → AreTo
 told_both w [] js a b = b
 told_both w (i ∷ is) js a b = (a.0, told_both w is js a.1 b)
 
-told_gathered : (w : List Class) (listed : Bool) (xs : List (List ℕ)) (k : Kin) → IsKin w xs k → AreTold w (gathered listed k)
+told_gathered : (w : List Class) (listed : Bool) (xs : List (List ℕ)) (k : Supertypes) → AreSupertypes w xs k → AreTold w (gathered listed k)
 unfolding gathered
 told_gathered w listed xs k ends = tt
 told_gathered w true xs k (unknown_here {xs = rest} {next = next} e n) = (sym e, told_gathered w true rest next n)
@@ -125,18 +125,18 @@ module _ (w : List Class) (ordered : IsOrdered w) (plain : (x : List ℕ) (c : C
   implements : (x y : List ℕ) (c i : Class) → class_named w x ≡ Some c → is_interface c.flags ≡ false → class_named w y ≡ Some i → is_interface i.flags ≡ true → is_subtype w x y ≡ true → interface_named (known (interfaces_at w c)) y ≡ Some i
   unfolding interfaces_at gathered
   implements x y c i e concrete f interface sub =
-      let s = kin-IsKin w ordered.acyclic c.supers in
-      let t = kin-IsKin w ordered.acyclic c.interfaces in
-      let tree : IsKin w (x ∷ []) (Known c (kin w c.supers) (kin w c.interfaces) End) = known_here e s t ends in
+      let s = supertypes-AreSupertypes w ordered.acyclic c.supers in
+      let t = supertypes-AreSupertypes w ordered.acyclic c.interfaces in
+      let tree : AreSupertypes w (x ∷ []) (Known c (supertypes w c.supers) (supertypes w c.interfaces) End) = known_here e s t ends in
       let one : (v : Class) → class_named w x ≡ Some v → (false ≡ true) ⊎ (is_interface v.flags ≡ false) = λ v g. inr (subst (λ (u : Class). is_interface u.flags ≡ false) (same_class (sym e ∙ g)) concrete) in
-      let all = gathered false (Known c (kin w c.supers) (kin w c.interfaces) End) in
-      let has : Has i (known all) = gathered_has w ordered false x (x ∷ []) (Known c (kin w c.supers) (kin w c.interfaces) End) y i tree kins.foremost (below_by x y c i e f sub) f interface one in
-      let told = told_gathered w false (x ∷ []) (Known c (kin w c.supers) (kin w c.interfaces) End) tree in
+      let all = gathered false (Known c (supertypes w c.supers) (supertypes w c.interfaces) End) in
+      let has : Has i (known all) = gathered_has w ordered false x (x ∷ []) (Known c (supertypes w c.supers) (supertypes w c.interfaces) End) y i tree supertype_trees.foremost (below_by x y c i e f sub) f interface one in
+      let told = told_gathered w false (x ∷ []) (Known c (supertypes w c.supers) (supertypes w c.interfaces) End) tree in
       let among = gathered_among w all i told has in
       let name = class_named-name w y i f in
-      once_named w [] (gathered false (kin w c.supers) ++ gathered true (kin w c.interfaces)) y i f
-      (told_both w (gathered false (kin w c.supers)) (gathered true (kin w c.interfaces)) (told_gathered w false c.supers (kin w c.supers) s) (told_gathered w true c.interfaces (kin w c.interfaces) t))
-      refl (subst (λ n. is_among (gathered false (kin w c.supers) ++ gathered true (kin w c.interfaces)) n ≡ true) name (without_ends (gathered false (kin w c.supers) ++ gathered true (kin w c.interfaces)) among))
+      once_named w [] (gathered false (supertypes w c.supers) ++ gathered true (supertypes w c.interfaces)) y i f
+      (told_both w (gathered false (supertypes w c.supers)) (gathered true (supertypes w c.interfaces)) (told_gathered w false c.supers (supertypes w c.supers) s) (told_gathered w true c.interfaces (supertypes w c.interfaces) t))
+      refl (subst (λ n. is_among (gathered false (supertypes w c.supers) ++ gathered true (supertypes w c.interfaces)) n ≡ true) name (without_ends (gathered false (supertypes w c.supers) ++ gathered true (supertypes w c.interfaces)) among))
     where
       without_ends : (is : List Interface) → is_among ((is ++ []) ++ []) i.name ≡ true → is_among is i.name ≡ true
       without_ends is e = subst (λ js. is_among js i.name ≡ true) (append-nil (is ++ []) ∙ append-nil is) e

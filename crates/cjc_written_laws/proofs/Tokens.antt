@@ -33,9 +33,9 @@ use Rattle.cjc_world.specs.Added.{added}
 use Rattle.cjc_world.specs.Classes.{Class, Member, all_classes, class_named, declared, imported, method_of_export}
 use Rattle.cjc_world.specs.Exported.{is_exported}
 use Rattle.cjc_world.specs.Files.{Files}
-use Rattle.cjc_world.specs.Kin.{IsKin, Kin, Known, Lists, after, ends, foremost, kin, known_here, unknown_here, upwards}
+use Rattle.cjc_world.specs.Supertypes.{AreSupertypes, Supertypes, Known, Lists, after, ends, foremost, supertypes, known_here, unknown_here, upwards}
 use Rattle.cjc_world.proofs.Cycles.{class_named-name}
-use Rattle.cjc_world.proofs.Settled.{IsKin-one, kin-IsKin, lists-front}
+use Rattle.cjc_world.proofs.Settled.{AreSupertypes-one, supertypes-AreSupertypes, lists-front}
 use Rattle.cjc_vtable.proofs.Given.{In-split}
 use Rattle.cjc_written_calls.specs.Calls.{KeepsTokens}
 
@@ -241,7 +241,7 @@ module _ (files : Files) (applets : Bool) (unbroken : token_breaks applets files
   abbrev AreLow : Slots → Type 0
   AreLow all = (s : Signature) (t : ℕ) → token all s ≡ Some t → t < 128
 
-  imported_low : (x : List ℕ) (c : Class) (p : Kin) → class_named w x ≡ Some c → c.is_imported ≡ true → is_interface c.flags ≡ false → IsKin w c.supers p → AreLow (slots (Imported (c ∷ upwards p)))
+  imported_low : (x : List ℕ) (c : Class) (p : Supertypes) → class_named w x ≡ Some c → c.is_imported ≡ true → is_interface c.flags ≡ false → AreSupertypes w c.supers p → AreLow (slots (Imported (c ∷ upwards p)))
   imported_low x c p e import plain sp s t f =
       let m = listed_slot (all_methods (c ∷ upwards p)) t s (token-slot (listed_slots (all_methods (c ∷ upwards p))) s t f) in
       let d = of_classes (c ∷ upwards p) m.0 m.1 in
@@ -270,7 +270,7 @@ module _ (files : Files) (applets : Bool) (unbroken : token_breaks applets files
       whole : (u : Signature) → u ≡ s → token (slots (line_at w c)) u ≡ Some t
       whole u is = ap (token (slots (line_at w c))) is ∙ ap (λ l. token (slots l) s) line ∙ e
 
-  low_line : (xs : List (List ℕ)) (k : Kin) → IsKin w xs k → ((c : Class) (p q r : Kin) → k ≡ Known c p q r → is_interface c.flags ≡ false) → AreLow (slots (line_in w k))
+  low_line : (xs : List (List ℕ)) (k : Supertypes) → AreSupertypes w xs k → ((c : Class) (p q r : Supertypes) → k ≡ Known c p q r → is_interface c.flags ≡ false) → AreLow (slots (line_in w k))
   low_line xs k ends plain s t e = let none = token-nil s in cc
   low_line xs k (unknown_here e n) plain s t f = let none = token-nil s in cc
   low_line xs k (known_here {x = x} {c = c} {supers = p} {interfaces = q} {next = r} e sp ip n) plain s t f = by c.is_imported refl (λ up u v g. low_line c.supers p sp up u v g) s t f
@@ -280,18 +280,18 @@ module _ (files : Files) (applets : Bool) (unbroken : token_breaks applets files
 
       line_is : c.is_imported ≡ false → line_at w c ≡ Declared c (added w c) (line_in w p)
       line_is own =
-          ap (λ b. if b then Imported (c ∷ upwards (kin w c.supers)) else Declared c (added w c) (line_in w (kin w c.supers))) own
-          ∙ ap (λ j. Declared c (added w c) (line_in w j)) (IsKin-one w c.supers (kin w c.supers) p (kin-IsKin w ordered.acyclic c.supers) sp)
+          ap (λ b. if b then Imported (c ∷ upwards (supertypes w c.supers)) else Declared c (added w c) (line_in w (supertypes w c.supers))) own
+          ∙ ap (λ j. Declared c (added w c) (line_in w j)) (AreSupertypes-one w c.supers (supertypes w c.supers) p (supertypes-AreSupertypes w ordered.acyclic c.supers) sp)
 
-      super_plain : (d : Class) (a b o : Kin) → p ≡ Known d a b o → is_interface d.flags ≡ false
+      super_plain : (d : Class) (a b o : Supertypes) → p ≡ Known d a b o → is_interface d.flags ≡ false
       super_plain d a b o is = go c.supers p sp is (λ y l f. ordered.supers x y c d e l f)
         where
-          go : (ys : List (List ℕ)) (j : Kin) → IsKin w ys j → j ≡ Known d a b o → ((y : List ℕ) → Lists y ys → class_named w y ≡ Some d → is_interface d.flags ≡ false) → is_interface d.flags ≡ false
+          go : (ys : List (List ℕ)) (j : Supertypes) → AreSupertypes w ys j → j ≡ Known d a b o → ((y : List ℕ) → Lists y ys → class_named w y ≡ Some d → is_interface d.flags ≡ false) → is_interface d.flags ≡ false
           go ys j ends is each = cc
           go ys j (unknown_here f m) is each = cc
           go ys j (known_here {x = y} {c = v} f sk ik m) is each = each y foremost (f ∙ ap Some (let same : v ≡ d = cc in same))
 
-      by : (b : Bool) → c.is_imported ≡ b → (((d : Class) (a b o : Kin) → p ≡ Known d a b o → is_interface d.flags ≡ false) → AreLow (slots (line_in w p)))
+      by : (b : Bool) → c.is_imported ≡ b → (((d : Class) (a b o : Supertypes) → p ≡ Known d a b o → is_interface d.flags ≡ false) → AreLow (slots (line_in w p)))
           → AreLow (slots (if b then Imported (c ∷ upwards p) else Declared c (added w c) (line_in w p)))
       by true is rest = imported_low x c p e is concrete sp
       by false is rest =
@@ -304,12 +304,12 @@ module _ (files : Files) (applets : Bool) (unbroken : token_breaks applets files
 
   pub keeps_tokens : KeepsTokens w
   keeps_tokens x c s t e plain f =
-      low_line (x ∷ []) (kin w (x ∷ [])) (kin-IsKin w ordered.acyclic (x ∷ [])) head s t f
+      low_line (x ∷ []) (supertypes w (x ∷ [])) (supertypes-AreSupertypes w ordered.acyclic (x ∷ [])) head s t f
     where
-      head : (d : Class) (p q r : Kin) → kin w (x ∷ []) ≡ Known d p q r → is_interface d.flags ≡ false
-      head d p q r is = go (x ∷ []) (kin w (x ∷ [])) (kin-IsKin w ordered.acyclic (x ∷ [])) is refl
+      head : (d : Class) (p q r : Supertypes) → supertypes w (x ∷ []) ≡ Known d p q r → is_interface d.flags ≡ false
+      head d p q r is = go (x ∷ []) (supertypes w (x ∷ [])) (supertypes-AreSupertypes w ordered.acyclic (x ∷ [])) is refl
         where
-          go : (ys : List (List ℕ)) (j : Kin) → IsKin w ys j → j ≡ Known d p q r → ys ≡ x ∷ [] → is_interface d.flags ≡ false
+          go : (ys : List (List ℕ)) (j : Supertypes) → AreSupertypes w ys j → j ≡ Known d p q r → ys ≡ x ∷ [] → is_interface d.flags ≡ false
           go ys j ends is ys_are = cc
           go ys j (unknown_here g m) is ys_are = cc
           go ys j (known_here {x = y} {c = v} g sk ik m) is ys_are =

@@ -3,7 +3,7 @@ use Rattle.std.proofs.Common.{◌≡◌, ℕ, zero, suc, ◌+◌, ◌-◌, ◌�
 use Rattle.std.specs.Prelude.{Option, Some, None, not, option_map, option_and_then, position, slice_get, ◌&&◌, ◌||◌, if◌then◌else◌}
 use Rattle.cjc_bytes.specs.AccessFlags.{is_interface, is_private, is_static}
 use Rattle.cjc_bytes.specs.declared.fault.MemberId.{MemberId}
-use Rattle.cjc_by_name.specs.OnePackage.{Hit, is_initialiser, is_sendable, method_hit}
+use Rattle.cjc_by_name.specs.OnePackage.{ResolvedMember, is_initialiser, is_sendable, method_hit}
 use Rattle.cjc_by_token.specs.Supers.{SaysKinds}
 use Rattle.cjc_calls_by_token.proofs.Dispatch as dispatch
 use Rattle.cjc_calls_by_token.specs.Dispatching.{DispatchAgrees, SaysTables, SaysTower, of_file, of_package, selection_of}
@@ -20,7 +20,7 @@ use Rattle.cjc_lower.specs.Naming.{Naming}
 use Rattle.cjc_tables_by_token.specs.Infos.{HasEntry}
 use Rattle.cjc_tables_by_token.specs.Loading.{naming}
 use Rattle.cjc_tables_by_token.specs.Sound.{IsSound}
-use Rattle.cjc_tokens.proofs.Walks.{kin-known}
+use Rattle.cjc_tokens.proofs.Walks.{supertypes-known}
 use Rattle.cjc_tokens.specs.Lines.{Declared, Imported, line_in, line_of}
 use Rattle.cjc_tokens.specs.Members.{In, Signature, all_methods, chosen, is_constructor, is_hidden, is_shown, is_virtual, later, first_of, signature_of}
 use Rattle.cjc_tokens.specs.Members as members
@@ -31,7 +31,7 @@ use Rattle.cjc_vtable.specs.Dispatch.{tower_of}
 use Rattle.cjc_vtable.specs.Laws.{ImportedCallsAgree, Under, below, itself, selection}
 use Rattle.cjc_world.specs.Added.{added}
 use Rattle.cjc_world.specs.Classes.{Class, Member, class_at, class_named}
-use Rattle.cjc_world.specs.Kin.{IsKin, Kin, Lists, Unknown, End, after, ends, foremost, kin, known_here, line, unknown_here, upwards}
+use Rattle.cjc_world.specs.Supertypes.{AreSupertypes, Supertypes, Lists, Unknown, End, after, ends, foremost, supertypes, known_here, line, unknown_here, upwards}
 use Rattle.cjc_world.specs.Lookup.{first, is_called, is_wanted, member_at, own_method}
 use Rattle.cjc_world.specs.Lookup as lookup
 use Rattle.cjc_world.specs.declared.found.Found.{Found}
@@ -39,7 +39,7 @@ use Rattle.cjc_written_calls.proofs.Called.{declared_is}
 use Rattle.cjc_written_calls.proofs.Facts.{Facts, exported}
 use Rattle.cjc_written_calls.proofs.Files.{some_member, position_has}
 use Rattle.cjc_written_calls.proofs.Found as founds
-use Rattle.cjc_written_calls.proofs.Kins.{name_is}
+use Rattle.cjc_written_calls.proofs.SupertypeTrees.{name_is}
 use Rattle.cjc_written_calls.proofs.Receivers.{first_step, line_found}
 use Rattle.cjc_written_calls.proofs.Towers.{class_stands, height_fits, line_is, line_of_names}
 use Rattle.cjc_written_calls.specs.Calls.{KeepsTokens}
@@ -153,7 +153,7 @@ module _ (list : List ℕ) (p : Package) (sound : IsSound list p.files) (facts :
 
   -- whether a script may send it
   pub record Sends (f : Found) (b : Bool) : Type 0 where
-    pub hit : Hit
+    pub hit : ResolvedMember
     pub there : method_hit w f ≡ Some hit
     pub is : is_sendable id hit ≡ b
 
@@ -177,7 +177,7 @@ module _ (list : List ℕ) (p : Package) (sound : IsSound list p.files) (facts :
   -- ---- what it dispatches to
 
   agree : (x : List ℕ) (c : Class) (e : class_named w x ≡ Some c) (class_here : is_interface c.flags ≡ false) → DispatchAgrees w n (method_offset p) x (let q = class_stands p facts x c e class_here in q.foot)
-  agree x c e class_here = let q = class_stands p facts x c e class_here in dispatch.dispatch_agrees w facts.is_kin facts.one_kin n (method_offset p) facts.low kinds q.height x q.foot q.tower (height_fits p facts x c e q)
+  agree x c e class_here = let q = class_stands p facts x c e class_here in dispatch.dispatch_agrees w facts.are_supertypes facts.one_supertypes n (method_offset p) facts.low kinds q.height x q.foot q.tower (height_fits p facts x c e q)
 
   -- On objects of the class and of those below it, a token dispatches to what selection by name gives, which gives something.
   abbrev pub Dispatches : List ℕ → Token → Type 0
@@ -189,14 +189,14 @@ module _ (list : List ℕ) (p : Package) (sound : IsSound list p.files) (facts :
   dispatches_below y z t far sends x c e class_here under = sends x c e class_here (under_then w under far)
 
   -- where selection gives something from a class, it does so from those below it
-  line_listed : (own : Class → Option Found) (xs : List (List ℕ)) (k : Kin) → IsKin w xs k → (y : List ℕ) → Lists y xs → (f : Found) → first own (line w y) ≡ Some f → (g : Found) × (first own (upwards k) ≡ Some g)
+  line_listed : (own : Class → Option Found) (xs : List (List ℕ)) (k : Supertypes) → AreSupertypes w xs k → (y : List ℕ) → Lists y xs → (f : Found) → first own (line w y) ≡ Some f → (g : Found) × (first own (upwards k) ≡ Some g)
   line_listed own xs k ends y h f e = elim h [ ]
   line_listed own xs k (unknown_here {x = x} {next = next} none rest) y foremost f e =
-      let nothing : line w y ≡ [] = line_of_names p facts y ∙ ap upwards (facts.one_kin (y ∷ []) (kin w (y ∷ [])) (Unknown y End) (facts.is_kin (y ∷ [])) (unknown_here none ends)) in
+      let nothing : line w y ≡ [] = line_of_names p facts y ∙ ap upwards (facts.one_supertypes (y ∷ []) (supertypes w (y ∷ [])) (Unknown y End) (facts.are_supertypes (y ∷ [])) (unknown_here none ends)) in
       let clash : None ≡ Some f = sym (first_nothing own) ∙ ap (first own) (sym nothing) ∙ e in absurd (cc)
   line_listed own xs k (unknown_here none rest) y (after h) f e = line_listed own _ _ rest y h f e
   line_listed own xs k (known_here {x = x} {c = c} {supers = supers} {interfaces = interfaces} {next = next} known ks ki kn) y foremost f e =
-      let here : line w y ≡ c ∷ upwards supers = line_is p facts y c known ∙ ap (λ q. c ∷ upwards q) (facts.one_kin c.supers (kin w c.supers) supers (facts.is_kin c.supers) ks) in
+      let here : line w y ≡ c ∷ upwards supers = line_is p facts y c known ∙ ap (λ q. c ∷ upwards q) (facts.one_supertypes c.supers (supertypes w c.supers) supers (facts.are_supertypes c.supers) ks) in
       (f, first_front own (c ∷ upwards supers) (upwards next) f (ap (first own) (sym here) ∙ e))
   line_listed own xs k (known_here {c = c} {supers = supers} {next = next} known ks ki kn) y (after h) f e =
       let r = line_listed own _ _ kn y h f e in first_after own (c ∷ upwards supers) (upwards next) r.0 r.1
@@ -205,8 +205,8 @@ module _ (list : List ℕ) (p : Package) (sound : IsSound list p.files) (facts :
   selected_below itself f e = (f, e)
   selected_below {x = x} (below {y = y} c known listed more) f e =
       let up = selected_below more f e in
-      let r = line_listed selects c.supers (kin w c.supers) (facts.is_kin c.supers) y listed up.0 up.1 in
-      let q = first_behind selects c (upwards (kin w c.supers)) r.0 r.1 in
+      let r = line_listed selects c.supers (supertypes w c.supers) (facts.are_supertypes c.supers) y listed up.0 up.1 in
+      let q = first_behind selects c (upwards (supertypes w c.supers)) r.0 r.1 in
       (q.0, ap (first selects) (line_is p facts x c known) ∙ q.1)
 
   -- a class that declares a virtual method of the name selects one
@@ -223,7 +223,7 @@ module _ (list : List ℕ) (p : Package) (sound : IsSound list p.files) (facts :
       parts false b e = absurd (cc)
 
   own_line_selected : (x : List ℕ) (c : Class) → class_named w x ≡ Some c → (g : Found) → selects c ≡ Some g → first selects (line w x) ≡ Some g
-  own_line_selected x c e g is = ap (first selects) (line_is p facts x c e) ∙ first_step selects c (upwards (kin w c.supers)) ∙ ap (λ o. lookup.or_else o (first selects (upwards (kin w c.supers)))) is
+  own_line_selected x c e g is = ap (first selects) (line_is p facts x c e) ∙ first_step selects c (upwards (supertypes w c.supers)) ∙ ap (λ o. lookup.or_else o (first selects (upwards (supertypes w c.supers)))) is
 
   -- a public or protected method, by the token of its slot
   open_dispatches : (y : List ℕ) (d : Class) → class_named w y ≡ Some d → finds_shown (line_of w y) s ≡ true → (f : Found) → first selects (line w y) ≡ Some f → (t : ℕ) → token (slots (line_of w y)) s ≡ Some t → Dispatches y (Open t)
@@ -248,7 +248,7 @@ module _ (list : List ℕ) (p : Package) (sound : IsSound list p.files) (facts :
       (g.0, g.1, a.package_method t g.0 s (ap (tables.dispatched_hidden (tower_of w x)) (sym same) ∙ r.2 ∙ g.1))
 
   -- a package-visible one of an imported class, by its token in the export file
-  outside_dispatches : (y : List ℕ) (d : Class) (m : Member) → class_named w y ≡ Some d → d.is_imported ≡ true → In m (d.methods ++ all_methods (upwards (kin w d.supers))) → is_hidden m ≡ true → signature_of m ≡ s → (f : Found) → first selects (line w y) ≡ Some f → Dispatches y (Open m.token)
+  outside_dispatches : (y : List ℕ) (d : Class) (m : Member) → class_named w y ≡ Some d → d.is_imported ≡ true → In m (d.methods ++ all_methods (upwards (supertypes w d.supers))) → is_hidden m ≡ true → signature_of m ≡ s → (f : Found) → first selects (line w y) ≡ Some f → Dispatches y (Open m.token)
   outside_dispatches y d m known import there is_one names f selected x c e class_here under =
       let g = selected_below under f selected in
       let a = agree x c e class_here in
@@ -353,20 +353,20 @@ module _ (list : List ℕ) (p : Package) (sound : IsSound list p.files) (facts :
           }
 
   -- the line of an imported class as tokens see it
-  imported_line : (x : List ℕ) (c : Class) → class_named w x ≡ Some c → c.is_imported ≡ true → line_of w x ≡ Imported (c ∷ upwards (kin w c.supers))
-  imported_line x c e import = ap (line_in w) (kin-known w facts.is_kin facts.one_kin x c e) ∙ ap (λ t. if t then Imported (c ∷ upwards (kin w c.supers)) else Declared c (added w c) (line_in w (kin w c.supers))) import
+  imported_line : (x : List ℕ) (c : Class) → class_named w x ≡ Some c → c.is_imported ≡ true → line_of w x ≡ Imported (c ∷ upwards (supertypes w c.supers))
+  imported_line x c e import = ap (line_in w) (supertypes-known w facts.are_supertypes facts.one_supertypes x c e) ∙ ap (λ t. if t then Imported (c ∷ upwards (supertypes w c.supers)) else Declared c (added w c) (line_in w (supertypes w c.supers))) import
 
-  own_line : (x : List ℕ) (c : Class) → class_named w x ≡ Some c → c.is_imported ≡ false → line_of w x ≡ Declared c (added w c) (line_in w (kin w c.supers))
-  own_line x c e own = ap (line_in w) (kin-known w facts.is_kin facts.one_kin x c e) ∙ ap (λ t. if t then Imported (c ∷ upwards (kin w c.supers)) else Declared c (added w c) (line_in w (kin w c.supers))) own
+  own_line : (x : List ℕ) (c : Class) → class_named w x ≡ Some c → c.is_imported ≡ false → line_of w x ≡ Declared c (added w c) (line_in w (supertypes w c.supers))
+  own_line x c e own = ap (line_in w) (supertypes-known w facts.are_supertypes facts.one_supertypes x c e) ∙ ap (λ t. if t then Imported (c ∷ upwards (supertypes w c.supers)) else Declared c (added w c) (line_in w (supertypes w c.supers))) own
 
   -- an imported class that is no interface: its export file and those of what stands above it
   pub files_told : (x : List ℕ) (c : Class) → class_named w x ≡ Some c → c.is_imported ≡ true → is_interface c.flags ≡ false → (k : ℕ) → Told x (first finds (line w x)) (found_token n.loaded (suc k) (Some (n.class x)) id)
-  files_told x c known import class_here k = subst (Told x (first finds (line w x))) (sym token_is) (by (first finds (c ∷ upwards (kin w c.supers))) refl)
+  files_told x c known import class_here k = subst (Told x (first finds (line w x))) (sym token_is) (by (first finds (c ∷ upwards (supertypes w c.supers))) refl)
     where
       h : HasEntry p c
       h = Rattle.cjc_written_calls.proofs.Files.has p facts x c known import
 
-      on_card : n.class x ≡ card.Foreign h.file h.entry.token
+      on_card : n.class x ≡ card.External h.file h.entry.token
       on_card = sym (ap (card_class p) (name_is w x c known)) ∙ h.on_card
 
       supers_are : h.entry.supers ≡ c.supers
@@ -375,44 +375,44 @@ module _ (list : List ℕ) (p : Package) (sound : IsSound list p.files) (facts :
       entry_plain : (j : ℕ) (m : Rattle.cjc_export.specs.declared.tree.ExportMethod.ExportMethod) → slice_get h.entry.methods j ≡ Some m → members.is_initialiser m.name ≡ true → is_static m.flags ≡ true
       entry_plain = Rattle.cjc_written_calls.proofs.Files.entry_plain p facts x c known import
 
-      listed : token_in_files (exported_line n.loaded (Some h.entry)) id ≡ classes_token id (c ∷ upwards (kin w c.supers))
+      listed : token_in_files (exported_line n.loaded (Some h.entry)) id ≡ classes_token id (c ∷ upwards (supertypes w c.supers))
       listed =
           ap (λ o. or_else o (token_in_files (Rattle.cjc_export.specs.Supers.upwards (exported p) h.entry.supers) id)) (listed_is id h.number h.entry entry_plain ∙ ap (class_token id) (sym h.class))
           ∙ ap (λ ss. or_else (class_token id c) (token_in_files (Rattle.cjc_export.specs.Supers.upwards (exported p) ss) id)) supers_are
           ∙ ap (or_else (class_token id c)) (upwards_token p facts id c.supers (λ y d l e. facts.rules.apart x y c d known import l e))
 
-      token_is : found_token n.loaded (suc k) (Some (n.class x)) id ≡ option_map (option_map Open) (classes_token id (c ∷ upwards (kin w c.supers)))
+      token_is : found_token n.loaded (suc k) (Some (n.class x)) id ≡ option_map (option_map Open) (classes_token id (c ∷ upwards (supertypes w c.supers)))
       token_is =
           ap (λ q. found_token n.loaded (suc k) (Some q) id) on_card
           ∙ ap (λ o. option_map (option_map Open) (token_in_files (exported_line n.loaded o) id)) h.there
           ∙ ap (option_map (option_map Open)) listed
 
-      named_line : founds.AllNamed w (c ∷ upwards (kin w c.supers))
+      named_line : founds.AllNamed w (c ∷ upwards (supertypes w c.supers))
       named_line = subst (founds.AllNamed w) (line_is p facts x c known) (founds.line_named w x)
 
-      line_here : first finds (line w x) ≡ first finds (c ∷ upwards (kin w c.supers))
+      line_here : first finds (line w x) ≡ first finds (c ∷ upwards (supertypes w c.supers))
       line_here = ap (first finds) (line_is p facts x c known)
 
-      by : (o : Option Found) → first finds (c ∷ upwards (kin w c.supers)) ≡ o → Told x (first finds (line w x)) (option_map (option_map Open) (classes_token id (c ∷ upwards (kin w c.supers))))
+      by : (o : Option Found) → first finds (c ∷ upwards (supertypes w c.supers)) ≡ o → Told x (first finds (line w x)) (option_map (option_map Open) (classes_token id (c ∷ upwards (supertypes w c.supers))))
       by None is =
-          subst (λ q. Told x (first finds (line w x)) (option_map (option_map Open) q)) (sym (classes_none (c ∷ upwards (kin w c.supers)) is))
+          subst (λ q. Told x (first finds (line w x)) (option_map (option_map Open) q)) (sym (classes_none (c ∷ upwards (supertypes w c.supers)) is))
           (subst (λ q. Told x q None) (sym (line_here ∙ is)) nowhere)
       by (Some f) is =
-          let r = classes_some (c ∷ upwards (kin w c.supers)) f named_line is in
+          let r = classes_some (c ∷ upwards (supertypes w c.supers)) f named_line is in
           subst (λ q. Told x (first finds (line w x)) (option_map (option_map Open) q)) (sym r.says)
           (subst (λ q. Told x q (option_map (option_map Open) (Some (if is_virtual r.method then Some r.method.token else None)))) (sym (line_here ∙ is)) (virtual r (is_virtual r.method) refl))
         where
-          shown_is : (r : FirstOf (c ∷ upwards (kin w c.supers)) f) → finds_shown (line_of w x) s ≡ is_shown r.method
+          shown_is : (r : FirstOf (c ∷ upwards (supertypes w c.supers)) f) → finds_shown (line_of w x) s ≡ is_shown r.method
           shown_is r = ap (λ l. finds_shown l s) (imported_line x c known import) ∙ ap (λ o. passes is_shown o false) r.chosen_is
 
-          open_one : (r : FirstOf (c ∷ upwards (kin w c.supers)) f) (g : Found) → first selects (line w x) ≡ Some g → is_virtual r.method ≡ true → (t : Bool) → is_shown r.method ≡ t → Dispatches x (Open r.method.token)
+          open_one : (r : FirstOf (c ∷ upwards (supertypes w c.supers)) f) (g : Found) → first selects (line w x) ≡ Some g → is_virtual r.method ≡ true → (t : Bool) → is_shown r.method ≡ t → Dispatches x (Open r.method.token)
           open_one r g selected is_one true shown_one =
               let once = facts.tokens_once x x c c known class_here known itself in
               let there = once.listed c r.method known import r.among shown_one in
               open_dispatches x c known (shown_is r ∙ shown_one) g selected r.method.token (ap (token (slots (line_of w x))) (sym r.names) ∙ there)
           open_one r g selected is_one false not_shown = outside_dispatches x c r.method known import r.among (Rattle.cjc_written_sends.proofs.Tokens.virtual_kinds r.method is_one not_shown) r.names g selected
 
-          virtual : (r : FirstOf (c ∷ upwards (kin w c.supers)) f) (t : Bool) → is_virtual r.method ≡ t → Told x (Some f) (option_map (option_map Open) (Some (if is_virtual r.method then Some r.method.token else None)))
+          virtual : (r : FirstOf (c ∷ upwards (supertypes w c.supers)) f) (t : Bool) → is_virtual r.method ≡ t → Told x (Some f) (option_map (option_map Open) (Some (if is_virtual r.method then Some r.method.token else None)))
           virtual r false not_one = subst (λ t. Told x (Some f) (option_map (option_map Open) (Some (if t then Some r.method.token else None)))) (sym not_one) (bound (subst (Sends f) not_one r.sends))
           virtual r true is_one =
               let g = r.selected is_one in
@@ -465,13 +465,13 @@ module _ (list : List ℕ) (p : Package) (sound : IsSound list p.files) (facts :
 
             by : (t : Bool) → is_shown m ≡ t → Told x (Some f) (Some (described_token (record { part = 0; method = method_descriptor p c (member_at c (length c.fields + i)) })))
             by true shown_one =
-                let finds_it : finds_shown (line_of w x) s ≡ true = ap (λ l. finds_shown l s) (own_line x c known own) ∙ ap (λ o. passes is_shown o (finds_shown (line_in w (kin w c.supers)) s)) first_one ∙ shown_one in
+                let finds_it : finds_shown (line_of w x) s ≡ true = ap (λ l. finds_shown l s) (own_line x c known own) ∙ ap (λ o. passes is_shown o (finds_shown (line_in w (supertypes w c.supers)) s)) first_one ∙ shown_one in
                 let calls = facts.virtual_calls x x c c known class_here known itself in
                 let r = calls.open_method s finds_it in
                 subst (λ t. Told x (Some f) (Some t)) (sym (shown_described list p sound facts x c known own class_here i m there is_one shown_one r.0 (ap (token (slots (line_of w x))) names ∙ r.1) (tokens x c s r.0 known class_here r.1)))
                 (bears sends (open_dispatches x c known finds_it chosen_one.0 selected r.0 r.1))
             by false not_shown =
-                let finds_it : finds_hidden (line_of w x) s ≡ true = ap (λ l. finds_hidden l s) (own_line x c known own) ∙ ap (λ o. passes is_hidden o (finds_hidden (line_in w (kin w c.supers)) s)) first_one ∙ Rattle.cjc_written_sends.proofs.Tokens.virtual_kinds m is_one not_shown in
+                let finds_it : finds_hidden (line_of w x) s ≡ true = ap (λ l. finds_hidden l s) (own_line x c known own) ∙ ap (λ o. passes is_hidden o (finds_hidden (line_in w (supertypes w c.supers)) s)) first_one ∙ Rattle.cjc_written_sends.proofs.Tokens.virtual_kinds m is_one not_shown in
                 let calls = facts.virtual_calls x x c c known class_here known itself in
                 let r = calls.package_method s finds_it in
                 subst (λ t. Told x (Some f) (Some t)) (sym (hidden_described list p sound facts x c known own class_here i m there is_one not_shown r.0 (ap (token (hidden_slots (line_of w x))) names ∙ r.1)))
@@ -499,8 +499,8 @@ module _ (list : List ℕ) (p : Package) (sound : IsSound list p.files) (facts :
       where
         line_here : first finds (line w x) ≡ lookup.or_else (finds d) (first finds (line w super))
         line_here =
-            ap (first finds) (line_is p facts x d known) ∙ first_step finds d (upwards (kin w d.supers))
-            ∙ ap (λ ss. lookup.or_else (finds d) (first finds (upwards (kin w ss)))) supers
+            ap (first finds) (line_is p facts x d known) ∙ first_step finds d (upwards (supertypes w d.supers))
+            ∙ ap (λ ss. lookup.or_else (finds d) (first finds (upwards (supertypes w ss)))) supers
             ∙ ap (λ cs. lookup.or_else (finds d) (first finds cs)) (sym (line_of_names p facts super))
 
         by : is_interface d.flags ≡ false → (o : Option Found) → finds d ≡ o → Told super (first finds (line w super)) (found_token n.loaded (suc k) (Some (n.class super)) id)

@@ -17,7 +17,7 @@ use Rattle.cjc_calls_by_token.specs.Dispatching.{selection_of}
 use Rattle.cjc_calls_by_token.specs.Reaching.{BeginsAtOffsets}
 use Rattle.cjc_calls_by_token.specs.Selecting.{signature}
 use Rattle.cjc_card.specs.Calls.{interface_token, is_named, listed_token, place_named, through, through_first, token_if_interface}
-use Rattle.cjc_card.specs.Classes.{Foreign, foreign, is_kind_of}
+use Rattle.cjc_card.specs.Classes.{External, external, is_kind_of}
 use Rattle.cjc_card.specs.Classes as card
 use Rattle.cjc_card.specs.Dispatch.{NotFound, Selection, dispatched_interface}
 use Rattle.cjc_card.specs.Loaded.{ClassNames, Loaded, MethodName}
@@ -44,14 +44,14 @@ use Rattle.cjc_vtable.specs.Laws.{ImportedCallsAgree, selection}
 use Rattle.cjc_world.specs.Added.{asked_by, by_token, own_methods, with_token, without_initialiser}
 use Rattle.cjc_world.specs.Classes.{Class, Member, class_named, imported, method_of_export}
 use Rattle.cjc_world.specs.Interfaces.{Interface, gathered, known, where_listed}
-use Rattle.cjc_world.specs.Kin.{IsKin, Kin, Known, End, Lists, after, ends, foremost, kin, known_here, line, stands, unknown_here}
+use Rattle.cjc_world.specs.Supertypes.{AreSupertypes, Supertypes, Known, End, Lists, after, ends, foremost, supertypes, known_here, line, stands, unknown_here}
 use Rattle.cjc_world.specs.Lookup.{first, is_called, is_selectable, object, own_method}
 use Rattle.cjc_world.specs.Lookup as lookup
 use Rattle.cjc_world.specs.Subtype.{array_is, element, is_element, is_subclass, is_subtype, starts}
 use Rattle.cjc_world.specs.declared.found.Found.{Found}
 use Rattle.cjc_written_calls.proofs.Facts.{Facts}
 use Rattle.cjc_written_calls.proofs.Files.{position_has}
-use Rattle.cjc_written_calls.proofs.Kins.{name_is}
+use Rattle.cjc_written_calls.proofs.SupertypeTrees.{name_is}
 use Rattle.cjc_written_calls.proofs.Placed.{placed_by_name}
 use Rattle.cjc_written_calls.proofs.Reached.{agrees, says_interface}
 use Rattle.cjc_written_calls.proofs.Receivers.{first_step, line_found}
@@ -191,18 +191,18 @@ token_any l (card.Own part offset) y id = by (card.names_of l part offset)
     by : (o : Option ClassNames) → option_and_then (λ (names : ClassNames). place_named names.interface_methods (of_class y id)) o ≡ option_and_then (λ (names : ClassNames). place_named names.interface_methods id) o
     by None = refl
     by (Some names) = place_any names.interface_methods y id
-token_any l (Foreign tree token) y id = by (foreign l tree token)
+token_any l (External tree token) y id = by (external l tree token)
   where
     by : (o : Option ExportClass) → option_and_then (λ (c : ExportClass). option_and_then (λ t. t) (listed_token c.methods (of_class y id))) o ≡ option_and_then (λ (c : ExportClass). option_and_then (λ t. t) (listed_token c.methods id)) o
     by None = refl
     by (Some c) = ap (option_and_then (λ t. t)) (listed_any c.methods y id)
 
 -- a class stands above another in the tree: a subtype
-pub subtype_is : (w : List Class) (x y : List ℕ) → starts 91 x ≡ false → starts 91 y ≡ false → is_subtype w x y ≡ stands y (kin w (x ∷ []))
+pub subtype_is : (w : List Class) (x y : List ℕ) → starts 91 x ≡ false → starts 91 y ≡ false → is_subtype w x y ≡ stands y (supertypes w (x ∷ []))
 unfolding is_subtype is_subclass
 subtype_is w x y no_x no_y =
-    ap (λ t. if t then (if starts 91 y then is_element w (element x) (element y) else array_is w y) else not (starts 91 y) && stands y (kin w (x ∷ []))) no_x
-    ∙ ap (λ t. not t && stands y (kin w (x ∷ []))) no_y
+    ap (λ t. if t then (if starts 91 y then is_element w (element x) (element y) else array_is w y) else not (starts 91 y) && stands y (supertypes w (x ∷ []))) no_x
+    ∙ ap (λ t. not t && stands y (supertypes w (x ∷ []))) no_y
 
 module _ (list : List ℕ) (p : Package) (sound : IsSound list p.files) (facts : Facts p) (subtypes : KeepsSubtypes (world p)) (tokens : KeepsTokens (world p)) (keep : ExportsKeep p) (kinds : SaysKinds (world p) (naming p)) (kinds_agree : KindsAgree (world p) (naming p)) (names_agree : Rattle.cjc_by_token.specs.Names.NamesAgree (world p) (naming p))
     (imported_calls : ImportedCallsAgree (world p)) (told_kinds : (l : Loaded) (c d : card.Class) → (is_kind_of l c d ≡ true) ↔ IsAtOrAbove l c d)
@@ -256,7 +256,7 @@ module _ (list : List ℕ) (p : Package) (sound : IsSound list p.files) (facts :
   -- ---- by name: the interfaces of a class
 
   -- interfaces that are gathered are some, found by their names, and stand in the tree
-  pub gathered_told : (listed : Bool) (xs : List (List ℕ)) (k : Kin) → IsKin w xs k → (listed ≡ true → (y : List ℕ) (d : Class) → Lists y xs → class_named w y ≡ Some d → is_interface d.flags ≡ true)
+  pub gathered_told : (listed : Bool) (xs : List (List ℕ)) (k : Supertypes) → AreSupertypes w xs k → (listed ≡ true → (y : List ℕ) (d : Class) → Lists y xs → class_named w y ≡ Some d → is_interface d.flags ≡ true)
       → (z : Class) → Among z (known (gathered listed k)) → (is_interface z.flags ≡ true) × (class_named w z.name ≡ Some z) × (stands z.name k ≡ true)
   unfolding gathered known
   gathered_told listed xs k ends all z a = elim a [ ]
@@ -301,38 +301,38 @@ module _ (list : List ℕ) (p : Package) (sound : IsSound list p.files) (facts :
   module _ (y0 : List ℕ) (d : Class) (named : class_named w y0 ≡ Some d) where
     -- the interfaces that a look-up goes through behind the line
     abbrev pub listed_interfaces : List Class
-    listed_interfaces = known (gathered false (kin w (y0 ∷ [])))
+    listed_interfaces = known (gathered false (supertypes w (y0 ∷ [])))
 
     abbrev pub own_interfaces : List Class
-    own_interfaces = known (gathered false (kin w d.supers) ++ gathered true (kin w d.interfaces))
+    own_interfaces = known (gathered false (supertypes w d.supers) ++ gathered true (supertypes w d.interfaces))
 
-    pub kin_is : kin w (y0 ∷ []) ≡ Known d (kin w d.supers) (kin w d.interfaces) End
-    kin_is = Rattle.cjc_tokens.proofs.Walks.kin-known w facts.is_kin facts.one_kin y0 d named
+    pub supertypes_is : supertypes w (y0 ∷ []) ≡ Known d (supertypes w d.supers) (supertypes w d.interfaces) End
+    supertypes_is = Rattle.cjc_tokens.proofs.Walks.supertypes-known w facts.are_supertypes facts.one_supertypes y0 d named
 
     pub listed_are : listed_interfaces ≡ own_interfaces
     unfolding gathered
     listed_are =
-        ap (λ k. known (gathered false k)) kin_is
-        ∙ ap known (Rattle.std.proofs.lemmas.List.append-nil ((gathered false (kin w d.supers) ++ gathered true (kin w d.interfaces)) ++ []))
-        ∙ ap known (Rattle.std.proofs.lemmas.List.append-nil (gathered false (kin w d.supers) ++ gathered true (kin w d.interfaces)))
+        ap (λ k. known (gathered false k)) supertypes_is
+        ∙ ap known (Rattle.std.proofs.lemmas.List.append-nil ((gathered false (supertypes w d.supers) ++ gathered true (supertypes w d.interfaces)) ++ []))
+        ∙ ap known (Rattle.std.proofs.lemmas.List.append-nil (gathered false (supertypes w d.supers) ++ gathered true (supertypes w d.interfaces)))
 
-  above_told : (y : List ℕ) (i : Class) → class_named w y ≡ Some i → (z : Class) → Among z (known (gathered false (kin w i.supers) ++ gathered true (kin w i.interfaces))) → (is_interface z.flags ≡ true) × (class_named w z.name ≡ Some z) × (stands z.name (kin w (y ∷ [])) ≡ true)
+  above_told : (y : List ℕ) (i : Class) → class_named w y ≡ Some i → (z : Class) → Among z (known (gathered false (supertypes w i.supers) ++ gathered true (supertypes w i.interfaces))) → (is_interface z.flags ≡ true) × (class_named w z.name ≡ Some z) × (stands z.name (supertypes w (y ∷ [])) ≡ true)
   above_told y i known_i z a =
-      gathered_told false (y ∷ []) (kin w (y ∷ [])) (facts.is_kin (y ∷ [])) (λ h. absurd (cc)) z (subst (Among z) (sym (listed_are y i known_i)) a)
+      gathered_told false (y ∷ []) (supertypes w (y ∷ [])) (facts.are_supertypes (y ∷ [])) (λ h. absurd (cc)) z (subst (Among z) (sym (listed_are y i known_i)) a)
 
   -- ---- the methods of an interface
 
   -- one of its own, or of those above it
-  interface_member : (i : Class) → has (interface_methods w i) s ≡ true → (m : Member) × (signature_of m ≡ s) × (In m (own_methods i) ⊎ In m (asked_by (kin w i.supers) (kin w i.interfaces)))
+  interface_member : (i : Class) → has (interface_methods w i) s ≡ true → (m : Member) × (signature_of m ≡ s) × (In m (own_methods i) ⊎ In m (asked_by (supertypes w i.supers) (supertypes w i.interfaces)))
   unfolding interface_methods
   interface_member i h =
-      let ms = if i.is_imported then own_methods i else asked_by (kin w i.supers) (kin w i.interfaces) ++ own_methods i in
+      let ms = if i.is_imported then own_methods i else asked_by (supertypes w i.supers) (supertypes w i.interfaces) ++ own_methods i in
       let r = has_member ms s (Rattle.cjc_tokens.proofs.Held.new-offered [] (map signature_of ms) s h) in
       (r.0, r.2, by i.is_imported r.0 r.1)
     where
-      by : (b : Bool) (m : Member) → In m (if b then own_methods i else asked_by (kin w i.supers) (kin w i.interfaces) ++ own_methods i) → In m (own_methods i) ⊎ In m (asked_by (kin w i.supers) (kin w i.interfaces))
+      by : (b : Bool) (m : Member) → In m (if b then own_methods i else asked_by (supertypes w i.supers) (supertypes w i.interfaces) ++ own_methods i) → In m (own_methods i) ⊎ In m (asked_by (supertypes w i.supers) (supertypes w i.interfaces))
       by true m j = inl j
-      by false m j = ⊎_elim (λ k. inr k) (λ k. inl k) (In-split m (asked_by (kin w i.supers) (kin w i.interfaces)) (own_methods i) j)
+      by false m j = ⊎_elim (λ k. inr k) (λ k. inl k) (In-split m (asked_by (supertypes w i.supers) (supertypes w i.interfaces)) (own_methods i) j)
 
   own_finds : (z : Class) (m : Member) → In m (own_methods z) → signature_of m ≡ s → (f : Found) × (finds z ≡ Some f)
   unfolding own_method
@@ -342,7 +342,7 @@ module _ (list : List ℕ) (p : Package) (sound : IsSound list p.files) (facts :
       let at = position_there (λ (q : Member). is_called id.name id.desc q) z.methods k.0 m k.1 called in
       (lookup.member_at z (length z.fields + at.0), ap (option_map (λ j. lookup.member_at z (length z.fields + j))) at.1)
 
-  asked_finds : (supers interfaces : Kin) (m : Member) → In m (asked_by supers interfaces) → signature_of m ≡ s → (f : Found) × (first finds (known (gathered false supers ++ gathered true interfaces)) ≡ Some f)
+  asked_finds : (supers interfaces : Supertypes) (m : Member) → In m (asked_by supers interfaces) → signature_of m ≡ s → (f : Found) × (first finds (known (gathered false supers ++ gathered true interfaces)) ≡ Some f)
   unfolding asked_by
   asked_finds supers interfaces m i names =
       let z = in-interface m (known (gathered false supers ++ gathered true interfaces)) i in
@@ -350,10 +350,10 @@ module _ (list : List ℕ) (p : Package) (sound : IsSound list p.files) (facts :
       first_among finds z.0 (known (gathered false supers ++ gathered true interfaces)) f.0 z.1 f.1
 
   -- An interface that has the method has it itself, or one above it does.
-  pub place_finds : (i : Class) (t : ℕ) → place_in i ≡ Some t → ((f : Found) × (finds i ≡ Some f)) ⊎ ((f : Found) × (first finds (known (gathered false (kin w i.supers) ++ gathered true (kin w i.interfaces))) ≡ Some f))
+  pub place_finds : (i : Class) (t : ℕ) → place_in i ≡ Some t → ((f : Found) × (finds i ≡ Some f)) ⊎ ((f : Found) × (first finds (known (gathered false (supertypes w i.supers) ++ gathered true (supertypes w i.interfaces))) ≡ Some f))
   place_finds i t is =
       let r = interface_member i (has-here (interface_methods w i) t s (position_is (interface_methods w i) s t is)) in
-      ⊎_elim (λ j. inl (own_finds i r.0 j r.1)) (λ j. inr (asked_finds (kin w i.supers) (kin w i.interfaces) r.0 j r.1)) r.2
+      ⊎_elim (λ j. inl (own_finds i r.0 j r.1)) (λ j. inr (asked_finds (supertypes w i.supers) (supertypes w i.interfaces) r.0 j r.1)) r.2
 
   -- ---- constructors and initialisers: no interface has them
 
@@ -365,9 +365,9 @@ module _ (list : List ℕ) (p : Package) (sound : IsSound list p.files) (facts :
       none_own z m known_z z_here j names =
           let clash : false ≡ true = sym (facts.interfaces.plain z.name z m known_z j z_here) ∙ ap is_special names ∙ special in cc
 
-      none_asked : (m : Member) → In m (asked_by (kin w i.supers) (kin w i.interfaces)) → signature_of m ≡ s → ⊥
+      none_asked : (m : Member) → In m (asked_by (supertypes w i.supers) (supertypes w i.interfaces)) → signature_of m ≡ s → ⊥
       none_asked m j names =
-          let z = in-interface m (known (gathered false (kin w i.supers) ++ gathered true (kin w i.interfaces))) j in
+          let z = in-interface m (known (gathered false (supertypes w i.supers) ++ gathered true (supertypes w i.interfaces))) j in
           let told = above_told y i known_i z.0 z.1 in
           none_own z.0 m told.1 told.0 z.2 names
 
@@ -533,7 +533,7 @@ module _ (list : List ℕ) (p : Package) (sound : IsSound list p.files) (facts :
         tokens_of c = by_token (length c.methods) 0 c.methods
 
         asked : Class → List Member
-        asked c = asked_by (kin w c.supers) (kin w c.interfaces)
+        asked c = asked_by (supertypes w c.supers) (supertypes w c.interfaces)
 
         without_has : (ms : List Member) (k : ℕ) (m : Member) → slice_get ms k ≡ Some m → members.is_initialiser m.name ≡ false → In m (without ms)
         without_has [] k m e f = absurd (cc)
@@ -603,7 +603,7 @@ module _ (list : List ℕ) (p : Package) (sound : IsSound list p.files) (facts :
           → (g : Found) × (selection w x s ≡ Some g) × (dispatched_interface n.loaded (Some (n.class x)) (n.class y) t ≡ selection_of n (method_offset p) foot s g)
       interface_dispatches y i known_i here sub t is =
           let among = named-among (known (interfaces_at w c)) y i (subtypes.implements x y c i e class_here known_i here sub) in
-          let asked = method-asked w facts.is_kin facts.one_kin c i s among (has-here (interface_methods w i) t s (position_is (interface_methods w i) s t is)) in
+          let asked = method-asked w facts.are_supertypes facts.one_supertypes c i s among (has-here (interface_methods w i) t s (position_is (interface_methods w i) s t is)) in
           let has_one = facts.interfaces.methods x c asked.0 e own made asked.1 in
           let g = chosen_selects (line w x) has_one.0 (ap (λ v. chosen calls.selects v (Rattle.cjc_tokens.specs.Members.all_methods (line w x))) (sym asked.2) ∙ has_one.1) in
           let a = agrees p facts subtypes tokens keep kinds place begins x c e class_here in
@@ -617,8 +617,8 @@ module _ (list : List ℕ) (p : Package) (sound : IsSound list p.files) (facts :
       pub token_found : is_interface d.flags ≡ false → (y : List ℕ) (i : Class) → class_named w y ≡ Some i → is_interface i.flags ≡ true → is_subtype w y0 y ≡ true → (t : ℕ) → place_in i ≡ Some t → (f : Found) × (first finds (listed_interfaces y0 d named) ≡ Some f)
       token_found named_class y i known_i here sub t is =
           let among = named-among (known (interfaces_at w d)) y i (subtypes.implements y0 y d i named named_class known_i here sub) in
-          let asked = method-asked w facts.is_kin facts.one_kin d i s among (has-here (interface_methods w i) t s (position_is (interface_methods w i) s t is)) in
-          let r = asked_finds (kin w d.supers) (kin w d.interfaces) asked.0 asked.1 asked.2 in
+          let asked = method-asked w facts.are_supertypes facts.one_supertypes d i s among (has-here (interface_methods w i) t s (position_is (interface_methods w i) s t is)) in
+          let r = asked_finds (supertypes w d.supers) (supertypes w d.interfaces) asked.0 asked.1 asked.2 in
           (r.0, ap (first finds) (listed_are y0 d named) ∙ r.1)
 
       -- what the look-up finds: a script may send it, and an interface that stands above has it by token
@@ -636,7 +636,7 @@ module _ (list : List ℕ) (p : Package) (sound : IsSound list p.files) (facts :
       found_offered f e =
           let r = among_first finds (listed_interfaces y0 d named) f e in
           let z = r.0 in
-          let told = gathered_told false (y0 ∷ []) (kin w (y0 ∷ [])) (facts.is_kin (y0 ∷ [])) (λ h. absurd (cc)) z r.1 in
+          let told = gathered_told false (y0 ∷ []) (supertypes w (y0 ∷ [])) (facts.are_supertypes (y0 ∷ [])) (λ h. absurd (cc)) z r.1 in
           let q = Rattle.cjc_written_sends.proofs.Found.class_chosen list p sound facts tokens kinds imported_calls id z f r.2 in
           let virtual = asked_virtual z.name z told.1 told.0 q.1 q.0 q.2 q.4 in
           let placed = own_place z told.1 told.0 q.1 q.0 q.2 q.4 q.5 in
@@ -664,16 +664,16 @@ module _ (list : List ℕ) (p : Package) (sound : IsSound list p.files) (facts :
 
     module _ (supers : (y : List ℕ) (c : Class) → class_named w y ≡ Some c → is_interface c.flags ≡ true → c.supers ≡ object ∷ []) (y : List ℕ) (i : Class) (known_i : class_named w y ≡ Some i) (here : is_interface i.flags ≡ true) (t : ℕ) (is : place_in i ≡ Some t) where
       -- it stands above java/lang/Object
-      object_has : (k : Kin) → IsKin w (object ∷ []) k → stands y k ≡ true → Has (known (gathered false k))
+      object_has : (k : Supertypes) → AreSupertypes w (object ∷ []) k → stands y k ≡ true → Has (known (gathered false k))
       object_has k ki st =
           let o = facts.object_class in
-          let same : kin w (object ∷ []) ≡ k = facts.one_kin (object ∷ []) (kin w (object ∷ [])) k (facts.is_kin (object ∷ [])) ki in
+          let same : supertypes w (object ∷ []) ≡ k = facts.one_supertypes (object ∷ []) (supertypes w (object ∷ [])) k (facts.are_supertypes (object ∷ [])) ki in
           let sub : is_subtype w object y ≡ true = subtype_is w object y (kinds.no_array object (ap is_some o.1)) (kinds.no_array y (ap is_some known_i)) ∙ ap (stands y) same ∙ st in
           let r = token_found object o.0 o.1 o.3 y i known_i here sub t is in
           (r.0, ap (λ q. first finds (known (gathered false q))) (sym same) ∙ r.1)
 
       -- or it is the interface, or stands above it
-      step_has : (x : List ℕ) (c : Class) (su it next : Kin) → class_named w x ≡ Some c → IsKin w c.supers su → IsKin w c.interfaces it → is_interface c.flags ≡ true
+      step_has : (x : List ℕ) (c : Class) (su it next : Supertypes) → class_named w x ≡ Some c → AreSupertypes w c.supers su → AreSupertypes w c.interfaces it → is_interface c.flags ≡ true
           → (stands y next ≡ true → Has (known (gathered true next))) → (stands y it ≡ true → Has (known (gathered true it))) → stands y (Known c su it next) ≡ true → Has (known (gathered true (Known c su it next)))
       unfolding gathered known
       step_has x c su it next e ks ki c_here on_next on_it st =
@@ -686,18 +686,18 @@ module _ (list : List ℕ) (p : Package) (sound : IsSound list p.files) (facts :
           (⊎_elim
           (λ side. ⊎_elim
           (λ name. itself_has name)
-          (λ h. has_front (A ++ B) H (has_front A B (object_has su (subst (λ ss. IsKin w ss su) (supers x c e c_here) ks) h)))
+          (λ h. has_front (A ++ B) H (has_front A B (object_has su (subst (λ ss. AreSupertypes w ss su) (supers x c e c_here) ks) h)))
           (or_split (bytes_eq c.name y) (stands y su) side))
           (λ h. has_front (A ++ B) H (has_behind A B (on_it h)))
           (or_split (bytes_eq c.name y || stands y su) (stands y it) front)))
           (λ more. has_behind (A ++ B ++ H) R (on_next more))
           (or_split ((bytes_eq c.name y || stands y su) || stands y it) (stands y next) st)
         where
-          trees_same : i ≡ c → known (gathered false (kin w i.supers) ++ gathered true (kin w i.interfaces)) ≡ known (gathered false su ++ gathered true it)
+          trees_same : i ≡ c → known (gathered false (supertypes w i.supers) ++ gathered true (supertypes w i.interfaces)) ≡ known (gathered false su ++ gathered true it)
           trees_same one =
-              ap (λ (q : Class). known (gathered false (kin w q.supers) ++ gathered true (kin w q.interfaces))) one
-              ∙ ap (λ q. known (gathered false q ++ gathered true (kin w c.interfaces))) (facts.one_kin c.supers (kin w c.supers) su (facts.is_kin c.supers) ks)
-              ∙ ap (λ q. known (gathered false su ++ gathered true q)) (facts.one_kin c.interfaces (kin w c.interfaces) it (facts.is_kin c.interfaces) ki)
+              ap (λ (q : Class). known (gathered false (supertypes w q.supers) ++ gathered true (supertypes w q.interfaces))) one
+              ∙ ap (λ q. known (gathered false q ++ gathered true (supertypes w c.interfaces))) (facts.one_supertypes c.supers (supertypes w c.supers) su (facts.are_supertypes c.supers) ks)
+              ∙ ap (λ q. known (gathered false su ++ gathered true q)) (facts.one_supertypes c.interfaces (supertypes w c.interfaces) it (facts.are_supertypes c.interfaces) ki)
 
           itself_has : bytes_eq c.name y ≡ true → Has (known (gathered false su ++ gathered true it ++ where_listed true (record { name = c.name; class = Some c })))
           itself_has name =
@@ -709,7 +709,7 @@ module _ (list : List ℕ) (p : Package) (sound : IsSound list p.files) (facts :
               (λ f. has_front (gathered false su ++ gathered true it) (where_listed true (record { name = c.name; class = Some c })) (subst Has (trees_same one) f))
               (place_finds i t is)
 
-      listed_has : (xs : List (List ℕ)) (k : Kin) → IsKin w xs k → ((z : List ℕ) (d : Class) → Lists z xs → class_named w z ≡ Some d → is_interface d.flags ≡ true) → stands y k ≡ true → Has (known (gathered true k))
+      listed_has : (xs : List (List ℕ)) (k : Supertypes) → AreSupertypes w xs k → ((z : List ℕ) (d : Class) → Lists z xs → class_named w z ≡ Some d → is_interface d.flags ≡ true) → stands y k ≡ true → Has (known (gathered true k))
       unfolding gathered known
       listed_has xs k ends all st = absurd (cc)
       listed_has xs k (unknown_here {x = x} {xs = rest} {next = next} nowhere kn) all st =
@@ -723,11 +723,11 @@ module _ (list : List ℕ) (p : Package) (sound : IsSound list p.files) (facts :
       -- Where an interface that has the method stands above one that has it not, the look-up from that one finds one by name.
       pub above_found : (y0 : List ℕ) (d : Class) (named : class_named w y0 ≡ Some d) → is_interface d.flags ≡ true → place_in d ≡ None → is_subtype w y0 y ≡ true → (f : Found) × (first finds (listed_interfaces y0 d named) ≡ Some f)
       above_found y0 d named named_here lacks sub =
-          let st : stands y (kin w (y0 ∷ [])) ≡ true = sym (subtype_is w y0 y (kinds.no_array y0 (ap is_some named)) (kinds.no_array y (ap is_some known_i))) ∙ sub in
-          let r = by (sym (ap (stands y) (kin_is y0 d named)) ∙ st) in
+          let st : stands y (supertypes w (y0 ∷ [])) ≡ true = sym (subtype_is w y0 y (kinds.no_array y0 (ap is_some named)) (kinds.no_array y (ap is_some known_i))) ∙ sub in
+          let r = by (sym (ap (stands y) (supertypes_is y0 d named)) ∙ st) in
           (r.0, ap (first finds) (listed_are y0 d named) ∙ r.1)
         where
-          by : stands y (Known d (kin w d.supers) (kin w d.interfaces) End) ≡ true → Has (own_interfaces y0 d named)
+          by : stands y (Known d (supertypes w d.supers) (supertypes w d.interfaces) End) ≡ true → Has (own_interfaces y0 d named)
           by st =
               ⊎_elim
               (λ front. ⊎_elim
@@ -736,12 +736,12 @@ module _ (list : List ℕ) (p : Package) (sound : IsSound list p.files) (facts :
               (let both : Some i ≡ Some d = sym known_i ∙ ap (class_named w) (sym (Rattle.cjc_by_token.proofs.Members.bytes_tell d.name y name) ∙ name_is w y0 d named) ∙ named in
               let one : i ≡ d = cc in
               let clash : Some t ≡ None = sym is ∙ ap place_in one ∙ lacks in absurd (cc)))
-              (λ h. has_front (gathered false (kin w d.supers)) (gathered true (kin w d.interfaces)) (object_has (kin w d.supers) (subst (λ ss. IsKin w ss (kin w d.supers)) (supers y0 d named named_here) (facts.is_kin d.supers)) h))
-              (or_split (bytes_eq d.name y) (stands y (kin w d.supers)) side))
-              (λ h. has_behind (gathered false (kin w d.supers)) (gathered true (kin w d.interfaces)) (listed_has d.interfaces (kin w d.interfaces) (facts.is_kin d.interfaces) (λ z c l g. facts.interfaces.listed y0 z d c named l g) h))
-              (or_split (bytes_eq d.name y || stands y (kin w d.supers)) (stands y (kin w d.interfaces)) front))
+              (λ h. has_front (gathered false (supertypes w d.supers)) (gathered true (supertypes w d.interfaces)) (object_has (supertypes w d.supers) (subst (λ ss. AreSupertypes w ss (supertypes w d.supers)) (supers y0 d named named_here) (facts.are_supertypes d.supers)) h))
+              (or_split (bytes_eq d.name y) (stands y (supertypes w d.supers)) side))
+              (λ h. has_behind (gathered false (supertypes w d.supers)) (gathered true (supertypes w d.interfaces)) (listed_has d.interfaces (supertypes w d.interfaces) (facts.are_supertypes d.interfaces) (λ z c l g. facts.interfaces.listed y0 z d c named l g) h))
+              (or_split (bytes_eq d.name y || stands y (supertypes w d.supers)) (stands y (supertypes w d.interfaces)) front))
               (λ more. absurd (cc))
-              (or_split ((bytes_eq d.name y || stands y (kin w d.supers)) || stands y (kin w d.interfaces)) false st)
+              (or_split ((bytes_eq d.name y || stands y (supertypes w d.supers)) || stands y (supertypes w d.interfaces)) false st)
 
     module _ (y0 : List ℕ) (d : Class) (named : class_named w y0 ≡ Some d) (x : List ℕ) (c : Class) (e : class_named w x ≡ Some c) (class_here : is_interface c.flags ≡ false) (own : c.is_imported ≡ false) (made : is_abstract c.flags ≡ false) (sub : is_subtype w x y0 ≡ true) where
       -- none of these has the method by token

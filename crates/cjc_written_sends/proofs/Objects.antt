@@ -20,7 +20,7 @@ use Rattle.cjc_tables_by_token.specs.Known.{is_holder, is_own_exception, known_n
 use Rattle.cjc_tables_by_token.specs.Loading.{naming}
 use Rattle.cjc_by_name.specs.OnePackage.{object_fields}
 use Rattle.cjc_world.specs.Classes.{Class, class_named}
-use Rattle.cjc_written_calls.proofs.Kins.{name_is}
+use Rattle.cjc_written_calls.proofs.SupertypeTrees.{name_is}
 use Rattle.cjc_written_calls.specs.Calls.{Receives, numbers, one_of, references}
 use Rattle.cjc_written_sends.specs.Named.{FaultsAreClasses, is_called, known, known_tests}
 

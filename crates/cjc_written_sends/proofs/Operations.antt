@@ -10,7 +10,7 @@ use Rattle.cjc_bytecode.specs.Effects as letters
 use Rattle.cjc_bytecode.specs.Meanings.{Meaning, Plain, Branches, Ranged, Paired, Touches, Uses, CallsInterface, MakesNumbers, Casts, Asks, Nothing, meaning}
 use Rattle.cjc_bytecode.specs.Renaming.{KnownOperation}
 use Rattle.cjc_by_name.specs.Linked.{Method}
-use Rattle.cjc_by_name.specs.OnePackage.{Hit, is_constructor, method_at, of_class}
+use Rattle.cjc_by_name.specs.OnePackage.{ResolvedMember, is_constructor, method_at, of_class}
 use Rattle.cjc_by_token.proofs.Members.{bytes_same, member_tells}
 use Rattle.cjc_by_token.specs.Cells.{fields, is_one_of, letter, letter_by, may_access, same_letter}
 use Rattle.cjc_by_token.specs.Supers.{HasShape, has_class}
@@ -307,7 +307,7 @@ module _ (p : Package) where
   field_known false false NoValue f h = h
 
   -- the descriptor of a field is that of the one that is found
-  owner_desc : (f : MemberId) (o : Option Hit) → (by_owner f o).desc ≡ f.desc
+  owner_desc : (f : MemberId) (o : Option ResolvedMember) → (by_owner f o).desc ≡ f.desc
   owner_desc f None = refl
   owner_desc f (Some hit) = refl
 
@@ -346,7 +346,7 @@ module _ (p : Package) where
     abbrev r : Resolution
     r = resolution p.files near holder
 
-    special_named : (id : MemberId) (o : Option Hit) → IsKnown (label.naming (meaning 0x8C) (special_by holder id o))
+    special_named : (id : MemberId) (o : Option ResolvedMember) → IsKnown (label.naming (meaning 0x8C) (special_by holder id o))
     special_named id None = special_key id
     special_named id (Some hit) = by (is_constructor id.name || is_private hit.flags)
       where

@@ -18,11 +18,11 @@ use Rattle.cjc_export.specs.Supers as exports
 use Rattle.cjc_tokens.specs.Members.{chosen, is_initialiser, is_virtual}
 use Rattle.cjc_vtable.specs.Calls.{any_method}
 use Rattle.cjc_world.specs.Classes.{Class, Member, class_named, imported, method_of_export}
-use Rattle.cjc_world.specs.Kin.{Above, IsKin, Kin, End, Known, Lists, Unknown, after, directly, ends, foremost, kin, known_here, onwards, stands_by_supers, unknown_here}
-use Rattle.cjc_world.specs.Kin as kins
+use Rattle.cjc_world.specs.Supertypes.{Above, AreSupertypes, Supertypes, End, Known, Lists, Unknown, after, directly, ends, foremost, supertypes, known_here, onwards, stands_by_supers, unknown_here}
+use Rattle.cjc_world.specs.Supertypes as supertype_trees
 use Rattle.cjc_written_calls.proofs.Facts.{Facts, exported}
 use Rattle.cjc_written_calls.proofs.Files.{export_virtual}
-use Rattle.cjc_written_calls.proofs.Kins.{name_is}
+use Rattle.cjc_written_calls.proofs.SupertypeTrees.{name_is}
 
 -- ---- options and tests
 
@@ -141,25 +141,25 @@ module _ (p : Package) (facts : Facts p) (id : MemberId) where
   files_token us = token_in_files us id
 
   -- what the classes of a tree say, over supers
-  abbrev tree_token : Kin → Option (Option ℕ)
-  tree_token k = classes_token id (kins.upwards k)
+  abbrev tree_token : Supertypes → Option (Option ℕ)
+  tree_token k = classes_token id (supertype_trees.upwards k)
 
-  known_token : (c : Class) (supers interfaces next : Kin) → tree_token (Known c supers interfaces next) ≡ or_else (class_token id c) (or_else (tree_token supers) (tree_token next))
-  known_token c supers interfaces next = ap (or_else (class_token id c)) (classes_both id (kins.upwards supers) (kins.upwards next))
+  known_token : (c : Class) (supers interfaces next : Supertypes) → tree_token (Known c supers interfaces next) ≡ or_else (class_token id c) (or_else (tree_token supers) (tree_token next))
+  known_token c supers interfaces next = ap (or_else (class_token id c)) (classes_both id (supertype_trees.upwards supers) (supertype_trees.upwards next))
 
   -- ---- trees of one name
 
-  unknown_alone : (x : List ℕ) → class_named w x ≡ None → tree_token (kin w (x ∷ [])) ≡ None
-  unknown_alone x none = ap tree_token (facts.one_kin (x ∷ []) (kin w (x ∷ [])) (Unknown x End) (facts.is_kin (x ∷ [])) (unknown_here none ends))
+  unknown_alone : (x : List ℕ) → class_named w x ≡ None → tree_token (supertypes w (x ∷ [])) ≡ None
+  unknown_alone x none = ap tree_token (facts.one_supertypes (x ∷ []) (supertypes w (x ∷ [])) (Unknown x End) (facts.are_supertypes (x ∷ [])) (unknown_here none ends))
 
-  known_alone : (x : List ℕ) (c : Class) (supers interfaces : Kin) → class_named w x ≡ Some c → IsKin w c.supers supers → IsKin w c.interfaces interfaces → tree_token (kin w (x ∷ [])) ≡ or_else (class_token id c) (tree_token supers)
+  known_alone : (x : List ℕ) (c : Class) (supers interfaces : Supertypes) → class_named w x ≡ Some c → AreSupertypes w c.supers supers → AreSupertypes w c.interfaces interfaces → tree_token (supertypes w (x ∷ [])) ≡ or_else (class_token id c) (tree_token supers)
   known_alone x c supers interfaces e ks ki =
-      ap tree_token (facts.one_kin (x ∷ []) (kin w (x ∷ [])) (Known c supers interfaces End) (facts.is_kin (x ∷ [])) (known_here e ks ki ends))
+      ap tree_token (facts.one_supertypes (x ∷ []) (supertypes w (x ∷ [])) (Known c supers interfaces End) (facts.are_supertypes (x ∷ [])) (known_here e ks ki ends))
       ∙ known_token c supers interfaces End
       ∙ ap (or_else (class_token id c)) (else_none (tree_token supers))
 
   -- what stands in a tree without the method has none itself
-  subtree : (xs : List (List ℕ)) (k : Kin) → IsKin w xs k → tree_token k ≡ None → (z : List ℕ) → stands_by_supers z k ≡ true → tree_token (kin w (z ∷ [])) ≡ None
+  subtree : (xs : List (List ℕ)) (k : Supertypes) → AreSupertypes w xs k → tree_token k ≡ None → (z : List ℕ) → stands_by_supers z k ≡ true → tree_token (supertypes w (z ∷ [])) ≡ None
   subtree xs k ends none z s = absurd (cc)
   subtree xs k (unknown_here {x = x} {next = next} nowhere rest) none z s =
       elim (or_cases (bytes_eq x z) (stands_by_supers z next) s) [
@@ -186,7 +186,7 @@ module _ (p : Package) (facts : Facts p) (id : MemberId) where
   lists_front x (y ∷ xs) ys foremost = foremost
   lists_front x (y ∷ xs) ys (after h) = after (lists_front x xs ys h)
 
-  stands_above : (xs : List (List ℕ)) (k : Kin) → IsKin w xs k → (z : List ℕ) → stands_by_supers z k ≡ true → Lists z xs ⊎ ((y : List ℕ) × Lists y xs × Above w y z)
+  stands_above : (xs : List (List ℕ)) (k : Supertypes) → AreSupertypes w xs k → (z : List ℕ) → stands_by_supers z k ≡ true → Lists z xs ⊎ ((y : List ℕ) × Lists y xs × Above w y z)
   stands_above xs k ends z s = absurd (cc)
   stands_above xs k (unknown_here {x = x} {xs = xs'} {next = next} nowhere rest) z s =
       elim (or_cases (bytes_eq x z) (stands_by_supers z next) s) [
@@ -205,7 +205,7 @@ module _ (p : Package) (facts : Facts p) (id : MemberId) where
         | inr g ↦ elim (stands_above _ next kn z g) [ inl listed ↦ inl (after listed) | inr up ↦ inr (up.0, after up.1, up.2) ]
       ]
 
-  not_itself : (x : List ℕ) (c : Class) (supers : Kin) → class_named w x ≡ Some c → IsKin w c.supers supers → stands_by_supers x supers ≡ true → ⊥
+  not_itself : (x : List ℕ) (c : Class) (supers : Supertypes) → class_named w x ≡ Some c → AreSupertypes w c.supers supers → stands_by_supers x supers ≡ true → ⊥
   not_itself x c supers e ks s = elim (stands_above c.supers supers ks x s) [
     | inl listed ↦ facts.rules.acyclic x (directly c e (lists_front x c.supers c.interfaces listed))
     | inr up ↦ facts.rules.acyclic x (onwards c e (lists_front up.0 c.supers c.interfaces up.1) up.2)
@@ -214,11 +214,11 @@ module _ (p : Package) (facts : Facts p) (id : MemberId) where
   -- ---- the walk
 
   -- a name that was passed and stands in the tree has no class above it with the method
-  abbrev Clean : (passed : List (List ℕ)) → Kin → Type 0
-  Clean passed k = (z : List ℕ) → is_one_of passed z ≡ true → stands_by_supers z k ≡ true → tree_token (kin w (z ∷ [])) ≡ None
+  abbrev Clean : (passed : List (List ℕ)) → Supertypes → Type 0
+  Clean passed k = (z : List ℕ) → is_one_of passed z ≡ true → stands_by_supers z k ≡ true → tree_token (supertypes w (z ∷ [])) ≡ None
 
   -- What is found upwards from the names of a tree and others: what the tree says, else what is found from the others.
-  record Walked (k : Kin) (passed names : List (List ℕ)) (o : Option (Option ℕ)) : Type 0 where
+  record Walked (k : Supertypes) (passed names : List (List ℕ)) (o : Option (Option ℕ)) : Type 0 where
     fuel : ℕ
     gone : List (List ℕ)
     room : length names + weight gone es ≤ fuel
@@ -226,7 +226,7 @@ module _ (p : Package) (facts : Facts p) (id : MemberId) where
     from : (z : List ℕ) → is_one_of gone z ≡ true → (is_one_of passed z ≡ true) ⊎ (stands_by_supers z k ≡ true)
 
   -- where the tree says something, the others do not matter
-  found_there : (k : Kin) (passed gone names : List (List ℕ)) (o : Option (Option ℕ)) (v : Option ℕ) → o ≡ Some v → tree_token k ≡ Some v → ((z : List ℕ) → is_one_of gone z ≡ true → (is_one_of passed z ≡ true) ⊎ (stands_by_supers z k ≡ true)) → Walked k passed names o
+  found_there : (k : Supertypes) (passed gone names : List (List ℕ)) (o : Option (Option ℕ)) (v : Option ℕ) → o ≡ Some v → tree_token k ≡ Some v → ((z : List ℕ) → is_one_of gone z ≡ true → (is_one_of passed z ≡ true) ⊎ (stands_by_supers z k ≡ true)) → Walked k passed names o
   found_there k passed gone names o v here there from = record {
     fuel = length names + weight gone es;
     gone = gone;
@@ -245,7 +245,7 @@ module _ (p : Package) (facts : Facts p) (id : MemberId) where
       by None e = e
       by (Some u) e = let f = facts.of_file x u e in let clash : None ≡ Some (imported f.0 u) = sym none ∙ f.1 in absurd (cc)
 
-  walk : (xs : List (List ℕ)) (k : Kin) → IsKin w xs k → AllImported xs → (n : ℕ) (passed names : List (List ℕ)) → length (xs ++ names) + weight passed es ≤ n → Clean passed k → Walked k passed names (files_token (upwards_from es n passed (xs ++ names)))
+  walk : (xs : List (List ℕ)) (k : Supertypes) → AreSupertypes w xs k → AllImported xs → (n : ℕ) (passed names : List (List ℕ)) → length (xs ++ names) + weight passed es ≤ n → Clean passed k → Walked k passed names (files_token (upwards_from es n passed (xs ++ names)))
   unfolding upwards_from
   walk xs k ends own n passed names room clean = record { fuel = n; gone = passed; room = room; is = refl; from = λ z h. inl h }
   walk xs k (unknown_here {x = x} nowhere rest) own zero passed names room clean = absurd (omega (arith, room))
@@ -323,9 +323,9 @@ module _ (p : Package) (facts : Facts p) (id : MemberId) where
               (known_token c supers interfaces next ∙ ap (λ o. or_else o (or_else (tree_token supers) (tree_token next))) none ∙ ap (λ o. or_else o (tree_token next)) has)
               gone_from
           split None has =
-              let alone : tree_token (kin w (x ∷ [])) ≡ None = known_alone x c supers interfaces e ks ki ∙ ap (λ o. or_else o (tree_token supers)) none ∙ has in
+              let alone : tree_token (supertypes w (x ∷ [])) ≡ None = known_alone x c supers interfaces e ks ki ∙ ap (λ o. or_else o (tree_token supers)) none ∙ has in
               let clean_next : Clean r.gone next = λ z h g. elim (r.from z h) [
-                | inl there ↦ elim (one_cases x passed z there) [ inl same ↦ ap (λ y. tree_token (kin w (y ∷ []))) (sym same) ∙ alone | inr f ↦ clean z f (in_next z g) ]
+                | inl there ↦ elim (one_cases x passed z there) [ inl same ↦ ap (λ y. tree_token (supertypes w (y ∷ []))) (sym same) ∙ alone | inr f ↦ clean z f (in_next z g) ]
                 | inr f ↦ subtree c.supers supers ks has z f
               ] in
               let q = onwards_from r.gone r.fuel r.room clean_next in
@@ -384,10 +384,10 @@ module _ (p : Package) (facts : Facts p) (id : MemberId) where
   nothing_upwards (suc n) passed = refl
 
   -- What is listed first upwards from some names is what the first class above them says.
-  pub upwards_token : (names : List (List ℕ)) → AllImported names → token_in_files (exports.upwards es names) id ≡ classes_token id (kins.upwards (kin w names))
+  pub upwards_token : (names : List (List ℕ)) → AllImported names → token_in_files (exports.upwards es names) id ≡ classes_token id (supertype_trees.upwards (supertypes w names))
   upwards_token names own =
-      let r = walk names (kin w names) (facts.is_kin names) own (length names + super_count es) [] [] (let same = append-nil names in let long = ap length same in let all = weight_is es in omega (arith, long, all)) (λ z h g. absurd (cc)) in
+      let r = walk names (supertypes w names) (facts.are_supertypes names) own (length names + super_count es) [] [] (let same = append-nil names in let long = ap length same in let all = weight_is es in omega (arith, long, all)) (λ z h g. absurd (cc)) in
       ap (λ ns. files_token (upwards_from es (length names + super_count es) [] ns)) (sym (append-nil names))
       ∙ r.is
-      ∙ ap (or_else (tree_token (kin w names))) (nothing_upwards r.fuel r.gone)
-      ∙ else_none (tree_token (kin w names))
+      ∙ ap (or_else (tree_token (supertypes w names))) (nothing_upwards r.fuel r.gone)
+      ∙ else_none (tree_token (supertypes w names))

@@ -6,7 +6,7 @@ use Rattle.cjc_bytes.specs.AccessFlags.{is_abstract, is_interface}
 use Rattle.cjc_bytecode.specs.Renaming.{shape_as}
 use Rattle.cjc_bytes.specs.declared.fault.MemberId.{MemberId}
 use Rattle.cjc_by_name.specs.Linked.{Method}
-use Rattle.cjc_by_name.specs.OnePackage.{Hit, is_constructor, is_initialiser, is_sendable, method_at, method_hit, select_in, sent_named}
+use Rattle.cjc_by_name.specs.OnePackage.{ResolvedMember, is_constructor, is_initialiser, is_sendable, method_at, method_hit, select_in, sent_named}
 use Rattle.cjc_by_token.proofs.Members.{bytes_same}
 use Rattle.cjc_by_token.specs.Above.{IsAtOrAbove}
 use Rattle.cjc_by_token.specs.Names.{NamesAgree}
@@ -37,14 +37,14 @@ use Rattle.cjc_vtable.specs.Calls.{is_special}
 use Rattle.cjc_vtable.specs.Laws.{ImportedCallsAgree, Under, selection}
 use Rattle.cjc_world.specs.Classes.{Class, class_named}
 use Rattle.cjc_world.specs.Interfaces.{gathered, known}
-use Rattle.cjc_world.specs.Kin.{Known, End, Lists, foremost, kin, line, stands, upwards}
+use Rattle.cjc_world.specs.Supertypes.{Known, End, Lists, foremost, supertypes, line, stands, upwards}
 use Rattle.cjc_world.specs.Lookup.{find_method, first, is_selectable, object, own_method}
 use Rattle.cjc_world.specs.Lookup as lookup
 use Rattle.cjc_world.specs.Subtype.{is_subtype}
 use Rattle.cjc_world.specs.declared.found.Found.{Found}
 use Rattle.cjc_written_calls.proofs.Facts.{Facts}
 use Rattle.cjc_written_calls.proofs.Found.{line_named}
-use Rattle.cjc_written_calls.proofs.Kins.{name_is}
+use Rattle.cjc_written_calls.proofs.SupertypeTrees.{name_is}
 use Rattle.cjc_written_calls.proofs.Receivers.{first_step}
 use Rattle.cjc_written_calls.proofs.Towers.{class_stands, height_fits, line_is, line_of_names}
 use Rattle.cjc_written_calls.specs.Calls.{ExportsKeep, KeepsSubtypes, KeepsTokens, Receives, numbers, one_of, references}
@@ -85,7 +85,7 @@ module _ (list : List ℕ) (p : Package) (sound : IsSound list p.files) (facts :
 
   -- the interfaces behind the line of a name
   abbrev behind : List ℕ → List Class
-  behind y = known (gathered false (kin w (y ∷ [])))
+  behind y = known (gathered false (supertypes w (y ∷ [])))
 
   module _ (id : MemberId) where
     abbrev finds : Class → Option Found
@@ -130,7 +130,7 @@ module _ (list : List ℕ) (p : Package) (sound : IsSound list p.files) (facts :
 
       sends_nothing : (f : Found) → Sends f false → begun (sent_of (OfClass x) id true (Some f)) ≡ None
       sends_nothing f b =
-          ap (λ q. begun (option_and_then (λ (hit : Hit). if is_sendable id hit && true then option_and_then (method_at p.files) (select_in w x id) else None) q)) b.there
+          ap (λ q. begun (option_and_then (λ (hit : ResolvedMember). if is_sendable id hit && true then option_and_then (method_at p.files) (select_in w x id) else None) q)) b.there
           ∙ ap (λ q. begun (if q && true then option_and_then (method_at p.files) (select_in w x id) else None)) b.is
 
       -- ---- by the name of a class or interface: a method that is no constructor and no initialiser
@@ -138,7 +138,7 @@ module _ (list : List ℕ) (p : Package) (sound : IsSound list p.files) (facts :
       module _ (plain : is_initialiser id.name ≡ false) (not_constructor : is_constructor id.name ≡ false) where
         sends_selected : (f g : Found) → Sends f true → selection w x (signature id) ≡ Some g → begun (sent_of (OfClass x) id true (Some f)) ≡ begun (method_at p.files g)
         sends_selected f g b is =
-            ap (λ q. begun (option_and_then (λ (hit : Hit). if is_sendable id hit && true then option_and_then (method_at p.files) (select_in w x id) else None) q)) b.there
+            ap (λ q. begun (option_and_then (λ (hit : ResolvedMember). if is_sendable id hit && true then option_and_then (method_at p.files) (select_in w x id) else None) q)) b.there
             ∙ ap (λ q. begun (if q && true then option_and_then (method_at p.files) (select_in w x id) else None)) b.is
             ∙ ap (λ q. begun (option_and_then (method_at p.files) q)) (sends.itself_selected list p sound facts subtypes tokens kinds kinds_agree names_agree imported_calls place begins id plain x c e class_here ∙ is)
 
@@ -202,8 +202,8 @@ module _ (list : List ℕ) (p : Package) (sound : IsSound list p.files) (facts :
 
           line_here : first finds (line w id.class) ≡ lookup.or_else (finds d) (first finds (line w object))
           line_here =
-              ap (first finds) (line_is p facts id.class d named) ∙ first_step finds d (upwards (kin w d.supers))
-              ∙ ap (λ ss. lookup.or_else (finds d) (first finds (upwards (kin w ss)))) (supers id.class d named named_here)
+              ap (first finds) (line_is p facts id.class d named) ∙ first_step finds d (upwards (supertypes w d.supers))
+              ∙ ap (λ ss. lookup.or_else (finds d) (first finds (upwards (supertypes w ss)))) (supers id.class d named named_here)
               ∙ ap (λ cs. lookup.or_else (finds d) (first finds cs)) (sym (line_of_names p facts object))
 
           found_is : (o : Option Found) → finds d ≡ o → find_method w id.class id.name id.desc ≡ lookup.or_else (lookup.or_else o (first finds (line w object))) (first finds (behind id.class))
@@ -255,27 +255,27 @@ module _ (list : List ℕ) (p : Package) (sound : IsSound list p.files) (facts :
               let o = facts.object_class in
               let here = ap is_some named in
               let there = ap is_some o.1 in
-              let top : stands object (kin w d.supers) ≡ true =
-              ap (λ ss. stands object (kin w ss)) (supers id.class d named named_here)
-              ∙ ap (stands object) (interfaces.kin_is list p sound facts subtypes tokens keep kinds kinds_agree names_agree imported_calls told_kinds place begins ask send id object o.0 o.1)
+              let top : stands object (supertypes w d.supers) ≡ true =
+              ap (λ ss. stands object (supertypes w ss)) (supers id.class d named named_here)
+              ∙ ap (stands object) (interfaces.supertypes_is list p sound facts subtypes tokens keep kinds kinds_agree names_agree imported_calls told_kinds place begins ask send id object o.0 o.1)
               ∙ object_here o.0 (name_is w object o.0 o.1) in
               let over : is_subtype w id.class object ≡ true =
               interfaces.subtype_is w id.class object (kinds.no_array id.class here) (kinds.no_array object there)
-              ∙ ap (stands object) (interfaces.kin_is list p sound facts subtypes tokens keep kinds kinds_agree names_agree imported_calls told_kinds place begins ask send id id.class d named)
-              ∙ interfaces.or_left ((bytes_eq d.name object || stands object (kin w d.supers)) || stands object (kin w d.interfaces)) false
-              (interfaces.or_left (bytes_eq d.name object || stands object (kin w d.supers)) (stands object (kin w d.interfaces))
-              (interfaces.or_right (bytes_eq d.name object) (stands object (kin w d.supers)) top)) in
+              ∙ ap (stands object) (interfaces.supertypes_is list p sound facts subtypes tokens keep kinds kinds_agree names_agree imported_calls told_kinds place begins ask send id id.class d named)
+              ∙ interfaces.or_left ((bytes_eq d.name object || stands object (supertypes w d.supers)) || stands object (supertypes w d.interfaces)) false
+              (interfaces.or_left (bytes_eq d.name object || stands object (supertypes w d.supers)) (stands object (supertypes w d.interfaces))
+              (interfaces.or_right (bytes_eq d.name object) (stands object (supertypes w d.supers)) top)) in
               interfaces.above_kind list p sound facts subtypes tokens keep kinds kinds_agree names_agree imported_calls told_kinds place begins ask send id x object (ap is_some e) there
               (interfaces.above_then list p sound facts subtypes tokens keep kinds kinds_agree names_agree imported_calls told_kinds place begins ask send id (n.class x) (n.class id.class) (n.class object)
               (interfaces.kind_above list p sound facts subtypes tokens keep kinds kinds_agree names_agree imported_calls told_kinds place begins ask send id x id.class (ap is_some e) here sub)
               (interfaces.kind_above list p sound facts subtypes tokens keep kinds kinds_agree names_agree imported_calls told_kinds place begins ask send id id.class object here there over))
             where
-              object_here : (o : Class) → o.name ≡ object → stands object (Known o (kin w o.supers) (kin w o.interfaces) End) ≡ true
+              object_here : (o : Class) → o.name ≡ object → stands object (Known o (supertypes w o.supers) (supertypes w o.interfaces) End) ≡ true
               object_here o name =
-                  ap (λ y. ((bytes_eq y object || stands object (kin w o.supers)) || stands object (kin w o.interfaces)) || false) name
-                  ∙ interfaces.or_left ((bytes_eq object object || stands object (kin w o.supers)) || stands object (kin w o.interfaces)) false
-                  (interfaces.or_left (bytes_eq object object || stands object (kin w o.supers)) (stands object (kin w o.interfaces))
-                  (interfaces.or_left (bytes_eq object object) (stands object (kin w o.supers)) (bytes_same object)))
+                  ap (λ y. ((bytes_eq y object || stands object (supertypes w o.supers)) || stands object (supertypes w o.interfaces)) || false) name
+                  ∙ interfaces.or_left ((bytes_eq object object || stands object (supertypes w o.supers)) || stands object (supertypes w o.interfaces)) false
+                  (interfaces.or_left (bytes_eq object object || stands object (supertypes w o.supers)) (stands object (supertypes w o.interfaces))
+                  (interfaces.or_left (bytes_eq object object) (stands object (supertypes w o.supers)) (bytes_same object)))
 
           interface_sent : Begins (sent_to n.loaded receiving (n.class id.class) id) (find_method w id.class id.name id.desc)
           interface_sent = by (place_in d) refl
@@ -300,7 +300,7 @@ module _ (list : List ℕ) (p : Package) (sound : IsSound list p.files) (facts :
       -- ---- a constructor or an initialiser: none by both
 
       module _ (special : is_special (signature id) ≡ true) where
-        unsendable : (hit : Hit) → is_sendable id hit ≡ false
+        unsendable : (hit : ResolvedMember) → is_sendable id hit ≡ false
         unsendable hit = by (is_selectable hit.flags) (is_constructor id.name) (is_initialiser id.name) special
           where
             by : (a b k : Bool) → (b || k) ≡ true → ((a && not b) && not k) ≡ false
@@ -313,7 +313,7 @@ module _ (list : List ℕ) (p : Package) (sound : IsSound list p.files) (facts :
         special_name None = refl
         special_name (Some f) = by (method_hit w f)
           where
-            by : (o : Option Hit) → option_and_then (λ (hit : Hit). if is_sendable id hit && true then option_and_then (method_at p.files) (select_in w x id) else None) o ≡ None
+            by : (o : Option ResolvedMember) → option_and_then (λ (hit : ResolvedMember). if is_sendable id hit && true then option_and_then (method_at p.files) (select_in w x id) else None) o ≡ None
             by None = refl
             by (Some hit) = ap (λ b. if b && true then option_and_then (method_at p.files) (select_in w x id) else None) (unsendable hit)
 

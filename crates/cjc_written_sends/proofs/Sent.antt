@@ -8,14 +8,14 @@ use Rattle.cjc_bytecode.specs.Renaming.{option_as, shape_as}
 use Rattle.cjc_bytes.specs.AccessFlags.{is_interface}
 use Rattle.cjc_bytes.specs.declared.fault.MemberId.{MemberId}
 use Rattle.cjc_by_name.specs.Linked.{Method}
-use Rattle.cjc_by_name.specs.OnePackage.{Hit, is_initialiser, is_sendable, method_at, method_hit, method_in, select_in, sent_named}
+use Rattle.cjc_by_name.specs.OnePackage.{ResolvedMember, is_initialiser, is_sendable, method_at, method_hit, method_in, select_in, sent_named}
 use Rattle.cjc_by_token.specs.Names.{NamesAgree}
 use Rattle.cjc_by_token.specs.Supers.{KindsAgree, SaysKinds}
 use Rattle.cjc_calls_by_token.specs.Dispatching.{event, selection_of}
 use Rattle.cjc_calls_by_token.specs.Reaching.{BeginsAtOffsets, start_placed}
 use Rattle.cjc_calls_by_token.specs.Selecting.{signature}
 use Rattle.cjc_card.specs.Calls.{found_token, interface_token, sent, sent_by, sent_to, start_selected, through, through_first, token_if_interface}
-use Rattle.cjc_card.specs.Classes.{Foreign, Own, depth, foreign, is_of, names_of, object_class, shape_class}
+use Rattle.cjc_card.specs.Classes.{External, Own, depth, external, is_of, names_of, object_class, shape_class}
 use Rattle.cjc_card.specs.Classes as card
 use Rattle.cjc_card.specs.Dispatch.{At, Hidden, NotFound, Open, Outward, Selection, Token, dispatched, dispatched_outward, exported_line, in_files, interface_method, named_in, of_file, of_names, outward, tower}
 use Rattle.cjc_card.specs.Loaded.{ClassNames, Loaded, MethodName}
@@ -33,7 +33,7 @@ use Rattle.cjc_tables_by_token.specs.Loading.{naming}
 use Rattle.cjc_tables_by_token.specs.Sound.{IsSound}
 use Rattle.cjc_vtable.specs.Laws.{ImportedCallsAgree, selection}
 use Rattle.cjc_world.specs.Classes.{Class, class_named}
-use Rattle.cjc_world.specs.Kin.{Unknown, End, ends, kin, line, unknown_here, upwards}
+use Rattle.cjc_world.specs.Supertypes.{Unknown, End, ends, supertypes, line, unknown_here, upwards}
 use Rattle.cjc_world.specs.Interfaces.{gathered, known}
 use Rattle.cjc_world.specs.Lookup.{find_method, first, object, own_method, receiver, selected}
 use Rattle.cjc_world.specs.Lookup as lookup
@@ -42,7 +42,7 @@ use Rattle.cjc_world.specs.declared.found.Found.{Found}
 use Rattle.cjc_written_calls.proofs.Facts.{Facts}
 use Rattle.cjc_written_calls.proofs.Files.{first_imported_found}
 use Rattle.cjc_written_calls.proofs.Found.{first_own, line_named, own_is}
-use Rattle.cjc_written_calls.proofs.Kins.{name_is}
+use Rattle.cjc_written_calls.proofs.SupertypeTrees.{name_is}
 use Rattle.cjc_written_calls.proofs.Receivers.{found_stands, not_array}
 use Rattle.cjc_written_calls.proofs.Towers.{line_is}
 use Rattle.cjc_written_calls.specs.Calls.{KeepsSubtypes, KeepsTokens, Receives, numbers, one_of, references}
@@ -66,8 +66,8 @@ module _ (l : Loaded) where
   files_nothing [] t = refl
   files_nothing (c ∷ cs) t = files_nothing_by c.name (c ∷ cs) t
 
-  dispatched_nothing : (tree number : ℕ) (t : Token) → Nothing (dispatched (tower l (Foreign tree number)) t)
-  dispatched_nothing tree number (Open t) = files_nothing (exported_line l (foreign l tree number)) t
+  dispatched_nothing : (tree number : ℕ) (t : Token) → Nothing (dispatched (tower l (External tree number)) t)
+  dispatched_nothing tree number (Open t) = files_nothing (exported_line l (external l tree number)) t
   dispatched_nothing tree number (Hidden home t) = refl
 
   named_nothing : (name : List ℕ) (o : Option MethodName) → Nothing (named_in name o)
@@ -83,12 +83,12 @@ module _ (l : Loaded) where
   file_nothing (Some c) t = outward_nothing c.name (virtual_method t c) NotFound refl
 
   method_nothing : (i : card.Class) (t : ℕ) → Nothing (interface_method l i t)
-  method_nothing (Foreign tree number) t = file_nothing (foreign l tree number) t
+  method_nothing (External tree number) t = file_nothing (external l tree number) t
   method_nothing (Own part offset) t = names_nothing (names_of l part offset) t
 
   module _ (tree number : ℕ) where
     abbrev receiving : Option card.Class
-    receiving = Some (Foreign tree number)
+    receiving = Some (External tree number)
 
     through_nothing : (i : card.Class) (o : Option ℕ) (other : Selection) → Nothing other → Nothing (through l receiving i o other)
     through_nothing i None other h = h
@@ -160,7 +160,7 @@ module _ (list : List ℕ) (p : Package) (sound : IsSound list p.files) (facts :
 
   -- what is sent, of what a look-up found
   abbrev pub sent_of : Shape (List ℕ) → MemberId → (sub : Bool) → Option Found → Option Method
-  sent_of kind id sub o = option_and_then (λ f. option_and_then (λ (hit : Hit). if is_sendable id hit && sub then option_and_then (method_at p.files) (select_in w (shape_name kind) id) else None) (method_hit w f)) o
+  sent_of kind id sub o = option_and_then (λ f. option_and_then (λ (hit : ResolvedMember). if is_sendable id hit && sub then option_and_then (method_at p.files) (select_in w (shape_name kind) id) else None) (method_hit w f)) o
 
   no_sub : (kind : Shape (List ℕ)) (id : MemberId) (o : Option Found) → sent_of kind id false o ≡ None
   no_sub kind id None = refl
@@ -170,7 +170,7 @@ module _ (list : List ℕ) (p : Package) (sound : IsSound list p.files) (facts :
       test true = refl
       test false = refl
 
-      by : (o : Option Hit) → option_and_then (λ (hit : Hit). if is_sendable id hit && false then option_and_then (method_at p.files) (select_in w (shape_name kind) id) else None) o ≡ None
+      by : (o : Option ResolvedMember) → option_and_then (λ (hit : ResolvedMember). if is_sendable id hit && false then option_and_then (method_at p.files) (select_in w (shape_name kind) id) else None) o ≡ None
       by None = refl
       by (Some hit) = test (is_sendable id hit)
 
@@ -182,7 +182,7 @@ module _ (list : List ℕ) (p : Package) (sound : IsSound list p.files) (facts :
       test true = lacks
       test false = refl
 
-      by : (o : Option Hit) → option_and_then (λ (hit : Hit). if is_sendable id hit && sub then option_and_then (method_at p.files) (select_in w (shape_name kind) id) else None) o ≡ None
+      by : (o : Option ResolvedMember) → option_and_then (λ (hit : ResolvedMember). if is_sendable id hit && sub then option_and_then (method_at p.files) (select_in w (shape_name kind) id) else None) o ≡ None
       by None = refl
       by (Some hit) = test (is_sendable id hit && sub)
 
@@ -191,7 +191,7 @@ module _ (list : List ℕ) (p : Package) (sound : IsSound list p.files) (facts :
   unfolding find_method line gathered known first
   find_none y name desc nowhere =
       ap (λ k. lookup.or_else (first (own_method false name desc) (upwards k)) (first (own_method false name desc) (known (gathered false k))))
-      (facts.one_kin (y ∷ []) (kin w (y ∷ [])) (Unknown y End) (facts.is_kin (y ∷ [])) (unknown_here nowhere ends))
+      (facts.one_supertypes (y ∷ []) (supertypes w (y ∷ [])) (Unknown y End) (facts.are_supertypes (y ∷ [])) (unknown_here nowhere ends))
 
   -- ---- objects of imported classes and arrays
 
@@ -216,7 +216,7 @@ module _ (list : List ℕ) (p : Package) (sound : IsSound list p.files) (facts :
     token_nothing : (named : card.Class) → start_selected n.loaded (sent_to n.loaded (shape_class n.loaded (shape_as n.class kind)) named id) ≡ None
     token_nothing named =
         let h = facts.file r.name r.class r.there r.import in
-        let here : n.class r.name ≡ Foreign h.file h.entry.token = sym (ap (card_class p) (name_is w r.name r.class r.there)) ∙ h.on_card in
+        let here : n.class r.name ≡ External h.file h.entry.token = sym (ap (card_class p) (name_is w r.name r.class r.there)) ∙ h.on_card in
         ap (λ q. start_selected n.loaded (sent_to n.loaded q named id)) (r.on_card ∙ ap Some here) ∙ sent_nothing n.loaded h.file h.entry.token named id
 
     name_nothing : option_and_then (method_at p.files) (select_in w (shape_name kind) id) ≡ None

@@ -13,7 +13,7 @@ use Rattle.cjc_components.specs.Package.{Package, has_applets, tokens, world}
 use Rattle.cjc_tables_by_token.specs.Sound.{IsSound}
 use Rattle.cjc_tables_by_token.proofs.Clean.{has_named}
 use Rattle.cjc_tables_by_token.proofs.Filed.{own_filed}
-use Rattle.cjc_tokens.proofs.Walks.{kin-known}
+use Rattle.cjc_tokens.proofs.Walks.{supertypes-known}
 use Rattle.cjc_tokens.specs.Fields.{field_tokens}
 use Rattle.cjc_tokens.specs.Lines.{line_at, line_in, line_of}
 use Rattle.cjc_tokens.specs.Members.{Signature, chosen, is_constructor, is_hidden, is_initialiser, is_shown, is_virtual, signature_of}
@@ -110,7 +110,7 @@ module _ (list : List ℕ) (p : Package) (sound : IsSound list p.files) (facts :
 
   -- the line of a class by its name
   line_same : (x : List ℕ) (c : Class) → class_named w x ≡ Some c → line_of w x ≡ line_at w c
-  line_same x c e = ap (line_in w) (kin-known w facts.is_kin facts.one_kin x c e)
+  line_same x c e = ap (line_in w) (supertypes-known w facts.are_supertypes facts.one_supertypes x c e)
 
   module _ (x : List ℕ) (c : Class) (known : class_named w x ≡ Some c) (own : c.is_imported ≡ false) (class_here : is_interface c.flags ≡ false) (i : ℕ) (m : Member) (there : slice_get c.methods i ≡ Some m) where
     assigned_token : (exported : Bool) × (token_of_member (tokens p) (member_at c (length c.fields + i)) ≡ class_method_token exported (slots (line_at w c)) (hidden_slots (line_at w c)) c.methods i m)

@@ -9,7 +9,7 @@ use Rattle.cjc_tokens.specs.Members.{In, all_methods, chosen, has, is_exposed, i
 use Rattle.cjc_tokens.specs.Methods.{interface_methods}
 use Rattle.cjc_vtable.specs.Calls.{selects}
 use Rattle.cjc_world.specs.Classes.{Class, Member, class_named, imported, method_of_export}
-use Rattle.cjc_world.specs.Kin.{line}
+use Rattle.cjc_world.specs.Supertypes.{line}
 use Rattle.cjc_world.specs.Lookup.{is_selectable, object}
 use Rattle.cjc_world.specs.Subtype.{is_subtype}
 

@@ -3,7 +3,7 @@ use Rattle.std.proofs.Common.{◌≡◌, ℕ, refl, sym, ap, subst, ◌∙◌, B
 use Rattle.std.specs.Prelude.{◌||◌, Some, option_and_then}
 use Rattle.cjc_bytes.specs.AccessFlags.{is_private, is_static}
 use Rattle.cjc_bytes.specs.declared.fault.MemberId.{MemberId}
-use Rattle.cjc_by_name.specs.OnePackage.{Hit, is_constructor, method_hit}
+use Rattle.cjc_by_name.specs.OnePackage.{ResolvedMember, is_constructor, method_hit}
 use Rattle.cjc_classfile.specs.declared.tree.ClassTree.{ClassTree}
 use Rattle.cjc_code.specs.declared.insn.JOp.TheVariants as jop
 use Rattle.cjc_components.specs.Package.{Package, world}
@@ -22,13 +22,13 @@ middle false true c e = refl
 middle false false c e = cc
 
 module _ (list : ListTree) (files : List (List ℕ)) (judged : Judged) (p : Package) (is : IsConverted list files judged p) (class : ClassTree) (id : MemberId) where
-  pub private_named : IsInsnOf p.files judged.codes class (jop.Call 0xB7 id) → (hit : Hit) → method_found (world p) id ≡ Some hit → is_private hit.flags ≡ true → IsNamed (world p) (Fixed true (resolved_method (world p) id))
+  pub private_named : IsInsnOf p.files judged.codes class (jop.Call 0xB7 id) → (hit : ResolvedMember) → method_found (world p) id ≡ Some hit → is_private hit.flags ≡ true → IsNamed (world p) (Fixed true (resolved_method (world p) id))
   private_named of hit found private =
       let n = called list files judged p is class 0xB7 id of in
       let fits = n.fits in
       let flags = (let a = n.at in let m = a.member in m.flags) in
-      let here : Hit = record { owner = n.owner; flags = flags } in
+      let here : ResolvedMember = record { owner = n.owner; flags = flags } in
       let both : Some here ≡ Some hit = sym (ap (option_and_then (method_hit (world p))) n.found ∙ n.hit) ∙ found in
       let same : here ≡ hit = cc in
-      let plain = fixed_in_class list files judged p is class 0xB7 id n (middle (is_static flags) (is_private flags) (is_constructor id.name) (ap (λ (h : Hit). is_private h.flags) same ∙ private)) in
+      let plain = fixed_in_class list files judged p is class 0xB7 id n (middle (is_static flags) (is_private flags) (is_constructor id.name) (ap (λ (h : ResolvedMember). is_private h.flags) same ∙ private)) in
       subst (λ q. IsNamed (world p) (Fixed true q)) (sym n.resolved) (fixed n.owner n.place n.named plain fits.no_initialiser n.own)

@@ -17,7 +17,7 @@ use Rattle.cjc_vtable.proofs.Numbers.{class_count-cons}
 use Rattle.cjc_world.specs.Added.{added}
 use Rattle.cjc_world.specs.Classes.{Class, Member, all_classes, declared, field_of_class, method_of_class, size}
 use Rattle.cjc_world.specs.Files.{Files}
-use Rattle.cjc_world.specs.Kin.{IsAcyclic, kin, stands}
+use Rattle.cjc_world.specs.Supertypes.{IsAcyclic, supertypes, stands}
 use Rattle.cjc_world.specs.Rules.{at_class, at_member, breaks, breaks_from, class_breaks, class_file_breaks, class_rules, export_file_breaks, gets_missing, has_language, is_desc_missing, is_of_package, is_own_super, is_second, is_twice, is_under_cycle, lists_missing, lists_wrong, member_rules, members, members_before, members_from, told, when}
 use Rattle.cjc_world.proofs.Cycles.{stands_where_above}
 use Rattle.cjc_world.proofs.Unbroken.{nil_back, nil_front, nil_of_map, not_when, unbroken_is_acyclic}
@@ -116,7 +116,7 @@ pub record HasKnownTypes (w : List Class) (n : ℕ) (t : ClassTree) : Type 0 whe
 -- no class is under a cycle
 no_cycle : (w : List Class) → IsAcyclic w → (c : Class) → is_under_cycle w c ≡ false
 unfolding is_under_cycle
-no_cycle w acyclic c = none_pass (λ d. stands d.name (kin w (c.supers ++ c.interfaces)) && is_own_super w d) w (λ d. one d (is_own_super w d) refl (stands d.name (kin w (c.supers ++ c.interfaces))))
+no_cycle w acyclic c = none_pass (λ d. stands d.name (supertypes w (c.supers ++ c.interfaces)) && is_own_super w d) w (λ d. one d (is_own_super w d) refl (stands d.name (supertypes w (c.supers ++ c.interfaces))))
   where
     one : (d : Class) (b : Bool) → is_own_super w d ≡ b → (a : Bool) → (a && is_own_super w d) ≡ false
     one d true e a = absurd (acyclic d.name ((stands_where_above w d.name d.name).0 e))

@@ -5,8 +5,8 @@ use Rattle.std.specs.List.{list_all, list_any}
 use Rattle.std.proofs.lemmas.Bool.{lt-ltb}
 use Rattle.cjc_bytes.specs.Descriptor.{Part, Parts, base_kind, plain}
 use Rattle.cjc_bytes.specs.Spots.{desc_of, part_of}
-use Rattle.cjc_bytes.specs.declared.names.Kind.{Kind}
-use Rattle.cjc_bytes.specs.declared.names.Kind.TheVariants as kinds
+use Rattle.cjc_bytes.specs.declared.descriptor.Kind.{Kind}
+use Rattle.cjc_bytes.specs.declared.descriptor.Kind.TheVariants as kinds
 use Rattle.cjc_class_laws.specs.Premises.{is_known, result_known, sort_known, types_known}
 use Rattle.cjc_script.specs.Sorts.{OfClass, OfReferences, array_by, array_of, reference_to, result_by, shape_named, signature_by, sort_by, sort_of, sort_or_none}
 use Rattle.cjc_world.specs.Classes.{Class, class_named}

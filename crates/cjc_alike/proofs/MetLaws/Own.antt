@@ -35,12 +35,12 @@ use Rattle.cjc_tables_by_token.specs.Known.{order_of, statics_of}
 use Rattle.cjc_tokens.specs.Fields.{is_constant}
 use Rattle.cjc_vtable.proofs.Filed.{IsFiled, filed, in_class_file, in_export_file}
 use Rattle.cjc_world.specs.Classes.{Class, Member, class_named, declared, field_of_class, field_of_export, imported}
-use Rattle.cjc_world.specs.Kin.{IsAcyclic, IsKin, Kin, kin, known_here, unknown_here}
+use Rattle.cjc_world.specs.Supertypes.{IsAcyclic, AreSupertypes, Supertypes, supertypes, known_here, unknown_here}
 use Rattle.cjc_world.specs.Lookup.{field_in, find_field, is_called, member_at, or_else, own_field}
 use Rattle.cjc_world.specs.Order.{method_order}
 use Rattle.cjc_world.specs.Rules.{is_twice}
 use Rattle.cjc_world.specs.declared.found.Found.{Found}
-use Rattle.cjc_world.proofs.Settled.{bytes-refl, kin-IsKin}
+use Rattle.cjc_world.proofs.Settled.{bytes-refl, supertypes-AreSupertypes}
 use Rattle.cjc_written_calls.proofs.Found.{stands_in_method}
 use Rattle.cjc_written_laws.specs.Converted.{IsConverted}
 use Rattle.cjc_written_laws.proofs.Files.{files_sound, own_unbroken}
@@ -74,12 +74,12 @@ same_there f (g ∷ fs) all e own = by (is_same f g) refl e (λ h. same_there f 
 
 field_found : (w : List Class) → IsAcyclic w → (d : Class) (name desc : List ℕ) (f : Found) → class_named w d.name ≡ Some d → own_field name desc d ≡ Some f → find_field w d.name name desc ≡ Some f
 unfolding find_field
-field_found w acyclic d name desc f named e = by (kin w (d.name ∷ [])) (kin-IsKin w acyclic (d.name ∷ []))
+field_found w acyclic d name desc f named e = by (supertypes w (d.name ∷ [])) (supertypes-AreSupertypes w acyclic (d.name ∷ []))
   where
     own : Class → Option Found
     own = own_field name desc
 
-    by : (k : Kin) → IsKin w (d.name ∷ []) k → field_in own k ≡ Some f
+    by : (k : Supertypes) → AreSupertypes w (d.name ∷ []) k → field_in own k ≡ Some f
     by _ (unknown_here g n) = absurd (clash (sym g ∙ named))
       where
         clash : {c : Class} → None ≡ Some c → ⊥

@@ -3,7 +3,7 @@ use Rattle.std.proofs.Common.{◌≡◌, ⊎_elim, ℕ, ◌<◌, ◌^◌, refl, 
 use Rattle.std.specs.Prelude.{◌||◌, is_some, option_and_then, if◌then◌else◌, Some}
 use Rattle.cjc_bytes.specs.AccessFlags.{is_interface, is_private, is_static}
 use Rattle.cjc_bytes.specs.declared.fault.MemberId.{MemberId}
-use Rattle.cjc_by_name.specs.OnePackage.{Hit, is_constructor, method_hit, of_class}
+use Rattle.cjc_by_name.specs.OnePackage.{ResolvedMember, is_constructor, method_hit, of_class}
 use Rattle.cjc_by_token.specs.Cells.{HasCells}
 use Rattle.cjc_class_laws.specs.Premises.{names_known}
 use Rattle.cjc_classfile.specs.declared.tree.ClassTree.{ClassTree}
@@ -153,7 +153,7 @@ module _ (list : ListTree) (files : List (List ℕ)) (judged : Judged) (p : Pack
   module _ (told : HasCells (order_of p.image) (statics_of (let v = p.files in v.classes))) (fit : CellsFit p.image)
       (virtuals : (class : ClassTree) (id : MemberId) → IsInsnOf p.files codes class (jop.Call 0xB6 id) → IsNamed w (OnObject (virtual_by w id (class_named w id.class))))
       (supers : (class : ClassTree) (id : MemberId) → IsInsnOf p.files codes class (jop.Call 0xB7 id) → is_interface class.flags ≡ false → is_constructor id.name ≡ false
-      → (hit : Hit) → method_found w id ≡ Some hit → is_private hit.flags ≡ false → IsNamed w (OnSuper (of_class class.name id))) where
+      → (hit : ResolvedMember) → method_found w id ≡ Some hit → is_private hit.flags ≡ false → IsNamed w (OnSuper (of_class class.name id))) where
     pub key_there : (key : PoolKey) → IsMet p.files codes key → IsThere p key
     key_there _ (sources.of_class c e) = member members.of_class
     key_there _ (sources.of_field class put id of) =

@@ -5,7 +5,7 @@ use Rattle.cjc_bytecode.specs.Effects.{Call}
 use Rattle.cjc_bytecode.specs.Meanings.{meaning}
 use Rattle.cjc_bytes.specs.AccessFlags.{is_interface, is_private}
 use Rattle.cjc_bytes.specs.declared.fault.MemberId.{MemberId}
-use Rattle.cjc_by_name.specs.OnePackage.{Hit, is_constructor, method_hit, of_class}
+use Rattle.cjc_by_name.specs.OnePackage.{ResolvedMember, is_constructor, method_hit, of_class}
 use Rattle.cjc_classfile.specs.declared.tree.ClassTree.{ClassTree}
 use Rattle.cjc_code.specs.declared.insn.JOp.{JOp}
 use Rattle.cjc_code.specs.declared.insn.JOp.TheVariants as jop
@@ -33,9 +33,9 @@ use Rattle.cjc_alike.proofs.NamedCalls.Operations.{flat_from, is_that_call, no_c
 pub record KindsAreNamed (list : ListTree) (files : List (List ℕ)) (judged : Judged) (p : Package) : Type 0 where
   pub virtuals : (class : ClassTree) (id : MemberId) → IsInsnOf p.files judged.codes class (jop.Call 0xB6 id) → IsNamed (world p) (OnObject (virtual_by (world p) id (class_named (world p) id.class)))
   pub virtual_takes : (class : ClassTree) (id : MemberId) → IsInsnOf p.files judged.codes class (jop.Call 0xB6 id) → TakesWords (world p) (OnObject (virtual_by (world p) id (class_named (world p) id.class)))
-  pub supers : (class : ClassTree) (id : MemberId) → IsInsnOf p.files judged.codes class (jop.Call 0xB7 id) → is_interface class.flags ≡ false → is_constructor id.name ≡ false → (hit : Hit) → method_found (world p) id ≡ Some hit → is_private hit.flags ≡ false → IsNamed (world p) (OnSuper (of_class class.name id))
+  pub supers : (class : ClassTree) (id : MemberId) → IsInsnOf p.files judged.codes class (jop.Call 0xB7 id) → is_interface class.flags ≡ false → is_constructor id.name ≡ false → (hit : ResolvedMember) → method_found (world p) id ≡ Some hit → is_private hit.flags ≡ false → IsNamed (world p) (OnSuper (of_class class.name id))
   pub super_takes : (class : ClassTree) (id : MemberId) → IsInsnOf p.files judged.codes class (jop.Call 0xB7 id) → TakesWords (world p) (OnSuper (of_class class.name id))
-  pub privates : (class : ClassTree) (id : MemberId) → IsInsnOf p.files judged.codes class (jop.Call 0xB7 id) → (hit : Hit) → method_found (world p) id ≡ Some hit → is_private hit.flags ≡ true → IsNamed (world p) (Fixed true (resolved_method (world p) id))
+  pub privates : (class : ClassTree) (id : MemberId) → IsInsnOf p.files judged.codes class (jop.Call 0xB7 id) → (hit : ResolvedMember) → method_found (world p) id ≡ Some hit → is_private hit.flags ≡ true → IsNamed (world p) (Fixed true (resolved_method (world p) id))
   pub constructors : (class : ClassTree) (id : MemberId) → IsInsnOf p.files judged.codes class (jop.Call 0xB7 id) → is_constructor id.name ≡ true → IsNamed (world p) (Fixed true (resolved_method (world p) id))
   pub special_takes : (class : ClassTree) (id : MemberId) → IsInsnOf p.files judged.codes class (jop.Call 0xB7 id) → TakesWords (world p) (Fixed true (resolved_method (world p) id))
   pub statics : (class : ClassTree) (id : MemberId) → IsInsnOf p.files judged.codes class (jop.Call 0xB8 id) → IsNamed (world p) (Fixed false (resolved_method (world p) id))
@@ -75,11 +75,11 @@ module _ (list : ListTree) (files : List (List ℕ)) (judged : Judged) (p : Pack
     special_fine : (id : MemberId) → IsInsnOf p.files judged.codes class (jop.Call 0xB7 id) → (m : Callee) → naming (meaning 0x8C) (special_by class.name id (method_found w id)) ≡ Call m → IsFine m
     special_fine id of m e =
         let n = called list files judged p is class 0xB7 id of in
-        let hit : Hit = record { owner = n.owner; flags = (let a = n.at in let x = a.member in x.flags) } in
+        let hit : ResolvedMember = record { owner = n.owner; flags = (let a = n.at in let x = a.member in x.flags) } in
         let told : method_found w id ≡ Some hit = ap (option_and_then (method_hit w)) n.found ∙ n.hit in
         by hit told (is_constructor id.name) (is_private hit.flags) refl refl (ap (λ o. naming (meaning 0x8C) (special_by class.name id o)) (sym told) ∙ e)
       where
-        by : (hit : Hit) → method_found w id ≡ Some hit → (a b : Bool) → is_constructor id.name ≡ a → is_private hit.flags ≡ b → naming (meaning 0x8C) (if a || b then keys.StaticMethod (by_owner id (Some hit)) else keys.Super (of_class class.name id)) ≡ Call m → IsFine m
+        by : (hit : ResolvedMember) → method_found w id ≡ Some hit → (a b : Bool) → is_constructor id.name ≡ a → is_private hit.flags ≡ b → naming (meaning 0x8C) (if a || b then keys.StaticMethod (by_owner id (Some hit)) else keys.Super (of_class class.name id)) ≡ Call m → IsFine m
         by hit told true b f g h =
             fine m (Fixed true (resolved_method w id)) _ h (ap (λ o. naming (meaning 0x8C) (keys.StaticMethod (by_owner id o))) (sym told) ∙ special_is (resolved_method w id))
             (kinds.constructors class id of f, kinds.special_takes class id of)

@@ -8,7 +8,7 @@ use Rattle.cjc_bytes.specs.AccessFlags.{is_interface}
 use Rattle.cjc_bytes.specs.declared.fault.MemberId.{MemberId}
 use Rattle.cjc_by_name.specs.OnePackage.{is_initialiser}
 use Rattle.cjc_call_laws.proofs.Own.{IsAt, mapped_at}
-use Rattle.cjc_card.specs.Classes.{Foreign}
+use Rattle.cjc_card.specs.Classes.{External}
 use Rattle.cjc_card.specs.Loaded.{OfFile}
 use Rattle.cjc_card.specs.Operations.{Outer, method_through, outer, static_method, unbound_of}
 use Rattle.cjc_components.specs.Names.{class_at, fixed_as, member_ref, member_token, offset_where}
@@ -173,7 +173,7 @@ module _ (list : List ℕ) (p : Package) (sound : IsSound list p.files) where
       let k = at.member in
       let e = h.entry in
       let name : c.name ≡ m.class = class_named-name w m.class c known in
-      let on_card : class_at p m.class ≡ Foreign h.file e.token = sym (ap (class_at p) name) ∙ h.on_card in
+      let on_card : class_at p m.class ≡ External h.file e.token = sym (ap (class_at p) name) ∙ h.on_card in
       let token : member_token p (find_method w m.class m.name m.desc) ≡ k.token = ap (member_token p) found ∙ is.token in
       let x = mapped_at method_of_export e.methods at.place k (ap (λ (q : Class). slice_get q.methods at.place) (sym h.class) ∙ at.is_member) in
       let same : x.0.token ≡ k.token = ap (λ (v : Member). v.token) (sym x.2) in
@@ -188,7 +188,7 @@ module _ (list : List ℕ) (p : Package) (sound : IsSound list p.files) where
       let member_desc : x.0.desc ≡ m.desc = ap (λ (v : Member). v.desc) (sym x.2) ∙ at.has_desc in
       let offset = offset_where p (find_method w m.class m.name m.desc) in
       ap (λ q. static_method (loaded p) 0 on (member_ref q offset (member_token p (find_method w m.class m.name m.desc)))) on_card
-      ∙ ap (λ t. static_method (loaded p) 0 on (member_ref (Foreign h.file e.token) offset t)) token
+      ∙ ap (λ t. static_method (loaded p) 0 on (member_ref (External h.file e.token) offset t)) token
       ∙ ap (option_and_then (method_through (loaded p) on e.token k.token)) import_is
       ∙ ap (option_and_then (λ (q : ExportClass). option_map (outer on q.name) (unbound_of q.methods k.token))) h.there
       ∙ ap (option_map (outer on e.name)) first_one

@@ -5,7 +5,7 @@ use Rattle.std.specs.List.{flat_map}
 use Rattle.cjc_bytes.specs.AccessFlags.{is_static}
 use Rattle.cjc_bytes.specs.declared.fault.MemberId.{MemberId}
 use Rattle.cjc_bytes.specs.declared.settings.Settings.{Settings}
-use Rattle.cjc_by_name.specs.OnePackage.{Hit, constant_at, exported_constant, field_hit, method_hit, of_class}
+use Rattle.cjc_by_name.specs.OnePackage.{ResolvedMember, constant_at, exported_constant, field_hit, method_hit, of_class}
 use Rattle.cjc_call_laws.specs.Solid.{IsSolid}
 use Rattle.cjc_call_laws.proofs.Own.{IsAt, IsFieldAt, field_at, field_hit_is, hit_is, mapped_at, own_at}
 use Rattle.cjc_classfile.specs.declared.tree.ClassTree.{ClassTree}
@@ -172,10 +172,10 @@ module _ (list : List ℕ) (files : Files) (codes : List MethodCode) (settings :
     -- the code may use it
     pub seen : is_hidden w class id (record { owner = owner; flags = (let m = at.member in m.flags) }) ≡ false
 
-  abbrev tested_hit : Class → Member → subset.Hit
+  abbrev tested_hit : Class → Member → subset.ResolvedMember
   tested_hit c m = record { owner = c; flags = m.flags }
 
-  abbrev named_hit : Class → Member → Hit
+  abbrev named_hit : Class → Member → ResolvedMember
   named_hit c m = record { owner = c; flags = m.flags }
 
   -- what a look-up tells, on both sides
@@ -185,7 +185,7 @@ module _ (list : List ℕ) (files : Files) (codes : List MethodCode) (settings :
     where
       go : (c : Class) (o : Option Member) → option_map (named_hit c) o ≡ Some (named_hit d m) → option_map (tested_hit c) o ≡ Some (tested_hit d m)
       go c None e = absurd cc
-      go c (Some k) e = let is : named_hit c k ≡ named_hit d m = cc in ap (λ (h : Hit). Some (record { owner = h.owner; flags = h.flags })) is
+      go c (Some k) e = let is : named_hit c k ≡ named_hit d m = cc in ap (λ (h : ResolvedMember). Some (record { owner = h.owner; flags = h.flags })) is
 
       by : (o : Option Class) → option_and_then (λ c. option_map (named_hit c) (slice_get c.methods (f.member - length c.fields))) o ≡ Some (named_hit d m) → subset.hit_of false f o ≡ Some (tested_hit d m)
       by None e = absurd cc

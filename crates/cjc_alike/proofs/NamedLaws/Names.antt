@@ -110,12 +110,12 @@ module _ (list : ListTree) (files : List (List ℕ)) (judged : Judged) (p : Pack
   -- what an invokevirtual finds through an imported class, and what it names itself, are of classes
   pub virtual_class : (class : ClassTree) (id : MemberId) (n : Calls_method class 0xB6 id) → (let c = n.named_class in is_interface c.flags) ≡ false
   virtual_class class id n =
-      let h : subset.Hit = record { owner = n.owner; flags = (let a = n.at in let m = a.member in m.flags) } in
+      let h : subset.ResolvedMember = record { owner = n.owner; flags = (let a = n.at in let m = a.member in m.flags) } in
       or_left (is_interface_of (Some n.named_class)) (is_imported (Some n.named_class) && is_interface (let d = n.owner in d.flags)) (ap (λ o. is_unfit_virtual o h) (sym n.names_class) ∙ n.fits_class)
 
   pub virtual_owner : (class : ClassTree) (id : MemberId) (n : Calls_method class 0xB6 id) → (let c = n.named_class in c.is_imported) ≡ true → (let d = n.owner in is_interface d.flags) ≡ false
   virtual_owner class id n import =
-      let h : subset.Hit = record { owner = n.owner; flags = (let a = n.at in let m = a.member in m.flags) } in
+      let h : subset.ResolvedMember = record { owner = n.owner; flags = (let a = n.at in let m = a.member in m.flags) } in
       first_off (let c = n.named_class in c.is_imported) (is_interface (let d = n.owner in d.flags)) import
       (or_right (is_interface_of (Some n.named_class)) (is_imported (Some n.named_class) && is_interface (let d = n.owner in d.flags)) (ap (λ o. is_unfit_virtual o h) (sym n.names_class) ∙ n.fits_class))
     where

@@ -3,7 +3,7 @@ use Rattle.std.proofs.Common.{◌≡◌, ℕ, ◌+◌, refl, sym, ap, ◌∙◌,
 use Rattle.std.specs.Prelude.{◌⊎◌, ◌&&◌, ◌||◌, not, Option, Some, None, slice_get, if◌then◌else◌}
 use Rattle.cjc_bytes.specs.AccessFlags.{is_interface, is_private, is_protected, is_public, is_static}
 use Rattle.cjc_bytes.specs.declared.fault.MemberId.{MemberId}
-use Rattle.cjc_by_name.specs.OnePackage.{Hit, is_constructor, method_hit}
+use Rattle.cjc_by_name.specs.OnePackage.{ResolvedMember, is_constructor, method_hit}
 use Rattle.cjc_call_laws.proofs.Own.{hit_is, own_at}
 use Rattle.cjc_call_laws.specs.Solid.{IsSolid}
 use Rattle.cjc_calls_by_token.specs.Selecting.{signature}
@@ -21,7 +21,7 @@ use Rattle.cjc_world.specs.declared.found.Found.{Found}
 use Rattle.cjc_world.specs.Access.{is_accessible}
 use Rattle.cjc_world.specs.Classes.{Class, Member}
 use Rattle.cjc_world.specs.Interfaces.{gathered, known}
-use Rattle.cjc_world.specs.Kin.{kin, line}
+use Rattle.cjc_world.specs.Supertypes.{supertypes, line}
 use Rattle.cjc_world.specs.Lookup.{find_method, first, is_selectable, member_at, or_else, own_method}
 use Rattle.cjc_written_laws.proofs.Worlds.{own_solid}
 use Rattle.cjc_written_laws.specs.Converted.{IsConverted}
@@ -65,7 +65,7 @@ module _ (list : ListTree) (files : List (List ℕ)) (judged : Judged) (p : Pack
       ordered : IsOrdered w
       ordered = (let s = own_solid list files judged p is in s.ordered)
 
-      by : (o : Option Found) → first (own_method false id.name id.desc) (line w id.class) ≡ o → or_else o (first (own_method false id.name id.desc) (known (gathered false (kin w (id.class ∷ []))))) ≡ Some n.place
+      by : (o : Option Found) → first (own_method false id.name id.desc) (line w id.class) ≡ o → or_else o (first (own_method false id.name id.desc) (known (gathered false (supertypes w (id.class ∷ []))))) ≡ Some n.place
           → first (own_method false id.name id.desc) (line w id.class) ≡ None
       by None g e = g
       by (Some f) g e =
@@ -75,11 +75,11 @@ module _ (list : ListTree) (files : List (List ℕ)) (judged : Judged) (p : Pack
           let on = of_line w (let o = ordered in o.acyclic) id.class c r.among in
           let a = own_at false id.name id.desc c f r.own in
           let told = ap (method_hit w) a.is ∙ hit_is w c a.place a.member ((let s = solid in s.numbered) c.name c (line_named w id.class c on)) a.is_member in
-          let here : Hit = record { owner = c; flags = (let m = a.member in m.flags) } in
-          let there : Hit = record { owner = n.owner; flags = (let m = called in m.flags) } in
+          let here : ResolvedMember = record { owner = c; flags = (let m = a.member in m.flags) } in
+          let there : ResolvedMember = record { owner = n.owner; flags = (let m = called in m.flags) } in
           let both : Some here ≡ Some there = sym told ∙ ap (method_hit w) same ∙ n.hit in
           let one : here ≡ there = cc in
-          let clash : false ≡ true = sym (line_class w ordered id.class n.named_class c on n.names_class plain) ∙ ap (λ (h : Hit). let o = h.owner in is_interface o.flags) one ∙ interface in
+          let clash : false ≡ true = sym (line_class w ordered id.class n.named_class c on n.names_class plain) ∙ ap (λ (h : ResolvedMember). let o = h.owner in is_interface o.flags) one ∙ interface in
           absurd cc
 
   -- code sees a method of an imported class only where it is public or protected

@@ -7,7 +7,7 @@ use Rattle.cjc_tokens.specs.Members.{In, Signature, all_methods, chosen, first_o
 use Rattle.cjc_tokens.specs.Slots.{slots, token}
 use Rattle.cjc_tokens.proofs.Facts.{chosen-In, chosen-passes, same-refl}
 use Rattle.cjc_tokens.proofs.Held.{shown-virtual}
-use Rattle.cjc_tokens.proofs.Walks.{kin-known}
+use Rattle.cjc_tokens.proofs.Walks.{supertypes-known}
 use Rattle.cjc_upward_laws.specs.Upwards.{OnLine, here, up}
 use Rattle.cjc_upward_laws.proofs.Lines.{line_listed}
 use Rattle.cjc_vtable.specs.Calls.{IsTold, any_method, finds_hidden, is_special, passes, selects, selects_shown}
@@ -17,7 +17,7 @@ use Rattle.cjc_vtable.proofs.Calls.{In-behind, In-front, token-some}
 use Rattle.cjc_vtable.proofs.Worlds.{line_of-declared, told-class}
 use Rattle.cjc_world.specs.Added.{added}
 use Rattle.cjc_world.specs.Classes.{Class, Member, class_named}
-use Rattle.cjc_world.specs.Kin.{IsKin, Kin, Lists, after, foremost, kin, upwards}
+use Rattle.cjc_world.specs.Supertypes.{AreSupertypes, Supertypes, Lists, after, foremost, supertypes, upwards}
 use Rattle.cjc_alike.proofs.VirtualCalls.Chosen.{any_none, any_selects, has_methods, hidden_kept, hidden_or_shown, never_both, shown_kept}
 
 -- what stands on the line of a superclass stands on the line of the class
@@ -70,23 +70,23 @@ has_shown s (n ∷ ms) m (later i) shown is = by (is_shown n) (has_shown s ms m 
     by true h = ap (λ q. same (signature_of n) s || q) h ∙ or_true (same (signature_of n) s)
     by false h = h
 
-module _ (w : List Class) (is_kin : (xs : List (List ℕ)) → IsKin w xs (kin w xs)) (one_kin : (xs : List (List ℕ)) (j k : Kin) → IsKin w xs j → IsKin w xs k → j ≡ k) (rules : KeepsRules w) where
-  line_imported : (x : List ℕ) (c : Class) → class_named w x ≡ Some c → c.is_imported ≡ true → line_of w x ≡ Imported (c ∷ upwards (kin w c.supers))
-  line_imported x c e f = ap (line_in w) (kin-known w is_kin one_kin x c e) ∙ ap (λ b. if b then Imported (c ∷ upwards (kin w c.supers)) else Declared c (added w c) (line_in w (kin w c.supers))) f
+module _ (w : List Class) (are_supertypes : (xs : List (List ℕ)) → AreSupertypes w xs (supertypes w xs)) (one_supertypes : (xs : List (List ℕ)) (j k : Supertypes) → AreSupertypes w xs j → AreSupertypes w xs k → j ≡ k) (rules : KeepsRules w) where
+  line_imported : (x : List ℕ) (c : Class) → class_named w x ≡ Some c → c.is_imported ≡ true → line_of w x ≡ Imported (c ∷ upwards (supertypes w c.supers))
+  line_imported x c e f = ap (line_in w) (supertypes-known w are_supertypes one_supertypes x c e) ∙ ap (λ b. if b then Imported (c ∷ upwards (supertypes w c.supers)) else Declared c (added w c) (line_in w (supertypes w c.supers))) f
 
   -- a class of the package lists one superclass
   line_up : (x y : List ℕ) (c : Class) → class_named w x ≡ Some c → c.is_imported ≡ false → Lists y c.supers → line_of w x ≡ Declared c (added w c) (line_of w y)
   line_up x y c e own l =
       let s = rules.single x c e own in
       let at : y ≡ s.0 = only y s.0 (subst (Lists y) s.1 l) in
-      line_of-declared w is_kin one_kin rules x c e own ∙ ap (λ q. Declared c (added w c) (line_in w (kin w q))) (s.1 ∙ ap (λ q. q ∷ []) (sym at))
+      line_of-declared w are_supertypes one_supertypes rules x c e own ∙ ap (λ q. Declared c (added w c) (line_in w (supertypes w q))) (s.1 ∙ ap (λ q. q ∷ []) (sym at))
     where
       only : (y s : List ℕ) → Lists y (s ∷ []) → y ≡ s
       only y s foremost = refl
       only y s (after l) = elim l [ ]
 
-  above_in : (y : List ℕ) (c d : Class) (m : Member) → Lists y c.supers → OnLine w y d → In m d.methods → In m (all_methods (upwards (kin w c.supers)))
-  above_in y c d m l on i = has_methods d (upwards (kin w c.supers)) m (line_listed w y c.supers (kin w c.supers) d (is_kin c.supers) l on) i
+  above_in : (y : List ℕ) (c d : Class) (m : Member) → Lists y c.supers → OnLine w y d → In m d.methods → In m (all_methods (upwards (supertypes w c.supers)))
+  above_in y c d m l on i = has_methods d (upwards (supertypes w c.supers)) m (line_listed w y c.supers (supertypes w c.supers) d (are_supertypes c.supers) l on) i
 
   -- ---- where a public or protected one is
 
@@ -95,16 +95,16 @@ module _ (w : List Class) (is_kin : (xs : List (List ℕ)) → IsKin w xs (kin w
   selects_one s x d n (here e) i shown one first = by d.is_imported refl
     where
       by : (b : Bool) → d.is_imported ≡ b → selects_shown (line_of w x) s ≡ true
-      by true f = ap (λ l. selects_shown l s) (line_imported x d e f) ∙ has_shown s (all_methods (d ∷ upwards (kin w d.supers))) n (In-front n d.methods (all_methods (upwards (kin w d.supers))) i) shown one
+      by true f = ap (λ l. selects_shown l s) (line_imported x d e f) ∙ has_shown s (all_methods (d ∷ upwards (supertypes w d.supers))) n (In-front n d.methods (all_methods (upwards (supertypes w d.supers))) i) shown one
       by false f =
-          let above = line_in w (kin w d.supers) in
-          ap (λ l. selects_shown l s) (line_of-declared w is_kin one_kin rules x d e f) ∙ ap (λ o. passes is_shown o (selects_shown above s)) (first f) ∙ shown
+          let above = line_in w (supertypes w d.supers) in
+          ap (λ l. selects_shown l s) (line_of-declared w are_supertypes one_supertypes rules x d e f) ∙ ap (λ o. passes is_shown o (selects_shown above s)) (first f) ∙ shown
   selects_one s x d n (up {s = y} c e l rest) i shown one first = by c.is_imported refl (selects_one s y d n rest i shown one first)
     where
       by : (b : Bool) → c.is_imported ≡ b → selects_shown (line_of w y) s ≡ true → selects_shown (line_of w x) s ≡ true
       by true f above =
           ap (λ l. selects_shown l s) (line_imported x c e f)
-          ∙ has_shown s (all_methods (c ∷ upwards (kin w c.supers))) n (In-behind n c.methods (all_methods (upwards (kin w c.supers))) (above_in y c d n l rest i)) shown one
+          ∙ has_shown s (all_methods (c ∷ upwards (supertypes w c.supers))) n (In-behind n c.methods (all_methods (upwards (supertypes w c.supers))) (above_in y c d n l rest i)) shown one
       by false f above = ap (λ l. selects_shown l s) (line_up x y c e f l) ∙ own_one (chosen selects s c.methods) refl
         where
           own_one : (o : Option Member) → chosen selects s c.methods ≡ o → passes is_shown (chosen selects s c.methods) (selects_shown (line_of w y) s) ≡ true
@@ -125,11 +125,11 @@ module _ (w : List Class) (is_kin : (xs : List (List ℕ)) → IsKin w xs (kin w
     where
       by : (b : Bool) → d.is_imported ≡ b → finds_hidden (line_of w x) s ≡ false
       by true f = ap (λ l. finds_hidden l s) (line_imported x d e f)
-      by false f = ap (λ l. finds_hidden l s) (line_of-declared w is_kin one_kin rules x d e f) ∙ own_one (chosen any_method s d.methods) refl
+      by false f = ap (λ l. finds_hidden l s) (line_of-declared w are_supertypes one_supertypes rules x d e f) ∙ own_one (chosen any_method s d.methods) refl
         where
-          own_one : (o : Option Member) → chosen any_method s d.methods ≡ o → passes is_hidden (chosen any_method s d.methods) (finds_hidden (line_in w (kin w d.supers)) s) ≡ false
+          own_one : (o : Option Member) → chosen any_method s d.methods ≡ o → passes is_hidden (chosen any_method s d.methods) (finds_hidden (line_in w (supertypes w d.supers)) s) ≡ false
           own_one None g = let clash : Some n ≡ None = sym (first f) ∙ any_none s d.methods g in absurd cc
-          own_one (Some q) g = ap (λ o. passes is_hidden o (finds_hidden (line_in w (kin w d.supers)) s)) g ∙ off (is_hidden q) refl
+          own_one (Some q) g = ap (λ o. passes is_hidden o (finds_hidden (line_in w (supertypes w d.supers)) s)) g ∙ off (is_hidden q) refl
             where
               off : (b : Bool) → is_hidden q ≡ b → is_hidden q ≡ false
               off false h = h
@@ -162,7 +162,7 @@ module _ (w : List Class) (is_kin : (xs : List (List ℕ)) → IsKin w xs (kin w
 
   finds_one : KeepsKinds w → (s : Signature) (x : List ℕ) (d : Class) (n : Member) → OnLine w x d → d.is_imported ≡ false → is_hidden n ≡ true → chosen any_method s d.methods ≡ Some n → finds_hidden (line_of w x) s ≡ true
   finds_one kinds s x d n (here e) own hid first =
-      ap (λ l. finds_hidden l s) (line_of-declared w is_kin one_kin rules x d e own) ∙ ap (λ o. passes is_hidden o (finds_hidden (line_in w (kin w d.supers)) s)) first ∙ hid
+      ap (λ l. finds_hidden l s) (line_of-declared w are_supertypes one_supertypes rules x d e own) ∙ ap (λ o. passes is_hidden o (finds_hidden (line_in w (supertypes w d.supers)) s)) first ∙ hid
   finds_one kinds s x d n (up {s = y} c e l rest) own hid first = by c.is_imported refl (finds_one kinds s y d n rest own hid first)
     where
       by : (b : Bool) → c.is_imported ≡ b → finds_hidden (line_of w y) s ≡ true → finds_hidden (line_of w x) s ≡ true
@@ -195,5 +195,5 @@ module _ (w : List Class) (is_kin : (xs : List (List ℕ)) → IsKin w xs (kin w
   -- a public or protected one has a token, where the class is no interface
   pub shown_token : (x : List ℕ) (c : Class) → class_named w x ≡ Some c → is_interface c.flags ≡ false → (s : Signature) → HasShown w x s → (t : ℕ) × (token (slots (line_of w x)) s ≡ Some t)
   shown_token x c known class_here s h =
-      let told : IsTold (line_of w x) = told-class w is_kin one_kin rules x c known (λ import. class_here) in
+      let told : IsTold (line_of w x) = told-class w are_supertypes one_supertypes rules x c known (λ import. class_here) in
       token-some (slots (line_of w x)) s (shown-has_slot (line_of w x) s told (shown_selected x s h))

@@ -13,7 +13,7 @@ use Rattle.cjc_classfile.specs.declared.tree.MethodTree.{MethodTree}
 use Rattle.cjc_code.specs.declared.method_code.MethodCode.{MethodCode}
 use Rattle.cjc_select_laws.proofs.Limits.{each_at, none_left, none_right, not_broken}
 use Rattle.cjc_subset.specs.Checks.{check_breaks, class_breaks, code_breaks, field_breaks, list_breaks, method_breaks, own_breaks}
-use Rattle.cjc_subset.specs.Overriding.{changes_kind, class_against, hides_one, is_inherited, is_of_other_kind, is_special, kin_breaks, lacks_code, method_against, overriding_breaks}
+use Rattle.cjc_subset.specs.Overriding.{changes_kind, class_against, hides_one, is_inherited, is_of_other_kind, is_special, supertype_breaks, lacks_code, method_against, overriding_breaks}
 use Rattle.cjc_subset.specs.Places.{at_class, at_method}
 use Rattle.cjc_tokens.specs.Members.{In, Signature, first_of, later, signature_of}
 use Rattle.cjc_tokens.proofs.Facts.{same-refl}
@@ -24,7 +24,7 @@ use Rattle.cjc_vtable.proofs.Filed.{IsFiled, filed, in_class_file, in_export_fil
 use Rattle.cjc_world.specs.Classes.{Class, Member, all_classes, class_named, declared, imported, method_of_class}
 use Rattle.cjc_world.specs.Files.{Files}
 use Rattle.cjc_world.specs.Interfaces.{has_interface}
-use Rattle.cjc_world.specs.Kin.{Above, IsAcyclic, Lists, directly, is_below, onwards}
+use Rattle.cjc_world.specs.Supertypes.{Above, IsAcyclic, Lists, directly, is_below, onwards}
 use Rattle.cjc_world.specs.Lookup.{is_called}
 use Rattle.cjc_world.proofs.Cycles.{class_named-name}
 use Rattle.cjc_world.proofs.Settled.{bytes-true, lists-front}
@@ -55,7 +55,7 @@ module _ (list : List ℕ) (files : Files) (codes : List MethodCode) (settings :
   -- 306 of a method of a class, against another class of the package
   kind_kept : (n l i : ℕ) (t u : ClassTree) (m : MethodTree) → slice_get files.classes n ≡ Some t → slice_get files.classes l ≡ Some u → slice_get t.methods i ≡ Some m → is_inherited w t (declared 0 u) ≡ true
       → (not (is_special m.name) && changes_kind (declared 0 u) m.flags m.name m.desc) ≡ false
-  unfolding check_breaks class_breaks overriding_breaks kin_breaks class_against method_against
+  unfolding check_breaks class_breaks overriding_breaks supertype_breaks class_against method_against
   kind_kept n l i t u m e f g above =
       let f_n = file_of files.lines n in
       let by_classes = each_from (λ n c. class_breaks files settings (file_of files.lines n) n c) 0 files.classes in
@@ -66,10 +66,10 @@ module _ (list : List ℕ) (files : Files) (codes : List MethodCode) (settings :
       let methods = each_from (λ i m. method_breaks settings f_n t i m) 0 t.methods in
       let over : overriding_breaks files f_n t ≡ [] = none_right (own ++ fields ++ methods) (overriding_breaks files f_n t) here in
       let A = at (lacks_code w t (declared 0 t)) (at_class f_n t) 307 in
-      let B = each_from (λ _ d. kin_breaks w f_n t (declared 0 d)) 0 files.classes in
-      let C = each_from (λ _ s. each_from (λ _ d. kin_breaks w f_n t (imported 0 d)) 0 s.classes) 0 files.exports in
-      let kin : kin_breaks w f_n t (declared 0 u) ≡ [] = each_at (λ _ d. kin_breaks w f_n t (declared 0 d)) l files.classes u (none_right A B (none_left (A ++ B) C over)) f in
-      let against : class_against w f_n t (declared 0 u) ≡ [] = sym (ap (λ b. if b then class_against w f_n t (declared 0 u) else []) above) ∙ kin in
+      let B = each_from (λ _ d. supertype_breaks w f_n t (declared 0 d)) 0 files.classes in
+      let C = each_from (λ _ s. each_from (λ _ d. supertype_breaks w f_n t (imported 0 d)) 0 s.classes) 0 files.exports in
+      let supertypes : supertype_breaks w f_n t (declared 0 u) ≡ [] = each_at (λ _ d. supertype_breaks w f_n t (declared 0 d)) l files.classes u (none_right A B (none_left (A ++ B) C over)) f in
+      let against : class_against w f_n t (declared 0 u) ≡ [] = sym (ap (λ b. if b then class_against w f_n t (declared 0 u) else []) above) ∙ supertypes in
       let D = at (lacks_code w t (declared 0 u)) (at_class f_n t) 307 in
       let one = each_at (λ i m. method_against f_n t (declared 0 u) i m) i t.methods m (none_right D (each_from (λ i m. method_against f_n t (declared 0 u) i m) 0 t.methods) against) g in
       let spot = at_method f_n t i m 0 in

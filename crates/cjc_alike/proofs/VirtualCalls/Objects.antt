@@ -34,7 +34,7 @@ use Rattle.cjc_world.specs.declared.found.Found.{Found}
 use Rattle.cjc_world.specs.Classes.{Class, Member, class_named}
 use Rattle.cjc_world.specs.Added.{asked_by, own_methods}
 use Rattle.cjc_world.specs.Interfaces.{known}
-use Rattle.cjc_world.specs.Kin.{IsKin, Kin, kin, line}
+use Rattle.cjc_world.specs.Supertypes.{AreSupertypes, Supertypes, supertypes, line}
 use Rattle.cjc_world.specs.Lookup.{own_method}
 use Rattle.cjc_world.specs.Subtype.{is_subtype}
 use Rattle.cjc_written_calls.specs.Calls.{IsNamed, IsSought, got, hidden, on_object}
@@ -55,7 +55,7 @@ among_get i (c ∷ is) at_head = (0, refl)
 among_get i (c ∷ is) (further a) = let r = among_get i is a in (suc r.0, r.1)
 
 module _ (list : ListTree) (files : List (List ℕ)) (judged : Judged) (p : Package) (is : IsConverted list files judged p)
-    (is_kin : (xs : List (List ℕ)) → IsKin (world p) xs (kin (world p) xs)) (one_kin : (xs : List (List ℕ)) (j k : Kin) → IsKin (world p) xs j → IsKin (world p) xs k → j ≡ k) (keeps : Keeps (world p)) where
+    (are_supertypes : (xs : List (List ℕ)) → AreSupertypes (world p) xs (supertypes (world p) xs)) (one_supertypes : (xs : List (List ℕ)) (j k : Supertypes) → AreSupertypes (world p) xs j → AreSupertypes (world p) xs k → j ≡ k) (keeps : Keeps (world p)) where
   abbrev w : List Class
   w = world p
 
@@ -76,7 +76,7 @@ module _ (list : ListTree) (files : List (List ℕ)) (judged : Judged) (p : Pack
 
   -- what stands at or above a class that is no interface is sought
   pub sought_there : (m : MemberId) (d : Class) → class_named w m.class ≡ Some d → is_interface d.flags ≡ false → HasShown w m.class (signature m) ⊎ HasHidden w m.class (signature m) → IsSought w m
-  sought_there m d named class_here h = ⊎_elim (λ a. shown_sought w is_kin one_kin rules m d named class_here a) (λ a. hidden_sought w is_kin one_kin rules own_kinds m a) h
+  sought_there m d named class_here h = ⊎_elim (λ a. shown_sought w are_supertypes one_supertypes rules m d named class_here a) (λ a. hidden_sought w are_supertypes one_supertypes rules own_kinds m a) h
 
   -- a class is of what stands above it
   pub of_above : (x : List ℕ) (c d : Class) → class_named w x ≡ Some c → class_named w d.name ≡ Some d → Below w x d.name → is_subtype w x d.name ≡ true
@@ -86,7 +86,7 @@ module _ (list : ListTree) (files : List (List ℕ)) (judged : Judged) (p : Pack
 
   -- what an interface lists or inherits has a place among its methods
   abbrev pub ListsMethods : Type 0
-  ListsMethods = (c : Class) (m : Member) → Contains (if c.is_imported then own_methods c else asked_by (kin w c.supers) (kin w c.interfaces) ++ own_methods c) m → (t : ℕ) × (slice_get (interface_methods w c) t ≡ Some (signature_of m))
+  ListsMethods = (c : Class) (m : Member) → Contains (if c.is_imported then own_methods c else asked_by (supertypes w c.supers) (supertypes w c.interfaces) ++ own_methods c) m → (t : ℕ) × (slice_get (interface_methods w c) t ≡ Some (signature_of m))
 
   module _ (asked : AskedHaveTokens w) (listed_methods : ListsMethods) (class : ClassTree) (id : MemberId) (n : Calls_method list files judged p is class 0xB6 id) (own : (let c = n.named_class in c.is_imported) ≡ false) (interface : (let d = n.owner in is_interface d.flags) ≡ true) where
     abbrev s : Signature
@@ -123,7 +123,7 @@ module _ (list : ListTree) (files : List (List ℕ)) (judged : Judged) (p : Pack
     public_one : (x : List ℕ) (c : Class) (f : Found) → class_named w x ≡ Some c → c.is_imported ≡ false → is_interface c.flags ≡ false → is_abstract c.flags ≡ false → Under w x id.class → selection w x s ≡ Some f → selects_shown (line_of w x) s ≡ true
     public_one x c f e own_class plain made under sel =
         let at = placed in
-        let a = method-asked w is_kin one_kin c n.owner s (listed x c e plain (under_below w x id.class under)) (has-here (interface_methods w n.owner) at.0 s at.1) in
+        let a = method-asked w are_supertypes one_supertypes c n.owner s (listed x c e plain (under_below w x id.class under)) (has-here (interface_methods w n.owner) at.0 s at.1) in
         let given = (let i = keeps.interfaces in i.methods) x c a.0 e own_class made a.1 in
         let r = first_found true s (line w x) f sel in
         let m = (let q = r.at in q.method) in
@@ -132,7 +132,7 @@ module _ (list : ListTree) (files : List (List ℕ)) (judged : Judged) (p : Pack
         let first_one = (let q = r.at in q.is_first) in
         let d = r.class in
         let is_m = chosen-passes selects s d.methods m first_one in
-        shown_selected w is_kin one_kin rules x s (record {
+        shown_selected w are_supertypes one_supertypes rules x s (record {
           class = d;
           on = of_line w (let o = ordered in o.acyclic) x d r.among;
           method = m;

@@ -21,7 +21,7 @@ use Rattle.cjc_vtable.proofs.Filed.{IsFiled, filed, get-has, has-get, in_class_f
 use Rattle.cjc_world.specs.Added.{asked_by, by_token, own_methods, with_token, without_initialiser}
 use Rattle.cjc_world.specs.Classes.{Class, Member, all_classes, class_named, method_of_export}
 use Rattle.cjc_world.specs.Files.{Files}
-use Rattle.cjc_world.specs.Kin.{kin}
+use Rattle.cjc_world.specs.Supertypes.{supertypes}
 use Rattle.cjc_alike.proofs.VirtualCalls.MethodKinds.{in_get}
 
 -- ---- lists
@@ -129,12 +129,12 @@ module _ (files : Files) (writable : (e : ℕ) (t : ExportTree) → slice_get fi
       (kept_in (by_token (length (map method_of_export t.methods)) 0 (map method_of_export t.methods)) (method_of_export x.0) all (ap (λ (v : Member). is_initialiser v.name) (sym x.2) ∙ plain))
 
   -- one that it inherits or lists has a place
-  pub has_place : ((c : Class) (m : Member) → Contains (if c.is_imported then own_methods c else asked_by (kin (all_classes files) c.supers) (kin (all_classes files) c.interfaces) ++ own_methods c) m → (t : ℕ) × (slice_get (interface_methods (all_classes files) c) t ≡ Some (signature_of m)))
+  pub has_place : ((c : Class) (m : Member) → Contains (if c.is_imported then own_methods c else asked_by (supertypes (all_classes files) c.supers) (supertypes (all_classes files) c.interfaces) ++ own_methods c) m → (t : ℕ) × (slice_get (interface_methods (all_classes files) c) t ≡ Some (signature_of m)))
       → (x : List ℕ) (d : Class) → class_named (all_classes files) x ≡ Some d → is_interface d.flags ≡ true → (k : ℕ) (m : Member) → slice_get d.methods k ≡ Some m → is_initialiser m.name ≡ false → (t : ℕ) × (slice_get (interface_methods (all_classes files) d) t ≡ Some (signature_of m))
   has_place listed x d known interface k m e plain =
       let own = own_in d (filed files x d known) interface k m e plain in
       listed d m (contained _ m (by d.is_imported own))
     where
-      by : (b : Bool) → In m (own_methods d) → In m (if b then own_methods d else asked_by (kin (all_classes files) d.supers) (kin (all_classes files) d.interfaces) ++ own_methods d)
+      by : (b : Bool) → In m (own_methods d) → In m (if b then own_methods d else asked_by (supertypes (all_classes files) d.supers) (supertypes (all_classes files) d.interfaces) ++ own_methods d)
       by true i = i
-      by false i = In-behind m (asked_by (kin (all_classes files) d.supers) (kin (all_classes files) d.interfaces)) (own_methods d) i
+      by false i = In-behind m (asked_by (supertypes (all_classes files) d.supers) (supertypes (all_classes files) d.interfaces)) (own_methods d) i

@@ -6,16 +6,16 @@ use Rattle.cjc_bytes.specs.declared.fault.MemberId.{MemberId}
 use Rattle.cjc_calls_by_token.specs.Selecting.{signature}
 use Rattle.cjc_vtable.specs.Laws.{KeepsRules}
 use Rattle.cjc_world.specs.Classes.{Class, class_named}
-use Rattle.cjc_world.specs.Kin.{IsKin, Kin, kin}
+use Rattle.cjc_world.specs.Supertypes.{AreSupertypes, Supertypes, supertypes}
 use Rattle.cjc_written_calls.specs.Calls.{IsSought, got, hidden}
 use Rattle.cjc_alike.proofs.VirtualCalls.Lines.{HasHidden, HasShown, KeepsKinds, hidden_found, shown_alone, shown_below, shown_selected, shown_token}
 
-module _ (w : List Class) (is_kin : (xs : List (List ℕ)) → IsKin w xs (kin w xs)) (one_kin : (xs : List (List ℕ)) (j k : Kin) → IsKin w xs j → IsKin w xs k → j ≡ k) (rules : KeepsRules w) where
+module _ (w : List Class) (are_supertypes : (xs : List (List ℕ)) → AreSupertypes w xs (supertypes w xs)) (one_supertypes : (xs : List (List ℕ)) (j k : Supertypes) → AreSupertypes w xs j → AreSupertypes w xs k → j ≡ k) (rules : KeepsRules w) where
   pub shown_sought : (m : MemberId) (d : Class) → class_named w m.class ≡ Some d → is_interface d.flags ≡ false → HasShown w m.class (signature m) → IsSought w m
   shown_sought m d named class_here h =
-      let t = shown_token w is_kin one_kin rules m.class d named class_here (signature m) h in
-      got t.0 t.1 (shown_alone w is_kin one_kin rules m.class (signature m) h)
-      (λ x c f known plain may under sel. shown_selected w is_kin one_kin rules x (signature m) (shown_below w x m.class (signature m) under h))
+      let t = shown_token w are_supertypes one_supertypes rules m.class d named class_here (signature m) h in
+      got t.0 t.1 (shown_alone w are_supertypes one_supertypes rules m.class (signature m) h)
+      (λ x c f known plain may under sel. shown_selected w are_supertypes one_supertypes rules x (signature m) (shown_below w x m.class (signature m) under h))
 
   pub hidden_sought : KeepsKinds w → (m : MemberId) → HasHidden w m.class (signature m) → IsSought w m
-  hidden_sought kinds m h = hidden (hidden_found w is_kin one_kin rules kinds m.class (signature m) h)
+  hidden_sought kinds m h = hidden (hidden_found w are_supertypes one_supertypes rules kinds m.class (signature m) h)

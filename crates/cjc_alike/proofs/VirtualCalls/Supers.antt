@@ -3,7 +3,7 @@ use Rattle.std.proofs.Common.{◌≡◌, ℕ, refl, sym, ap, subst, ◌∙◌, B
 use Rattle.std.specs.Prelude.{◌⊎◌, ◌&&◌, ◌||◌, not, Option, Some, None, option_and_then, position, slice_get}
 use Rattle.cjc_bytes.specs.AccessFlags.{is_interface, is_private, is_static}
 use Rattle.cjc_bytes.specs.declared.fault.MemberId.{MemberId}
-use Rattle.cjc_by_name.specs.OnePackage.{Hit, is_constructor, method_hit, of_class}
+use Rattle.cjc_by_name.specs.OnePackage.{ResolvedMember, is_constructor, method_hit, of_class}
 use Rattle.cjc_call_laws.proofs.Own.{hit_is, mapped_at}
 use Rattle.cjc_call_laws.proofs.Selects.{receiver_plain}
 use Rattle.cjc_call_laws.specs.Solid.{IsSolid}
@@ -32,7 +32,7 @@ use Rattle.cjc_vtable.specs.Laws.{KeepsRules, Under, below, itself, selection}
 use Rattle.cjc_vtable.proofs.Filed.{IsFiled, filed, in_class_file, in_export_file}
 use Rattle.cjc_world.specs.declared.found.Found.{Found}
 use Rattle.cjc_world.specs.Classes.{Class, Member, class_named, declared, method_of_class}
-use Rattle.cjc_world.specs.Kin.{IsKin, Kin, foremost, is_below, kin, line}
+use Rattle.cjc_world.specs.Supertypes.{AreSupertypes, Supertypes, foremost, is_below, supertypes, line}
 use Rattle.cjc_world.specs.Lookup.{first, is_called, is_selectable, own_method, receiver, selected}
 use Rattle.cjc_world.specs.Rules.{is_earlier, is_twice}
 use Rattle.cjc_world.proofs.Cycles.{class_named-name}
@@ -64,7 +64,7 @@ chosen_some w super id same_name None g e = absurd cc
 chosen_some w super id same_name (Some f) g e = (f, ap (λ y. first (own_method true id.name id.desc) (line w y)) (sym same_name) ∙ g)
 
 module _ (list : ListTree) (files : List (List ℕ)) (judged : Judged) (p : Package) (is : IsConverted list files judged p)
-    (is_kin : (xs : List (List ℕ)) → IsKin (world p) xs (kin (world p) xs)) (one_kin : (xs : List (List ℕ)) (j k : Kin) → IsKin (world p) xs j → IsKin (world p) xs k → j ≡ k) (keeps : Keeps (world p)) (implement : ExportsImplement (world p)) where
+    (are_supertypes : (xs : List (List ℕ)) → AreSupertypes (world p) xs (supertypes (world p) xs)) (one_supertypes : (xs : List (List ℕ)) (j k : Supertypes) → AreSupertypes (world p) xs j → AreSupertypes (world p) xs k → j ≡ k) (keeps : Keeps (world p)) (implement : ExportsImplement (world p)) where
   abbrev w : List Class
   w = world p
 
@@ -99,7 +99,7 @@ module _ (list : ListTree) (files : List (List ℕ)) (judged : Judged) (p : Pack
           let one : r.0 ≡ m = cc in
           r.1 ∙ ap Some one
 
-  module _ (class : ClassTree) (id : MemberId) (of : IsInsnOf p.files judged.codes class (jop.Call 0xB7 id)) (class_here : is_interface class.flags ≡ false) (no_constructor : is_constructor id.name ≡ false) (hit : Hit) (is_hit : method_found w id ≡ Some hit) (visible : is_private hit.flags ≡ false) where
+  module _ (class : ClassTree) (id : MemberId) (of : IsInsnOf p.files judged.codes class (jop.Call 0xB7 id)) (class_here : is_interface class.flags ≡ false) (no_constructor : is_constructor id.name ≡ false) (hit : ResolvedMember) (is_hit : method_found w id ≡ Some hit) (visible : is_private hit.flags ≡ false) where
     abbrev s : Signature
     s = signature id
 
@@ -112,10 +112,10 @@ module _ (list : ListTree) (files : List (List ℕ)) (judged : Judged) (p : Pack
     open_one : is_private flags ≡ false
     open_one =
         let c = n in
-        let here : Hit = record { owner = c.owner; flags = flags } in
+        let here : ResolvedMember = record { owner = c.owner; flags = flags } in
         let both : Some here ≡ Some hit = sym (ap (option_and_then (method_hit w)) c.found ∙ c.hit) ∙ is_hit in
         let same : here ≡ hit = cc in
-        ap (λ (h : Hit). is_private h.flags) same ∙ visible
+        ap (λ (h : ResolvedMember). is_private h.flags) same ∙ visible
 
     selectable : is_selectable flags ≡ true
     selectable = let c = n in let f = c.fits in both (is_private flags) (is_static flags) open_one (f.on_object refl)
@@ -239,16 +239,16 @@ module _ (list : ListTree) (files : List (List ℕ)) (judged : Judged) (p : Pack
               let e = z.class in
               let e_known = line_named w t.name e (of_line w (let o = ordered in o.acyclic) t.name e z.among) in
               let told = implement t.name t.class c.owner (found.called list files judged p is class 0xB7 id n) zat.method t.known t.import t.plain c.named interface
-              (of_above list files judged p is is_kin one_kin keeps t.name t.class c.owner t.known c.named way)
+              (of_above list files judged p is are_supertypes one_supertypes keeps t.name t.class c.owner t.known c.named way)
               (member_in (let o = c.owner in o.methods) (let a = c.at in a.place) (let a = c.at in a.member) (let a = c.at in a.is_member))
               (ap (λ v. chosen selects v (all_methods (line w t.name))) (found.called_signature list files judged p is class 0xB7 id n) ∙ z.of_all) in
-              let h1 : Hit = record { owner = d; flags = m.flags } in
-              let h2 : Hit = record { owner = e; flags = (let x = zat.method in x.flags) } in
+              let h1 : ResolvedMember = record { owner = d; flags = m.flags } in
+              let h2 : ResolvedMember = record { owner = e; flags = (let x = zat.method in x.flags) } in
               let one : method_hit w f ≡ Some h1 = ap (method_hit w) at.is ∙ hit_is w d at.place m (let v = solid in v.numbered d.name d known) at.there in
               let two : method_hit w f ≡ Some h2 = ap (method_hit w) zat.is ∙ hit_is w e zat.place zat.method (let v = solid in v.numbered e.name e e_known) zat.there in
               let both : Some h1 ≡ Some h2 = sym one ∙ two in
               let same_one : h1 ≡ h2 = cc in
-              ap (λ (h : Hit). is_exposed h.flags) same_one ∙ told
+              ap (λ (h : ResolvedMember). is_exposed h.flags) same_one ∙ told
 
       pub interface_there : HasShown w super s ⊎ HasHidden w super s
       interface_there = by (is_exposed m.flags) refl
@@ -291,12 +291,12 @@ module _ (list : ListTree) (files : List (List ℕ)) (judged : Judged) (p : Pack
 
     alike : HasShown w super s ⊎ HasHidden w super s → finds_hidden (line_of w class.name) s ≡ finds_hidden (line_of w super) s
     alike h = ⊎_elim
-        (λ a. shown_alone w is_kin one_kin rules class.name s (shown_below w class.name super s under a) ∙ sym (shown_alone w is_kin one_kin rules super s a))
-        (λ a. (let kinds = own_kinds list files judged p is is_kin one_kin keeps in hidden_found w is_kin one_kin rules kinds class.name s (hidden_below w class.name super s under a) ∙ sym (hidden_found w is_kin one_kin rules kinds super s a)))
+        (λ a. shown_alone w are_supertypes one_supertypes rules class.name s (shown_below w class.name super s under a) ∙ sym (shown_alone w are_supertypes one_supertypes rules super s a))
+        (λ a. (let kinds = own_kinds list files judged p is are_supertypes one_supertypes keeps in hidden_found w are_supertypes one_supertypes rules kinds class.name s (hidden_below w class.name super s under a) ∙ sym (hidden_found w are_supertypes one_supertypes rules kinds super s a)))
         h
 
     pub super_named : IsNamed w (OnSuper (of_class class.name id))
     super_named =
         let c = n in
         let f = c.fits in
-        on_super (declared number class) super_there.0 super holder refl class_here refl super_there.1 f.no_initialiser (sought_there list files judged p is is_kin one_kin keeps (of_class super id) super_there.0 super_there.1 super_class there) (alike there)
+        on_super (declared number class) super_there.0 super holder refl class_here refl super_there.1 f.no_initialiser (sought_there list files judged p is are_supertypes one_supertypes keeps (of_class super id) super_there.0 super_there.1 super_class there) (alike there)

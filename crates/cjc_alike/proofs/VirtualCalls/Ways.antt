@@ -9,7 +9,7 @@ use Rattle.cjc_upward_laws.proofs.Lines.{below_abroad, first_some, in_line, line
 use Rattle.cjc_vtable.specs.Laws.{KeepsRules, Under, below, itself, selection}
 use Rattle.cjc_world.specs.declared.found.Found.{Found}
 use Rattle.cjc_world.specs.Classes.{Class, class_named}
-use Rattle.cjc_world.specs.Kin.{Lists, after, foremost, line}
+use Rattle.cjc_world.specs.Supertypes.{Lists, after, foremost, line}
 use Rattle.cjc_world.specs.Lookup.{first, or_else, own_method}
 use Rattle.cjc_world.proofs.Cycles.{class_named-name}
 use Rattle.cjc_world.proofs.Settled.{lists-front}

@@ -3,7 +3,7 @@ use Rattle.std.proofs.Common.{◌≡◌, ℕ, refl, ap, ◌∙◌, Bool, true, f
 use Rattle.std.specs.Prelude.{Option, Some, None, if◌then◌else◌}
 use Rattle.cjc_bytes.specs.AccessFlags.{is_private}
 use Rattle.cjc_bytes.specs.declared.fault.MemberId.{MemberId}
-use Rattle.cjc_by_name.specs.OnePackage.{Hit, of_class}
+use Rattle.cjc_by_name.specs.OnePackage.{ResolvedMember, of_class}
 use Rattle.cjc_call_laws.proofs.Own.{mapped_at}
 use Rattle.cjc_classfile.specs.declared.tree.ClassTree.{ClassTree}
 use Rattle.cjc_code.specs.declared.insn.JOp.TheVariants as jop
@@ -35,7 +35,7 @@ exports_have_one_access p plain x c m e import i exposed = by c (filed p.files x
         ap (λ (v : Member). is_private v.flags) y.2 ∙ plain.visible n t at k.0 y.0 y.1
 
 module _ (list : ListTree) (files : List (List ℕ)) (judged : Judged) (p : Package) (is : IsConverted list files judged p) (class : ClassTree) (id : MemberId) where
-  owner_desc : (o : Option Hit) → (by_owner id o).desc ≡ id.desc
+  owner_desc : (o : Option ResolvedMember) → (by_owner id o).desc ≡ id.desc
   owner_desc None = refl
   owner_desc (Some hit) = refl
 

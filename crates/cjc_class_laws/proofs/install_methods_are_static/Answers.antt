@@ -12,7 +12,7 @@ use Rattle.cjc_sentences.specs.Statics.{applets_of, install_spot}
 use Rattle.cjc_subset.specs.Applets.{is_applet, is_install, is_unfit_applet, is_unfit_class}
 use Rattle.cjc_world.specs.declared.found.Found.{Found}
 use Rattle.cjc_world.specs.Classes.{Member, Class, class_named}
-use Rattle.cjc_world.specs.Kin.{kin, line}
+use Rattle.cjc_world.specs.Supertypes.{supertypes, line}
 use Rattle.cjc_world.specs.Interfaces.{gathered, known}
 use Rattle.cjc_world.specs.Laws.{LineGoesUp}
 use Rattle.cjc_world.specs.Lookup.{find_method, first, is_called, member_at, or_else, own_method}
@@ -96,7 +96,7 @@ only ms i m e called once =
     r.1 ∙ ap (λ (k : ℕ). Some k) is
 
 abbrev more : List Class → List ℕ → Option Found
-more w x = first (own_method false install its_desc) (known (gathered false (kin w (x ∷ []))))
+more w x = first (own_method false install its_desc) (known (gathered false (supertypes w (x ∷ []))))
 
 found_at : (w : List Class) (x s : List ℕ) (c : Class) (i : ℕ) → line w x ≡ c ∷ line w s → position (λ k. is_called install its_desc k) c.methods ≡ Some i → find_method w x install its_desc ≡ Some (member_at c (length c.fields + i))
 unfolding find_method first own_method

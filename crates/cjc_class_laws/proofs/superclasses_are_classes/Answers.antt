@@ -9,7 +9,7 @@ use Rattle.cjc_sentences.specs.Classes.{first_interface, first_class, names_clas
 use Rattle.cjc_sentences.specs.ClassRefs.{one_ref, each_ref, in_interface, interfaces_in_described, maps_begin, in_map, in_maps, has_superclass, stands_earlier, super_in_class}
 use Rattle.cjc_world.specs.Classes.{Class, class_named}
 use Rattle.cjc_world.specs.Interfaces.{known}
-use Rattle.cjc_world.specs.Kin.{Lists, foremost}
+use Rattle.cjc_world.specs.Supertypes.{Lists, foremost}
 use Rattle.cjc_world.specs.Order.{in_order, class_order}
 use Rattle.cjc_world.specs.Rules.{is_interface_of}
 use Rattle.cjc_world.proofs.Cycles.{class_named-name}

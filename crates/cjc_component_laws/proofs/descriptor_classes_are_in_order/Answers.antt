@@ -3,7 +3,7 @@ use Rattle.std.specs.Prelude.{Some, map, slice_get, nat_le}
 use Rattle.std.proofs.lemmas.Bool.Decides.{nat_tests}
 use Rattle.std.proofs.lemmas.List.{length-map}
 use Rattle.cjc_capread.specs.declared.tree.ClassRef.TheVariants.{Inside}
-use Rattle.cjc_sentences.specs.declared.spot.Spot.{Spot}
+use Rattle.cjc_sentences.specs.declared.spot.ComponentPlace.{ComponentPlace}
 use Rattle.cjc_sentences.specs.Spots.{in_info, unless, numbered}
 use Rattle.cjc_sentences.specs.Complete.{described_size}
 use Rattle.cjc_sentences.specs.Described.{class_spots, is_start_of, all_starts}
@@ -18,7 +18,7 @@ use Rattle.cjc_component_laws.proofs.Tests.{same_number, passes, none_in_both}
 use Rattle.cjc_component_laws.proofs.Starts.{infos_stand_alike, infos_long, ref_is_start}
 use Rattle.cjc_component_laws.proofs.descriptor_classes_are_in_order.Goals as goal
 
-none_numbered : {X A : Type 0} (size : A → ℕ) (broken : ℕ → ℕ → A → List Spot) (f : X → A) (n at : ℕ) (xs : List X) → ((k at : ℕ) (x : X) → slice_get xs k ≡ Some x → broken (n + k) at (f x) ≡ []) → numbered size broken n at (map f xs) ≡ []
+none_numbered : {X A : Type 0} (size : A → ℕ) (broken : ℕ → ℕ → A → List ComponentPlace) (f : X → A) (n at : ℕ) (xs : List X) → ((k at : ℕ) (x : X) → slice_get xs k ≡ Some x → broken (n + k) at (f x) ≡ []) → numbered size broken n at (map f xs) ≡ []
 unfolding numbered
 none_numbered size broken f n at [] h = refl
 none_numbered size broken f n at (x ∷ xs) h =

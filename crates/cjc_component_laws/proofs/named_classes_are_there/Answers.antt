@@ -6,7 +6,7 @@ use Rattle.cjc_capread.specs.declared.tree.ClassRef.{ClassRef}
 use Rattle.cjc_capread.specs.declared.tree.ClassRef.TheVariants.{Inside}
 use Rattle.cjc_export.specs.declared.tree.ExportClass.{ExportClass}
 use Rattle.cjc_export.specs.declared.tree.ExportTree.{ExportTree}
-use Rattle.cjc_card.specs.Classes.{Class, Own, Foreign, foreign_from, or_else, token_named}
+use Rattle.cjc_card.specs.Classes.{Class, Own, External, external_from, or_else, token_named}
 use Rattle.cjc_sentences.specs.Spots.{Placed, begins}
 use Rattle.cjc_sentences.specs.Classes.{imported, is_there, interfaces_at, classes_at, is_start}
 use Rattle.cjc_sentences.specs.Described.{all_starts}
@@ -63,20 +63,20 @@ token_there (c ∷ classes) name token e =
 
 -- the class is one of these files, the first of which has this number
 abbrev IsThere : (n : ℕ) → List ExportTree → Class → Type 0
-IsThere n trees class = (k : ℕ) × (token : ℕ) × (class ≡ Foreign (n + k) token) × (is_some (imported trees k token) ≡ true)
+IsThere n trees class = (k : ℕ) × (token : ℕ) × (class ≡ External (n + k) token) × (is_some (imported trees k token) ≡ true)
 
-file_step : (n : ℕ) (t : ExportTree) (trees : List ExportTree) (name : List ℕ) (class : Class) (o : Option ℕ) → token_named t.classes name ≡ o → or_else (option_map (Foreign n) o) (foreign_from (n + 1) trees name) ≡ Some class
-    → (foreign_from (n + 1) trees name ≡ Some class → IsThere (n + 1) trees class) → IsThere n (t ∷ trees) class
+file_step : (n : ℕ) (t : ExportTree) (trees : List ExportTree) (name : List ℕ) (class : Class) (o : Option ℕ) → token_named t.classes name ≡ o → or_else (option_map (External n) o) (external_from (n + 1) trees name) ≡ Some class
+    → (external_from (n + 1) trees name ≡ Some class → IsThere (n + 1) trees class) → IsThere n (t ∷ trees) class
 file_step n t trees name class (Some token) is e h =
-    let same : class ≡ Foreign n token = cc in
+    let same : class ≡ External n token = cc in
     let zero_more : n ≡ n + 0 = omega arith in
-    (0, token, same ∙ ap (λ m. Foreign m token) zero_more, token_there t.classes name token is)
+    (0, token, same ∙ ap (λ m. External m token) zero_more, token_there t.classes name token is)
 file_step n t trees name class None is e h =
     let r = h e in
     let more : n + 1 + r.0 ≡ n + suc r.0 = omega arith in
-    (suc r.0, r.1, r.2 ∙ ap (λ m. Foreign m r.1) more, r.3)
+    (suc r.0, r.1, r.2 ∙ ap (λ m. External m r.1) more, r.3)
 
-file_there : (n : ℕ) (trees : List ExportTree) (name : List ℕ) (class : Class) → foreign_from n trees name ≡ Some class → IsThere n trees class
+file_there : (n : ℕ) (trees : List ExportTree) (name : List ℕ) (class : Class) → external_from n trees name ≡ Some class → IsThere n trees class
 file_there n [] name class e = absurd (cc)
 file_there n (t ∷ trees) name class e = file_step n t trees name class (token_named t.classes name) refl e (file_there (n + 1) trees name class)
 
@@ -89,16 +89,16 @@ module _ (p : Package) (name : List ℕ) where
   abbrev is_here : ClassRef → Bool
   is_here ref = is_there (class_info (class_ref p) p) exports ref
 
-  in_files : (f : Option Class) → foreign_from 0 exports name ≡ f → is_some f ≡ true → is_here (ref_to (unwrap_or f (Own 0 0))) ≡ true
+  in_files : (f : Option Class) → external_from 0 exports name ≡ f → is_some f ≡ true → is_here (ref_to (unwrap_or f (Own 0 0))) ≡ true
   in_files None is found = absurd (cc)
   in_files (Some class) is found =
       let r = file_there 0 exports name class is in
       let same : 0 + r.0 ≡ r.0 = omega arith in
       ap (λ c. is_here (ref_to c)) r.2 ∙ ap (λ m. is_some (imported exports m r.1)) same ∙ r.3
 
-  in_either : (own : Option ℕ) → class_offset p name ≡ own → is_some (or_else (option_map (Own 0) own) (foreign_from 0 exports name)) ≡ true → is_here (ref_to (unwrap_or (or_else (option_map (Own 0) own) (foreign_from 0 exports name)) (Own 0 0))) ≡ true
+  in_either : (own : Option ℕ) → class_offset p name ≡ own → is_some (or_else (option_map (Own 0) own) (external_from 0 exports name)) ≡ true → is_here (ref_to (unwrap_or (or_else (option_map (Own 0) own) (external_from 0 exports name)) (Own 0 0))) ≡ true
   in_either (Some start) is found = starts_there p (position (λ c. bytes_eq c.name name) (class_order (world p))) start is
-  in_either None is found = in_files (foreign_from 0 exports name) refl found
+  in_either None is found = in_files (external_from 0 exports name) refl found
 
 pub returns : goal.returns
 returns c p name found = in_either p name (class_offset p name) refl found

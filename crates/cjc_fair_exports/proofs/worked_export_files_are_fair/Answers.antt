@@ -4,15 +4,15 @@ use Rattle.cjc_fair_exports.proofs.Test.{agree, all_implement, are_fair, fair_cl
 use Rattle.cjc_fair_exports.proofs.worked_export_files_are_fair.Goals as goal
 use Rattle.cjc_fair_exports.specs.Worked.{framework, lang, q}
 use Rattle.cjc_world.specs.Classes.{class_named}
-use Rattle.cjc_world.specs.Kin.{grown, is_below, kin, line}
+use Rattle.cjc_world.specs.Supertypes.{supertypes_within, is_below, supertypes, line}
 use Rattle.cjc_world.specs.Subtype.{is_subclass, is_subtype}
 
 lang_is_fair : are_fair (lang ∷ []) ≡ true
-unfolding are_fair fair_class fair_method members_above names_from one_to_one agree same_names all_implement implements_one is_subtype is_subclass line is_below kin grown class_named
+unfolding are_fair fair_class fair_method members_above names_from one_to_one agree same_names all_implement implements_one is_subtype is_subclass line is_below supertypes supertypes_within class_named
 lang_is_fair = refl
 
 all_are_fair : are_fair (lang ∷ q ∷ framework ∷ []) ≡ true
-unfolding are_fair fair_class fair_method members_above names_from one_to_one agree same_names all_implement implements_one is_subtype is_subclass line is_below kin grown class_named
+unfolding are_fair fair_class fair_method members_above names_from one_to_one agree same_names all_implement implements_one is_subtype is_subclass line is_below supertypes supertypes_within class_named
 all_are_fair = refl
 
 pub returns-clause-alone : goal.returns-clause-alone

@@ -8,11 +8,11 @@ use Rattle.cjc_classfile.specs.declared.tree.ClassTree.{ClassTree}
 use Rattle.cjc_code.specs.Decoded.{decoding_at, refusal_of as code_refusal_of}
 use Rattle.cjc_code.specs.declared.method_code.MethodCode.{MethodCode}
 use Rattle.cjc_code.specs.PackageCodes.{code_with, of_methods, all_codes}
-use Rattle.cjc_judge.specs.Codes.{foreign_with, all_foreigns}
+use Rattle.cjc_judge.specs.Codes.{unsupported_with, all_unsupported_insns}
 use Rattle.cjc_judge.specs.Rules.{CodeBreaks, FileBreach, file_refusal, file_rank, BreaksFile, IsFirstRefused}
 use Rattle.cjc_judge.specs.Spelt.{FileTree, of_class, of_export, classes_of, exports_of}
 use Rattle.cjc_bytes.specs.Order.{NotAfter}
-use Rattle.cjc_judge.specs.declared.reading.Foreign.{Foreign}
+use Rattle.cjc_judge.specs.declared.reading.UnsupportedInsn.{UnsupportedInsn}
 use Rattle.cjc_judge.specs.declared.reading.Trees.{Trees}
 use Rattle.cjc_judge.specs.Trees.{AreInstructions, FileIs, AllSpelt}
 
@@ -23,7 +23,7 @@ pub record IsReadAs (lines : List FileLine) (files : List (List ℕ)) (read : Tr
   pub classes : read.classes ≡ classes_of trees
   pub exports : read.exports ≡ exports_of trees
   pub codes : read.codes ≡ all_codes read.classes
-  pub foreigns : read.foreigns ≡ all_foreigns read.classes
+  pub unsupported_insns : read.unsupported_insns ≡ all_unsupported_insns read.classes
 
 -- ---- reading one method after the other
 
@@ -38,16 +38,16 @@ pub record FirstIn (file : List ℕ) (tree : ClassTree) (rule : ℕ) (r : Refusa
   pub first : (k other : ℕ) → k < method → CodeBreaks tree k rule other → ⊥
 
 -- What decoding one method gives: its instructions, or its place by rule 303, or how it breaks rule 103.
-abbrev pub DecodesMethod : (file : List ℕ) → (class : ℕ) → ClassTree → (method : ℕ) → (old new : List MethodCode) → (from to : List Foreign) → Result Unit Fault → Type 0
+abbrev pub DecodesMethod : (file : List ℕ) → (class : ℕ) → ClassTree → (method : ℕ) → (old new : List MethodCode) → (from to : List UnsupportedInsn) → Result Unit Fault → Type 0
 DecodesMethod file class tree method old new from to (Ok done) =
-    (new ≡ old ++ code_with class method (decoding_at tree method)) × (to ≡ from ++ foreign_with class method (decoding_at tree method)) × ((offset : ℕ) → CodeBreaks tree method 103 offset → ⊥)
+    (new ≡ old ++ code_with class method (decoding_at tree method)) × (to ≡ from ++ unsupported_with class method (decoding_at tree method)) × ((offset : ℕ) → CodeBreaks tree method 103 offset → ⊥)
 DecodesMethod file class tree method old new from to (Err (faults.Refused r)) = BreaksBy file tree method 103 r
 DecodesMethod file class tree method old new from to (Err faults.NoMemory) = Unit {0}
 
 -- What decoding the methods of a class gives, whose place in the package this is.
-abbrev pub DecodesClass : (file : List ℕ) → (class : ℕ) → ClassTree → (old new : List MethodCode) → (from to : List Foreign) → Result Unit Fault → Type 0
+abbrev pub DecodesClass : (file : List ℕ) → (class : ℕ) → ClassTree → (old new : List MethodCode) → (from to : List UnsupportedInsn) → Result Unit Fault → Type 0
 DecodesClass file class tree old new from to (Ok done) =
-    (new ≡ old ++ of_methods code_with class 0 tree tree.methods) × (to ≡ from ++ of_methods foreign_with class 0 tree tree.methods) × AreInstructions tree
+    (new ≡ old ++ of_methods code_with class 0 tree tree.methods) × (to ≡ from ++ of_methods unsupported_with class 0 tree tree.methods) × AreInstructions tree
 DecodesClass file class tree old new from to (Err (faults.Refused r)) = FirstIn file tree 103 r
 DecodesClass file class tree old new from to (Err faults.NoMemory) = Unit {0}
 
@@ -66,7 +66,7 @@ Puts (of_class tree) old new =
       classes = old.classes ++ tree ∷ [];
       exports = old.exports;
       codes = old.codes ++ of_methods code_with (length old.classes) 0 tree tree.methods;
-      foreigns = old.foreigns ++ of_methods foreign_with (length old.classes) 0 tree tree.methods;
+      unsupported_insns = old.unsupported_insns ++ of_methods unsupported_with (length old.classes) 0 tree tree.methods;
     }
 Puts (of_export tree) old new = new ≡ record old { exports = old.exports ++ tree ∷ [] }
 

@@ -1,6 +1,6 @@
 -- The places of methods and rule 417, by the files of a package alone.
 use Rattle.std.specs.Prelude.{ℕ, ◌+◌, List, [], length, nat_lt, if◌then◌else◌, Option, None, Some}
-use Rattle.cjc_bytes.specs.Breaks.{Break, Spot, at, class_spot, member_spot}
+use Rattle.cjc_bytes.specs.Breaks.{Break, RulePlace, at, class_spot, member_spot}
 use Rattle.cjc_bytes.specs.Order.{file_of}
 use Rattle.cjc_bytes.specs.Refused.{method_text}
 use Rattle.cjc_world.specs.declared.found.Found.{Found}
@@ -10,7 +10,7 @@ use Rattle.cjc_components.specs.Descriptor.{method_in}
 use Rattle.cjc_components.specs.Limits.{has_many_words}
 
 -- an offset of a method of a class; one that the class gets stands at the class
-abbrev pub spot_in : Files → Class → Found → Member → (offset : ℕ) → Spot
+abbrev pub spot_in : Files → Class → Found → Member → (offset : ℕ) → RulePlace
 spot_in files c f m offset =
     if nat_lt f.member (length c.fields + length c.methods)
     then member_spot (file_of files.lines c.number) 1 c.name (f.member + 1) (method_text m.name m.desc) offset

@@ -1,6 +1,6 @@
 -- The first of several places in an order of their own.
 use Rattle.std.specs.Prelude.{◌≡◌, ℕ, ◌+◌, ◌==◌, List, ◌++◌, length, map, option_map, option_to_list, Option}
-use Rattle.cjc_bytes.specs.Breaks.{Spot as Place}
+use Rattle.cjc_bytes.specs.Breaks.{RulePlace as Place}
 use Rattle.cjc_bytes.specs.declared.breaks.Break.{Break}
 use Rattle.cjc_bytes.specs.declared.order.FileKey.TheVariants as keys
 use Rattle.cjc_bytes.specs.Refused.{in_file}
@@ -9,14 +9,14 @@ use Rattle.cjc_capread.specs.declared.tree.ClassDescriptor.{ClassDescriptor}
 use Rattle.cjc_paired.specs.Pairs.{cell_spots, count_spots, head_of, method_spots}
 use Rattle.cjc_sentences.specs.Complete.{Complete}
 use Rattle.cjc_sentences.specs.Consistent.{break_at}
-use Rattle.cjc_sentences.specs.declared.spot.Spot.{Spot}
+use Rattle.cjc_sentences.specs.declared.spot.ComponentPlace.{ComponentPlace}
 use Rattle.cjc_sentences.specs.Spots.{in_info, unless}
 use Rattle.cjc_world.specs.declared.image.StaticImage.{StaticImage}
 use Rattle.cjc_world.specs.Classes.{all_classes}
 use Rattle.cjc_world.specs.Files.{Files}
 
 -- the break at the head of some places, none where there is no place
-abbrev pub IsHead : List Spot → Option Break → Type 0
+abbrev pub IsHead : List ComponentPlace → Option Break → Type 0
 IsHead spots b = option_to_list (option_map break_of b) ≡ map (break_at 719) (head_of spots)
 
 -- an offset of the info of a component, by its tag and the name of its file
@@ -24,9 +24,9 @@ abbrev pub place_in : (component : ℕ) → (file : List ℕ) → (at : ℕ) →
 place_in component file at = record { file = keys.Component component; class = 0; member = 0; place = in_file file (3 + at) }
 
 -- the number of methods of a class that begins at an offset of Descriptor, where it has not so many
-abbrev pub count_spots_at : (at : ℕ) → ClassDescriptor → (count : ℕ) → List Spot
+abbrev pub count_spots_at : (at : ℕ) → ClassDescriptor → (count : ℕ) → List ComponentPlace
 count_spots_at at d count = unless (length d.methods == count) (in_info 11 (at + 7))
 
 -- all places where components are not of a package
-abbrev pub all_spots : Files → StaticImage → Complete → List Spot
+abbrev pub all_spots : Files → StaticImage → Complete → List ComponentPlace
 all_spots files image c = count_spots (all_classes files) c.class ++ (method_spots (all_classes files) c.descriptor ++ cell_spots image c.statics)

@@ -9,7 +9,7 @@ use Rattle.std.proofs.lemmas.Slice.Eq.{bytes_eq-Decides}
 use Rattle.std.proofs.Common.{ap}
 use Rattle.indexmap.specs.IndexSet.{insert_key, insert_all}
 use Rattle.cjc_world.specs.Classes.{Class}
-use Rattle.cjc_world.specs.Kin.{Kin, End, Unknown, Known, kin}
+use Rattle.cjc_world.specs.Supertypes.{Supertypes, End, Unknown, Known, supertypes}
 use Rattle.cjc_world.specs.Interfaces.{gathered}
 use Rattle.cjc_supers.specs.Supers.{names_upwards, name_of}
 
@@ -70,11 +70,11 @@ interfaces_in (Some c) = c.interfaces
 
 -- the name and its superclasses
 abbrev pub upwards_from : List Class → List ℕ → List (List ℕ)
-upwards_from w name = names_upwards (kin w (name ∷ []))
+upwards_from w name = names_upwards (supertypes w (name ∷ []))
 
 -- its interfaces; of a listed one with the name itself
 abbrev pub interfaces_from : List Class → (listed : Bool) → List ℕ → List (List ℕ)
-interfaces_from w listed name = map name_of (gathered listed (kin w (name ∷ [])))
+interfaces_from w listed name = map name_of (gathered listed (supertypes w (name ∷ [])))
 
 -- each of the second is one of the first
 abbrev pub AreIn : List (List ℕ) → List (List ℕ) → Type 0
@@ -88,7 +88,7 @@ AreDone adds s = (x : List ℕ) → is_done s x ≡ true → AreIn s.names (adds
 -- ---- how far a walk goes on
 
 -- how many names stand in the tree
-abbrev pub size : Kin → ℕ
+abbrev pub size : Supertypes → ℕ
 size End = 0
 size (Unknown name next) = suc (size next)
 size (Known c supers interfaces next) = suc (size supers + size interfaces + size next)

@@ -8,5 +8,5 @@ returns c = λ list p sound methods keeps tokens all.
     let w = world p in
     let laws = c.lookup_laws.ensures in
     c.pool_entries_name_members.ensures p (c.classes_keep_rules.ensures.order list p sound) methods
-    (all_named list p sound (laws.is_kin w keeps.rules.acyclic) (laws.one_kin w) keeps.rules tokens (c.tokens_mean_methods.ensures.public w keeps.rules (named-number p.files)) (c.tokens_mean_methods.ensures.package_visible w keeps.rules)
+    (all_named list p sound (laws.are_supertypes w keeps.rules.acyclic) (laws.one_supertypes w) keeps.rules tokens (c.tokens_mean_methods.ensures.public w keeps.rules (named-number p.files)) (c.tokens_mean_methods.ensures.package_visible w keeps.rules)
     (c.dispatch_laws.ensures.virtual_calls w keeps.rules) (c.token_laws.ensures w keeps.rules) all)

@@ -11,7 +11,7 @@ use Rattle.cjc_code.specs.Unfit.{marks, starts, unfit_code}
 use Rattle.cjc_code.specs.Named.{named, all_named}
 use Rattle.cjc_code.specs.Decoded.{least, decoding, decoded}
 use Rattle.cjc_world.specs.Classes.{classes_from, all_classes, class_named, class_at}
-use Rattle.cjc_world.specs.Kin.{grown, kin, line}
+use Rattle.cjc_world.specs.Supertypes.{supertypes_within, supertypes, line}
 use Rattle.cjc_world.specs.Interfaces.{gathered, known}
 use Rattle.cjc_world.specs.Lookup.{first, own_field, find_field, own_method, find_method, method_of_interface}
 use Rattle.cjc_world.specs.Added.{own_methods, methods_of, asked_by, has_open, lacking, added}
@@ -30,13 +30,13 @@ use Rattle.cjc_subset.specs.Types.{is_int_desc, is_int_element}
 use Rattle.cjc_worked_components.proofs.applets_are_written.Goals as goal
 
 pub returns-clause-header : goal.returns-clause-header
-unfolding int_wrap repeated raw front digits each desc_of parts_of bad_at after types_from row operand operands opcode_at wide_opcode_at behind_opcode behind_first instruction cut_rest cut marks starts unfit_code named all_named least decoding decoded classes_from all_classes class_named class_at grown kin line gathered known first own_field find_field own_method find_method method_of_interface own_methods methods_of asked_by has_open lacking added may_stand next lined_up in_order class_order method_order resolution token own got interfaces_at interface_methods class_method_token class_method_tokens placed forms form is_exported is_subclass is_subtype instance_token field_token field_tokens instance_tokens token_classes_from assigned header_bytes is_int_desc is_int_element
+unfolding int_wrap repeated raw front digits each desc_of parts_of bad_at after types_from row operand operands opcode_at wide_opcode_at behind_opcode behind_first instruction cut_rest cut marks starts unfit_code named all_named least decoding decoded classes_from all_classes class_named class_at supertypes_within supertypes line gathered known first own_field find_field own_method find_method method_of_interface own_methods methods_of asked_by has_open lacking added may_stand next lined_up in_order class_order method_order resolution token own got interfaces_at interface_methods class_method_token class_method_tokens placed forms form is_exported is_subclass is_subtype instance_token field_token field_tokens instance_tokens token_classes_from assigned header_bytes is_int_desc is_int_element
 returns-clause-header c = refl
 
 pub returns-clause-applet : goal.returns-clause-applet
-unfolding int_wrap repeated raw front digits each desc_of parts_of bad_at after types_from row operand operands opcode_at wide_opcode_at behind_opcode behind_first instruction cut_rest cut marks starts unfit_code named all_named least decoding decoded classes_from all_classes class_named class_at grown kin line gathered known first own_field find_field own_method find_method method_of_interface own_methods methods_of asked_by has_open lacking added may_stand next lined_up in_order class_order method_order resolution token own got interfaces_at interface_methods class_method_token class_method_tokens placed forms form is_exported is_subclass is_subtype instance_token field_token field_tokens instance_tokens token_classes_from assigned applet_bytes applet_entry_bytes
+unfolding int_wrap repeated raw front digits each desc_of parts_of bad_at after types_from row operand operands opcode_at wide_opcode_at behind_opcode behind_first instruction cut_rest cut marks starts unfit_code named all_named least decoding decoded classes_from all_classes class_named class_at supertypes_within supertypes line gathered known first own_field find_field own_method find_method method_of_interface own_methods methods_of asked_by has_open lacking added may_stand next lined_up in_order class_order method_order resolution token own got interfaces_at interface_methods class_method_token class_method_tokens placed forms form is_exported is_subclass is_subtype instance_token field_token field_tokens instance_tokens token_classes_from assigned applet_bytes applet_entry_bytes
 returns-clause-applet c = refl
 
 pub returns-clause-export : goal.returns-clause-export
-unfolding int_wrap repeated raw front digits each desc_of parts_of bad_at after types_from row operand operands opcode_at wide_opcode_at behind_opcode behind_first instruction cut_rest cut marks starts unfit_code named all_named least decoding decoded classes_from all_classes class_named class_at grown kin line gathered known first own_field find_field own_method find_method method_of_interface own_methods methods_of asked_by has_open lacking added may_stand next lined_up in_order class_order method_order resolution token own got interfaces_at interface_methods class_method_token class_method_tokens placed forms form is_exported is_subclass is_subtype instance_token field_token field_tokens instance_tokens token_classes_from assigned
+unfolding int_wrap repeated raw front digits each desc_of parts_of bad_at after types_from row operand operands opcode_at wide_opcode_at behind_opcode behind_first instruction cut_rest cut marks starts unfit_code named all_named least decoding decoded classes_from all_classes class_named class_at supertypes_within supertypes line gathered known first own_field find_field own_method find_method method_of_interface own_methods methods_of asked_by has_open lacking added may_stand next lined_up in_order class_order method_order resolution token own got interfaces_at interface_methods class_method_token class_method_tokens placed forms form is_exported is_subclass is_subtype instance_token field_token field_tokens instance_tokens token_classes_from assigned
 returns-clause-export c = refl

@@ -11,7 +11,7 @@ use Rattle.cjc_code.specs.Unfit.{marks, starts, unfit_code}
 use Rattle.cjc_code.specs.Named.{named, all_named}
 use Rattle.cjc_code.specs.Decoded.{least, decoding, decoded}
 use Rattle.cjc_world.specs.Classes.{classes_from, all_classes, class_named, class_at}
-use Rattle.cjc_world.specs.Kin.{grown, kin, line}
+use Rattle.cjc_world.specs.Supertypes.{supertypes_within, supertypes, line}
 use Rattle.cjc_world.specs.Interfaces.{gathered, known}
 use Rattle.cjc_world.specs.Lookup.{first, own_field, find_field, own_method, find_method, method_of_interface}
 use Rattle.cjc_world.specs.Added.{own_methods, methods_of, asked_by, has_open, lacking, added}
@@ -39,5 +39,5 @@ use Rattle.cjc_export.specs.Written.{value_name, class_tree_needs, needs}
 use Rattle.cjc_worked_components.proofs.small_packages_keep_limits.Goals as goal
 
 pub returns : goal.returns
-unfolding int_wrap repeated raw front digits each desc_of parts_of bad_at after types_from row operand operands opcode_at wide_opcode_at behind_opcode behind_first instruction cut_rest cut marks starts unfit_code named all_named least decoding decoded classes_from all_classes class_named class_at grown kin line gathered known first own_field find_field own_method find_method method_of_interface own_methods methods_of asked_by has_open lacking added may_stand next lined_up in_order class_order method_order resolution token own got interfaces_at interface_methods class_method_token class_method_tokens placed forms form op_info is_exported is_subclass is_subtype instance_token field_token field_tokens instance_tokens token_classes_from assigned meaning header_bytes import_bytes imported_package_bytes applet_bytes applet_entry_bytes directory_bytes is_int_desc is_int_element interface_bytes implemented_bytes class_entry_bytes class_info_bytes handler_bytes method_bytes reference_location_bytes array_init_bytes static_field_bytes catch_places distances exported_class_bytes export_bytes field_bytes code_bytes method_descriptor_bytes class_descriptor_bytes type_bytes types_bytes descriptor_bytes entry_bytes pool_bytes value_name class_tree_needs needs
+unfolding int_wrap repeated raw front digits each desc_of parts_of bad_at after types_from row operand operands opcode_at wide_opcode_at behind_opcode behind_first instruction cut_rest cut marks starts unfit_code named all_named least decoding decoded classes_from all_classes class_named class_at supertypes_within supertypes line gathered known first own_field find_field own_method find_method method_of_interface own_methods methods_of asked_by has_open lacking added may_stand next lined_up in_order class_order method_order resolution token own got interfaces_at interface_methods class_method_token class_method_tokens placed forms form op_info is_exported is_subclass is_subtype instance_token field_token field_tokens instance_tokens token_classes_from assigned meaning header_bytes import_bytes imported_package_bytes applet_bytes applet_entry_bytes directory_bytes is_int_desc is_int_element interface_bytes implemented_bytes class_entry_bytes class_info_bytes handler_bytes method_bytes reference_location_bytes array_init_bytes static_field_bytes catch_places distances exported_class_bytes export_bytes field_bytes code_bytes method_descriptor_bytes class_descriptor_bytes type_bytes types_bytes descriptor_bytes entry_bytes pool_bytes value_name class_tree_needs needs
 returns c = refl

@@ -7,7 +7,7 @@ use Rattle.cjc_classfile.specs.declared.tree.ClassTree.{ClassTree}
 use Rattle.cjc_export.specs.declared.tree.ExportTree.{ExportTree}
 use Rattle.cjc_world.specs.declared.names.Names.{Names}
 use Rattle.cjc_world.specs.declared.numbers.Numbers.{Numbers}
-use Rattle.cjc_world.specs.declared.spot.Spot.{Spot}
+use Rattle.cjc_world.specs.declared.spot.ClassPlace.{ClassPlace}
 use Rattle.cjc_world.specs.Classes.{Class, classes_from}
 use Rattle.cjc_world.specs.Working.Numbers.{places_of}
 use Rattle.cjc_world.specs.Working.Places.{place_named}
@@ -23,12 +23,12 @@ is_named None name = false
 is_named (Some c) name = bytes_eq c.name name
 
 -- the place of the first spot of a class of the name
-unfoldable pub spot_named : List ClassTree → List ExportTree → List Spot → List ℕ → Option ℕ
+unfoldable pub spot_named : List ClassTree → List ExportTree → List ClassPlace → List ℕ → Option ℕ
 spot_named classes exports [] name = None
 spot_named classes exports (s ∷ ss) name = if is_named (at classes exports s) name then Some 0 else option_map suc (spot_named classes exports ss name)
 
 -- The spots are those of all classes, in order, each name is noted at its first class, and each number at the class of its kind.
-pub record IsRoster (lines : List FileLine) (classes : List ClassTree) (exports : List ExportTree) (spots : List Spot) (names : Names) (numbers : Numbers) : Type 0 where
+pub record IsClassIndex (lines : List FileLine) (classes : List ClassTree) (exports : List ExportTree) (spots : List ClassPlace) (names : Names) (numbers : Numbers) : Type 0 where
   pub indexed : IsIndexed lines classes exports spots
   pub named : (name : List ℕ) → place_in names name ≡ place_named (classes_from classes exports 0 0 0 lines) name
   pub declared : numbers.declared ≡ places_of false 0 spots

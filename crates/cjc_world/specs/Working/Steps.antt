@@ -4,12 +4,12 @@ use Rattle.std.specs.List.{list_any}
 use Rattle.std.specs.Str.{bytes_eq}
 use Rattle.cjc_world.specs.declared.circular.Cycles.{Cycles}
 use Rattle.cjc_world.specs.Classes.{Class}
-use Rattle.cjc_world.specs.Kin.{Kin, kin, stands, stands_by_supers, stands_above, is_below}
+use Rattle.cjc_world.specs.Supertypes.{Supertypes, supertypes, stands, stands_by_supers, stands_above, is_below}
 use Rattle.cjc_world.specs.Working.Places.{place_named, has_name}
 use Rattle.cjc_world.specs.Rules.{throwable}
 
 -- whether the name stands in the tree, or does so on a way by supers alone
-abbrev pub standing : (by_supers : Bool) → List ℕ → Kin → Bool
+abbrev pub standing : (by_supers : Bool) → List ℕ → Supertypes → Bool
 standing true name tree = stands_by_supers name tree
 standing false name tree = stands name tree
 
@@ -42,7 +42,7 @@ IsBegun w name known = (p : ℕ) → p < length w → slice_get known p ≡ Some
 
 -- all steps
 abbrev pub IsDone : List Class → (by_supers : Bool) → List ℕ → List Bool → Type 0
-IsDone w by_supers name known = (x : List ℕ) (p : ℕ) → place_named w x ≡ Some p → slice_get known p ≡ Some (standing by_supers name (kin w (x ∷ [])))
+IsDone w by_supers name known = (x : List ℕ) (p : ℕ) → place_named w x ≡ Some p → slice_get known p ≡ Some (standing by_supers name (supertypes w (x ∷ [])))
 
 -- Of the class of each name: whether it is its own super, and whether it is below java/lang/Throwable.
 pub record AreCycles (w : List Class) (c : Cycles) : Type 0 where

@@ -5,18 +5,18 @@ use Rattle.cjc_world.specs.declared.tables.Above.{Above}
 use Rattle.cjc_world.specs.declared.tables.Order.{Order}
 use Rattle.cjc_world.specs.declared.tables.Order.TheVariants as orders
 use Rattle.cjc_world.specs.Classes.{Class}
-use Rattle.cjc_world.specs.Kin.{Kin, End, Unknown, Known, IsKin, IsAcyclic, kin, upwards, Above as StandsAbove}
+use Rattle.cjc_world.specs.Supertypes.{Supertypes, End, Unknown, Known, AreSupertypes, IsAcyclic, supertypes, upwards, Above as StandsAbove}
 use Rattle.cjc_world.specs.Interfaces.{gathered, known}
 use Rattle.cjc_world.specs.Working.Places.{place_named, places_of, is_in, joined}
 
 -- The classes in which a field is looked up, in order: each, then those of its interfaces, then those of its supers.
-abbrev pub in_field_order : Kin → List Class
+abbrev pub in_field_order : Supertypes → List Class
 in_field_order End = []
 in_field_order (Unknown name next) = in_field_order next
 in_field_order (Known c supers interfaces next) = c ∷ in_field_order interfaces ++ in_field_order supers ++ in_field_order next
 
 -- what is kept of a class, of whose name this is the tree
-unfoldable pub told : List Class → Kin → Above
+unfoldable pub told : List Class → Supertypes → Above
 told w tree = record {
   line = joined [] (places_of w (upwards tree));
   interfaces = joined [] (places_of w (known (gathered false tree)));
@@ -30,7 +30,7 @@ IsClear w x = (z : List ℕ) → (x ≡ z) ⊎ StandsAbove w x z → StandsAbove
 -- No class is its own super, and of the class of each name is kept what stands above it.
 pub record IsTable (w : List Class) (rows : List (Option Above)) : Type 0 where
   pub acyclic : IsAcyclic w
-  pub tells : (x : List ℕ) (p : ℕ) → place_named w x ≡ Some p → slice_get rows p ≡ Some (Some (told w (kin w (x ∷ []))))
+  pub tells : (x : List ℕ) (p : ℕ) → place_named w x ≡ Some p → slice_get rows p ≡ Some (Some (told w (supertypes w (x ∷ []))))
 
 -- ---- while it is made
 
@@ -85,7 +85,7 @@ are_ready w rows c = list_all (λ x. is_ready w rows x) c.supers && list_all (λ
 
 -- each row that is there is right
 abbrev pub AreRight : List Class → List (Option Above) → Type 0
-AreRight w rows = (x : List ℕ) (p : ℕ) (a : Above) → place_named w x ≡ Some p → slice_get rows p ≡ Some (Some a) → (tree : Kin) × IsKin w (x ∷ []) tree × (a ≡ told w tree)
+AreRight w rows = (x : List ℕ) (p : ℕ) (a : Above) → place_named w x ≡ Some p → slice_get rows p ≡ Some (Some a) → (tree : Supertypes) × AreSupertypes w (x ∷ []) tree × (a ≡ told w tree)
 
 -- Each row that is there is right, and a class has its row where no cycle is at it or above it.
 pub record IsPart (w : List Class) (rows : List (Option Above)) : Type 0 where

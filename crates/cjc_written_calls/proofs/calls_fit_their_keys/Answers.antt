@@ -10,7 +10,7 @@ returns-clause-classes c = λ list p sound small keeps keep.
     let acyclic = keeps.rules.acyclic in
     let laws = c.lookup_laws.ensures in
     let dispatch = c.dispatch_laws.ensures in
-    let known = facts list p sound (methods_fit p small) keep keeps (laws.is_kin (world p) acyclic) (laws.one_kin (world p)) (dispatch.virtual_calls (world p) keeps.rules) (dispatch.interface_calls (world p) keeps.rules keeps.interfaces) (c.token_laws.ensures (world p) keeps.rules) in
+    let known = facts list p sound (methods_fit p small) keep keeps (laws.are_supertypes (world p) acyclic) (laws.one_supertypes (world p)) (dispatch.virtual_calls (world p) keeps.rules) (dispatch.interface_calls (world p) keeps.rules keeps.interfaces) (c.token_laws.ensures (world p) keeps.rules) in
     class_meant p known
 
 pub returns-clause-virtual_call : goal.returns-clause-virtual_call
@@ -18,7 +18,7 @@ returns-clause-virtual_call c = λ list p sound small keeps keep tokens.
     let acyclic = keeps.rules.acyclic in
     let laws = c.lookup_laws.ensures in
     let dispatch = c.dispatch_laws.ensures in
-    let known = facts list p sound (methods_fit p small) keep keeps (laws.is_kin (world p) acyclic) (laws.one_kin (world p)) (dispatch.virtual_calls (world p) keeps.rules) (dispatch.interface_calls (world p) keeps.rules keeps.interfaces) (c.token_laws.ensures (world p) keeps.rules) in
+    let known = facts list p sound (methods_fit p small) keep keeps (laws.are_supertypes (world p) acyclic) (laws.one_supertypes (world p)) (dispatch.virtual_calls (world p) keeps.rules) (dispatch.interface_calls (world p) keeps.rules keeps.interfaces) (c.token_laws.ensures (world p) keeps.rules) in
     virtual_fits p known tokens
 
 pub returns-clause-super_call : goal.returns-clause-super_call
@@ -26,7 +26,7 @@ returns-clause-super_call c = λ list p sound small keeps keep tokens.
     let acyclic = keeps.rules.acyclic in
     let laws = c.lookup_laws.ensures in
     let dispatch = c.dispatch_laws.ensures in
-    let known = facts list p sound (methods_fit p small) keep keeps (laws.is_kin (world p) acyclic) (laws.one_kin (world p)) (dispatch.virtual_calls (world p) keeps.rules) (dispatch.interface_calls (world p) keeps.rules keeps.interfaces) (c.token_laws.ensures (world p) keeps.rules) in
+    let known = facts list p sound (methods_fit p small) keep keeps (laws.are_supertypes (world p) acyclic) (laws.one_supertypes (world p)) (dispatch.virtual_calls (world p) keeps.rules) (dispatch.interface_calls (world p) keeps.rules keeps.interfaces) (c.token_laws.ensures (world p) keeps.rules) in
     super_fits p known tokens
 
 pub returns-clause-special_call : goal.returns-clause-special_call
@@ -34,7 +34,7 @@ returns-clause-special_call c = λ list p sound small keeps keep tokens.
     let acyclic = keeps.rules.acyclic in
     let laws = c.lookup_laws.ensures in
     let dispatch = c.dispatch_laws.ensures in
-    let known = facts list p sound (methods_fit p small) keep keeps (laws.is_kin (world p) acyclic) (laws.one_kin (world p)) (dispatch.virtual_calls (world p) keeps.rules) (dispatch.interface_calls (world p) keeps.rules keeps.interfaces) (c.token_laws.ensures (world p) keeps.rules) in
+    let known = facts list p sound (methods_fit p small) keep keeps (laws.are_supertypes (world p) acyclic) (laws.one_supertypes (world p)) (dispatch.virtual_calls (world p) keeps.rules) (dispatch.interface_calls (world p) keeps.rules keeps.interfaces) (c.token_laws.ensures (world p) keeps.rules) in
     special_fits p known tokens
 
 pub returns-clause-static_call : goal.returns-clause-static_call
@@ -42,5 +42,5 @@ returns-clause-static_call c = λ list p sound small keeps keep tokens.
     let acyclic = keeps.rules.acyclic in
     let laws = c.lookup_laws.ensures in
     let dispatch = c.dispatch_laws.ensures in
-    let known = facts list p sound (methods_fit p small) keep keeps (laws.is_kin (world p) acyclic) (laws.one_kin (world p)) (dispatch.virtual_calls (world p) keeps.rules) (dispatch.interface_calls (world p) keeps.rules keeps.interfaces) (c.token_laws.ensures (world p) keeps.rules) in
+    let known = facts list p sound (methods_fit p small) keep keeps (laws.are_supertypes (world p) acyclic) (laws.one_supertypes (world p)) (dispatch.virtual_calls (world p) keeps.rules) (dispatch.interface_calls (world p) keeps.rules keeps.interfaces) (c.token_laws.ensures (world p) keeps.rules) in
     static_fits p known tokens

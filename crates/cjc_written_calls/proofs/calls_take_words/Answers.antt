@@ -20,7 +20,7 @@ returns g c = λ list tree codes rows p sound is ready small keeps subtypes toke
     let methods = methods_are tree p.files codes rows p is in
     let ids = own_ids list p sound in
     let stand = classes_stand list p sound in
-    let known = facts list p sound (methods_fit p small) keep keeps (laws.is_kin (world p) acyclic) (laws.one_kin (world p)) (dispatch.virtual_calls (world p) keeps.rules) (dispatch.interface_calls (world p) keeps.rules keeps.interfaces) (c.token_laws.ensures (world p) keeps.rules) in
+    let known = facts list p sound (methods_fit p small) keep keeps (laws.are_supertypes (world p) acyclic) (laws.one_supertypes (world p)) (dispatch.virtual_calls (world p) keeps.rules) (dispatch.interface_calls (world p) keeps.rules keeps.interfaces) (c.token_laws.ensures (world p) keeps.rules) in
     words_taken p known subtypes tokens keep (c.classes_are_told.ensures.kinds list p sound) (place p) (methods_begin forms offsets p ready methods ids stand) (counts_from tree p.files codes rows p is forms offsets ready methods ids stand)
     (λ f own inside none. (let r = added_begins tree p.files codes rows p is forms offsets ready methods ids stand f own inside none in (r.0, r.1, r.3)))
     (got_no_code list p sound) (meant.public (world p) keeps.rules (named-number p.files)) (meant.package_visible (world p) keeps.rules)

@@ -1,6 +1,6 @@
 use Rattle.cjc_components.specs.Package.{world}
 use Rattle.cjc_tables_by_token.proofs.Above.{info_of_name}
-use Rattle.cjc_written_calls.proofs.Kins.{name_is}
+use Rattle.cjc_written_calls.proofs.SupertypeTrees.{name_is}
 use Rattle.cjc_written_calls.proofs.Placed.{placed_by_name}
 use Rattle.cjc_written_calls.proofs.interface_methods_are_named.Goals as goal
 

@@ -4,7 +4,7 @@ use Rattle.cjc_components.specs.Names.{class_at}
 use Rattle.cjc_components.specs.Package.{world}
 use Rattle.cjc_tables_by_token.specs.Loading.{loaded}
 use Rattle.cjc_written_calls.proofs.Called.{declared_own, token_there}
-use Rattle.cjc_written_calls.proofs.Kins.{name_is}
+use Rattle.cjc_written_calls.proofs.SupertypeTrees.{name_is}
 use Rattle.cjc_written_calls.proofs.Known.{facts}
 use Rattle.cjc_written_calls.proofs.Written.{methods_fit}
 use Rattle.cjc_written_calls.proofs.methods_are_declared.Goals as goal
@@ -14,7 +14,7 @@ returns-clause-declared c = λ list p sound small keeps keep id d known own plai
     let acyclic = keeps.rules.acyclic in
     let laws = c.lookup_laws.ensures in
     let dispatch = c.dispatch_laws.ensures in
-    let facts_of = facts list p sound (methods_fit p small) keep keeps (laws.is_kin (world p) acyclic) (laws.one_kin (world p)) (dispatch.virtual_calls (world p) keeps.rules) (dispatch.interface_calls (world p) keeps.rules keeps.interfaces) (c.token_laws.ensures (world p) keeps.rules) in
+    let facts_of = facts list p sound (methods_fit p small) keep keeps (laws.are_supertypes (world p) acyclic) (laws.one_supertypes (world p)) (dispatch.virtual_calls (world p) keeps.rules) (dispatch.interface_calls (world p) keeps.rules keeps.interfaces) (c.token_laws.ensures (world p) keeps.rules) in
     ap (λ y. declared (loaded p) (class_at p y) id) (sym (name_is (world p) id.class d known)) ∙ declared_own p facts_of id.class d known own id plain f found
 
 pub returns-clause-tokens : goal.returns-clause-tokens
@@ -22,5 +22,5 @@ returns-clause-tokens c = λ list p sound small keeps keep x d known own.
     let acyclic = keeps.rules.acyclic in
     let laws = c.lookup_laws.ensures in
     let dispatch = c.dispatch_laws.ensures in
-    let facts_of = facts list p sound (methods_fit p small) keep keeps (laws.is_kin (world p) acyclic) (laws.one_kin (world p)) (dispatch.virtual_calls (world p) keeps.rules) (dispatch.interface_calls (world p) keeps.rules keeps.interfaces) (c.token_laws.ensures (world p) keeps.rules) in
+    let facts_of = facts list p sound (methods_fit p small) keep keeps (laws.are_supertypes (world p) acyclic) (laws.one_supertypes (world p)) (dispatch.virtual_calls (world p) keeps.rules) (dispatch.interface_calls (world p) keeps.rules keeps.interfaces) (c.token_laws.ensures (world p) keeps.rules) in
     token_there p facts_of x d known own

@@ -14,5 +14,5 @@ returns c = λ list p sound ready methods small keeps keep.
     let dispatch = c.dispatch_laws.ensures in
     let forms = c.layouts_are_laid_out.ensures.forms in
     let offsets = c.layouts_are_laid_out.ensures.offsets in
-    let known = facts list p sound (methods_fit p small) keep keeps (laws.is_kin (world p) acyclic) (laws.one_kin (world p)) (dispatch.virtual_calls (world p) keeps.rules) (dispatch.interface_calls (world p) keeps.rules keeps.interfaces) (c.token_laws.ensures (world p) keeps.rules) in
+    let known = facts list p sound (methods_fit p small) keep keeps (laws.are_supertypes (world p) acyclic) (laws.one_supertypes (world p)) (dispatch.virtual_calls (world p) keeps.rules) (dispatch.interface_calls (world p) keeps.rules keeps.interfaces) (c.token_laws.ensures (world p) keeps.rules) in
     sent_placed_there p known (c.classes_are_told.ensures.kinds list p sound) (place p) (λ f m there is. place_among forms offsets p ready methods (own_ids list p sound) (classes_stand list p sound) f m there is)

@@ -39,7 +39,7 @@ use Rattle.cjc_tables_by_token.specs.Sound.{export_count}
 use Rattle.cjc_vtable.proofs.Filed.{Has}
 use Rattle.cjc_world.proofs.Settled.{clear_settles}
 use Rattle.cjc_world.specs.Classes.{Class, declared}
-use Rattle.cjc_world.specs.Kin.{IsAcyclic}
+use Rattle.cjc_world.specs.Supertypes.{IsAcyclic}
 use Rattle.cjc_world.specs.Order.{class_order, in_order, is_of_kind, lined_up}
 use Rattle.cjc_world.specs.Rules.{breaks}
 use Rattle.cjc_world.specs.Files.{Files}

@@ -32,17 +32,17 @@ use Rattle.cjc_tokens.specs.Methods.{interface_methods, interface_row, is_open_b
 use Rattle.cjc_tokens.specs.Slots.{Slots, implementing, meant_by, row, slots, token}
 use Rattle.cjc_vtable.proofs.Filed.{Has, at_front, behind}
 use Rattle.cjc_vtable.proofs.Once.{one_method}
-use Rattle.cjc_world.proofs.Settled.{IsKin-one}
+use Rattle.cjc_world.proofs.Settled.{AreSupertypes-one}
 use Rattle.cjc_world.specs.Added.{added}
 use Rattle.cjc_world.specs.Classes.{Class, Member, class_named, declared, method_of_class}
 use Rattle.cjc_world.specs.Exported.{is_exported}
-use Rattle.cjc_world.specs.Kin.{End, Known, ends, kin, known_here}
+use Rattle.cjc_world.specs.Supertypes.{End, Known, ends, supertypes, known_here}
 use Rattle.cjc_world.specs.Lookup.{member_at}
 use Rattle.cjc_world.specs.Rules.{is_twice}
 use Rattle.cjc_world.specs.declared.found.Found.{Found}
 use Rattle.cjc_written_laws.proofs.FittingLaws.Exported.{bound_few, or_first, or_second}
 use Rattle.cjc_written_laws.proofs.FittingLaws.Lists.{mapped_at}
-use Rattle.cjc_written_laws.proofs.FittingLaws.Limited.{acyclic, few_imports, is_kin, no_open, tokens, unbroken, writable}
+use Rattle.cjc_written_laws.proofs.FittingLaws.Limited.{acyclic, few_imports, are_supertypes, no_open, tokens, unbroken, writable}
 use Rattle.cjc_written_laws.proofs.FittingLaws.Meant.{IsMethodRead, added_method, class_method, line_meant}
 use Rattle.cjc_written_laws.proofs.FittingLaws.Order.{has_either, has_none}
 use Rattle.cjc_written_laws.proofs.FittingLaws.OwnTokens.{Offers, added_token, both_apart, bound_token, bound_unbound, given_apart, listed_kind, offers_given, offers_shown, own_apart, own_there, shown_token, shown_unbound, slot_there}
@@ -192,7 +192,7 @@ module _ (list : ListTree) (files : List (List ℕ)) (judged : Judged) (p : Pack
 
   slots_few : length shown_slots ≤ 128
   slots_few = let u = unbroken list files judged p is in
-      few_slots list.name p.files u.listed (few_imports list files judged p is) u.world (acyclic list files judged p is) (is_kin list files judged p is) (IsKin-one (world p)) (has_applets p) (tokens list files judged p is) (writable list files judged p is) n t there plain
+      few_slots list.name p.files u.listed (few_imports list files judged p is) u.world (acyclic list files judged p is) (are_supertypes list files judged p is) (AreSupertypes-one (world p)) (has_applets p) (tokens list files judged p is) (writable list files judged p is) n t there plain
 
   -- what the class declares or got has the place of its slot for a token
   at_slot : (s : Signature) (j : ℕ) → Offers p.files (has_applets p) n t there plain s → tok j ≡ unwrap_or (token shown_slots s) 0xFF → (token shown_slots s ≡ Some (tok j)) × (tok j ≤ 127)
@@ -308,8 +308,8 @@ module _ (list : ListTree) (files : List (List ℕ)) (judged : Judged) (p : Pack
 
       made : (s : Signature) → slice_get shown_slots r.place ≡ Some (Some s) → implementing (line_at w c) s ≡ Some r.found → IsOthers e
       made s at_slot_place means =
-          let kn = is_kin list files judged p is in
-          let line = line_meant list files judged p is ((let u = t in u.name) ∷ []) (Known c (kin w (let d = c in d.supers)) (kin w (let d = c in d.interfaces)) End) (known_here named (kn (let d = c in d.supers)) (kn (let d = c in d.interfaces)) ends) s r.found means in
+          let kn = are_supertypes list files judged p is in
+          let line = line_meant list files judged p is ((let u = t in u.name) ∷ []) (Known c (supertypes w (let d = c in d.supers)) (supertypes w (let d = c in d.interfaces)) End) (known_here named (kn (let d = c in d.supers)) (kn (let d = c in d.interfaces)) ends) s r.found means in
           let same : method_in w line.class (let f = r.found in f.member) ≡ r.member = (let both : Some (method_in w line.class (let f = r.found in f.member)) ≡ Some r.member = sym (ap (option_map (λ (d : Class). method_in w d (let f = r.found in f.member))) line.is_class) ∙ r.meant in cc) in
           let read = subst IsMethodRead same line.read in
           let bound_one : is_unbound (let m = r.member in m.flags) (let m = r.member in m.name) ≡ false = ap (λ (m : Member). is_unbound m.flags m.name) (sym same) ∙ line.bound in

@@ -43,7 +43,7 @@ use Rattle.cjc_world.specs.Rules.{is_second}
 use Rattle.cjc_written_laws.proofs.FittingLaws.Exported.{or_second}
 use Rattle.cjc_written_laws.proofs.FittingLaws.Flags.{HasFlags, small_flags}
 use Rattle.cjc_written_laws.proofs.FittingLaws.Interfaces.{few_listed}
-use Rattle.cjc_written_laws.proofs.FittingLaws.Limited.{acyclic, by_files, by_list, class_in_bytes, exported, few_imports, is_kin, list_short, tokens, unbroken, writable}
+use Rattle.cjc_written_laws.proofs.FittingLaws.Limited.{acyclic, by_files, by_list, class_in_bytes, exported, few_imports, are_supertypes, list_short, tokens, unbroken, writable}
 use Rattle.cjc_written_laws.proofs.FittingLaws.Listed.{aid_long, aid_short, spelt}
 use Rattle.cjc_written_laws.proofs.FittingLaws.Rules as Rules
 use Rattle.cjc_written_laws.specs.LaidOut.{ExportedMethodsStand, IsLaidOut, MethodsStand}
@@ -176,7 +176,7 @@ module _ (list : ListTree) (files : List (List ℕ)) (judged : Judged) (p : Pack
       let r = class_in_bytes list files judged p is own.number t own.is_tree in
       let fits = spelt_fits t r.0 r.1 r.2 in
       let count = fits.field_count in
-      let named = few_listed list.name p.files u.listed (few_imports list files judged p is) u.world (acyclic list files judged p is) (is_kin list files judged p is) own.number t own.is_tree in
+      let named = few_listed list.name p.files u.listed (few_imports list files judged p is) u.world (acyclic list files judged p is) (are_supertypes list files judged p is) own.number t own.is_tree in
       let kept = Rules.few_interfaces list.name p.files judged.codes (settings_of list) u.checks own.number t own.is_tree in
       let few = most (is_interface t.flags) in
       let same : length (interfaces (world p) c) ≡ length (interfaces (world p) (declared own.number t)) = ap (λ (d : Class). length (interfaces (world p) d)) own.is in

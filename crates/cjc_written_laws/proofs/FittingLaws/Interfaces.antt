@@ -25,7 +25,7 @@ use Rattle.cjc_world.proofs.Settled.{bytes-refl, bytes-true}
 use Rattle.cjc_world.specs.Classes.{Class, all_classes, class_named, declared, imported}
 use Rattle.cjc_world.specs.Files.{Files}
 use Rattle.cjc_world.specs.Interfaces.{Interface, each_once, gathered, is_among, known, where_listed}
-use Rattle.cjc_world.specs.Kin.{Above, End, IsAcyclic, IsKin, Kin, Known, Lists, Unknown, after, directly, ends, foremost, kin, known_here, onwards, unknown_here}
+use Rattle.cjc_world.specs.Supertypes.{Above, End, IsAcyclic, AreSupertypes, Supertypes, Known, Lists, Unknown, after, directly, ends, foremost, supertypes, known_here, onwards, unknown_here}
 use Rattle.cjc_world.specs.Subtype.{is_subclass}
 use Rattle.cjc_written_laws.proofs.FittingLaws.Lists.{Apart, sum_within}
 use Rattle.cjc_written_laws.proofs.FittingLaws.Order.{has_back, has_cons, has_either, has_none, ones}
@@ -159,7 +159,7 @@ known_few (i ∷ is) = by i.class (known_few is)
 
 -- ---- who lists one
 
-module _ (list : List ℕ) (files : Files) (own_listed : length files.classes ≤ class_count files.lines) (imports_listed : length files.exports ≤ export_count files.lines) (unbroken : breaks list files ≡ []) (acyclic : IsAcyclic (all_classes files)) (is_kin : (xs : List (List ℕ)) → IsKin (all_classes files) xs (kin (all_classes files) xs)) where
+module _ (list : List ℕ) (files : Files) (own_listed : length files.classes ≤ class_count files.lines) (imports_listed : length files.exports ≤ export_count files.lines) (unbroken : breaks list files ≡ []) (acyclic : IsAcyclic (all_classes files)) (are_supertypes : (xs : List (List ℕ)) → AreSupertypes (all_classes files) xs (supertypes (all_classes files) xs)) where
   abbrev w : List Class
   w = all_classes files
 
@@ -184,7 +184,7 @@ module _ (list : List ℕ) (files : Files) (own_listed : length files.classes �
       by false f g rest = rest g
 
   -- each gathered interface is one of the names themselves, where these are interfaces, or is listed
-  gathered_listed : (listed : Bool) (xs : List (List ℕ)) (k : Kin) (j : Interface) → IsKin w xs k → Has j (gathered listed k) → ((listed ≡ true) × Lists j.name xs) ⊎ IsListed xs j.name
+  gathered_listed : (listed : Bool) (xs : List (List ℕ)) (k : Supertypes) (j : Interface) → AreSupertypes w xs k → Has j (gathered listed k) → ((listed ≡ true) × Lists j.name xs) ⊎ IsListed xs j.name
   unfolding gathered
   gathered_listed listed xs End j ends h = has_none j h
   gathered_listed listed xs (Unknown x next) j (unknown_here {xs = rest} e n) h =
@@ -228,7 +228,7 @@ module _ (list : List ℕ) (files : Files) (own_listed : length files.classes �
   abbrev AreInterfaces : Bool → List (List ℕ) → Type 0
   AreInterfaces listed xs = listed ≡ true → (y : List ℕ) (c : Class) → Lists y xs → class_named w y ≡ Some c → is_interface c.flags ≡ true
 
-  gathered_interface : (listed : Bool) (xs : List (List ℕ)) (k : Kin) (j : Interface) (d : Class) → IsKin w xs k → AreInterfaces listed xs → Has j (gathered listed k) → j.class ≡ Some d → (is_interface d.flags ≡ true) × ((x : List ℕ) × (class_named w x ≡ Some d))
+  gathered_interface : (listed : Bool) (xs : List (List ℕ)) (k : Supertypes) (j : Interface) (d : Class) → AreSupertypes w xs k → AreInterfaces listed xs → Has j (gathered listed k) → j.class ≡ Some d → (is_interface d.flags ≡ true) × ((x : List ℕ) × (class_named w x ≡ Some d))
   unfolding gathered
   gathered_interface listed xs End j d ends all h f = has_none j h
   gathered_interface listed xs (Unknown x next) j d (unknown_here {xs = rest} e n) all h f =
@@ -280,12 +280,12 @@ module _ (list : List ℕ) (files : Files) (own_listed : length files.classes �
       by (Some c) e g rest = one c e g rest
 
   -- what is gathered for a class
-  at_gathered : (x : List ℕ) (c : Class) (j : Interface) (d : Class) → class_named w x ≡ Some c → Has j (gathered false (kin w c.supers) ++ gathered true (kin w c.interfaces)) → j.class ≡ Some d → (is_interface d.flags ≡ true) × ((y : List ℕ) × (class_named w y ≡ Some d))
+  at_gathered : (x : List ℕ) (c : Class) (j : Interface) (d : Class) → class_named w x ≡ Some c → Has j (gathered false (supertypes w c.supers) ++ gathered true (supertypes w c.interfaces)) → j.class ≡ Some d → (is_interface d.flags ≡ true) × ((y : List ℕ) × (class_named w y ≡ Some d))
   at_gathered x c j d e h f =
       ⊎_elim
-      (λ g. gathered_interface false c.supers (kin w c.supers) j d (is_kin c.supers) (λ is y v l. never is) g f)
-      (λ g. gathered_interface true c.interfaces (kin w c.interfaces) j d (is_kin c.interfaces) (λ is y v l m. listed_interface list files unbroken x y c v e l m) g f)
-      (has_either j (gathered false (kin w c.supers)) (gathered true (kin w c.interfaces)) h)
+      (λ g. gathered_interface false c.supers (supertypes w c.supers) j d (are_supertypes c.supers) (λ is y v l. never is) g f)
+      (λ g. gathered_interface true c.interfaces (supertypes w c.interfaces) j d (are_supertypes c.interfaces) (λ is y v l m. listed_interface list files unbroken x y c v e l m) g f)
+      (has_either j (gathered false (supertypes w c.supers)) (gathered true (supertypes w c.interfaces)) h)
     where
       never : {B : Type 0} → false ≡ true → B
       never f = cc
@@ -294,13 +294,13 @@ module _ (list : List ℕ) (files : Files) (own_listed : length files.classes �
   pub are_interfaces : (x : List ℕ) (c d : Class) → class_named w x ≡ Some c → Has d (interfaces_of w c) → (is_interface d.flags ≡ true) × ((y : List ℕ) × (class_named w y ≡ Some d))
   unfolding interfaces_at
   are_interfaces x c d e h =
-      let all = gathered false (kin w c.supers) ++ gathered true (kin w c.interfaces) in
+      let all = gathered false (supertypes w c.supers) ++ gathered true (supertypes w c.interfaces) in
       let r = known_has (each_once [] all) d h in
       at_gathered x c r.0 d e (once_new [] all r.0 r.1).1 r.2
 
   -- so are those whose methods a class may get
-  pub are_asked : (x : List ℕ) (c d : Class) → class_named w x ≡ Some c → Has d (known (gathered false (kin w c.supers) ++ gathered true (kin w c.interfaces))) → (is_interface d.flags ≡ true) × ((y : List ℕ) × (class_named w y ≡ Some d))
-  are_asked x c d e h = let r = known_has (gathered false (kin w c.supers) ++ gathered true (kin w c.interfaces)) d h in at_gathered x c r.0 d e r.1 r.2
+  pub are_asked : (x : List ℕ) (c d : Class) → class_named w x ≡ Some c → Has d (known (gathered false (supertypes w c.supers) ++ gathered true (supertypes w c.interfaces))) → (is_interface d.flags ≡ true) × ((y : List ℕ) × (class_named w y ≡ Some d))
+  are_asked x c d e h = let r = known_has (gathered false (supertypes w c.supers) ++ gathered true (supertypes w c.interfaces)) d h in at_gathered x c r.0 d e r.1 r.2
 
   -- ---- the names that a class lists with all that stands above it
 
@@ -365,14 +365,14 @@ module _ (list : List ℕ) (files : Files) (own_listed : length files.classes �
         (has_front name t.interfaces (listed_by_declared w t files.classes) (listed_has name t.interfaces l))
 
     abbrev all : List Interface
-    all = gathered false (kin w c.supers) ++ gathered true (kin w c.interfaces)
+    all = gathered false (supertypes w c.supers) ++ gathered true (supertypes w c.interfaces)
 
     in_listed : (j : Interface) → Has j all → Has j.name (listed_names files t)
     in_listed j h =
         ⊎_elim
-        (λ g. ⊎_elim (λ r. never r.0) (λ i. listed_in c.supers j.name (λ y l. lists_front y c.supers c.interfaces l) i) (gathered_listed false c.supers (kin w c.supers) j (is_kin c.supers) g))
-        (λ g. ⊎_elim (λ r. own_lists j.name r.1) (λ i. listed_in c.interfaces j.name (λ y l. lists_back y c.supers c.interfaces l) i) (gathered_listed true c.interfaces (kin w c.interfaces) j (is_kin c.interfaces) g))
-        (has_either j (gathered false (kin w c.supers)) (gathered true (kin w c.interfaces)) h)
+        (λ g. ⊎_elim (λ r. never r.0) (λ i. listed_in c.supers j.name (λ y l. lists_front y c.supers c.interfaces l) i) (gathered_listed false c.supers (supertypes w c.supers) j (are_supertypes c.supers) g))
+        (λ g. ⊎_elim (λ r. own_lists j.name r.1) (λ i. listed_in c.interfaces j.name (λ y l. lists_back y c.supers c.interfaces l) i) (gathered_listed true c.interfaces (supertypes w c.interfaces) j (are_supertypes c.interfaces) g))
+        (has_either j (gathered false (supertypes w c.supers)) (gathered true (supertypes w c.interfaces)) h)
       where
         never : {B : Type 0} → false ≡ true → B
         never f = cc

@@ -38,11 +38,11 @@ use Rattle.cjc_tokens.specs.Rules.{FewExported, token_breaks}
 use Rattle.cjc_vtable.proofs.Filed.{get-has}
 use Rattle.cjc_whole.proofs.Drafts as Drafts
 use Rattle.cjc_whole.proofs.Second.{package_is_draft}
-use Rattle.cjc_world.proofs.Settled.{IsKin-one, kin-IsKin}
+use Rattle.cjc_world.proofs.Settled.{AreSupertypes-one, supertypes-AreSupertypes}
 use Rattle.cjc_world.proofs.Unbroken.{unbroken_is_acyclic}
 use Rattle.cjc_world.specs.Classes.{Class, declared, method_of_class}
 use Rattle.cjc_world.specs.Files.{Files}
-use Rattle.cjc_world.specs.Kin.{IsAcyclic, IsKin, kin}
+use Rattle.cjc_world.specs.Supertypes.{IsAcyclic, AreSupertypes, supertypes}
 use Rattle.cjc_world.specs.Order.{class_order}
 use Rattle.cjc_written_laws.proofs.FittingLaws.Arrays.{arrays_fit}
 use Rattle.cjc_written_laws.proofs.FittingLaws.Cells.{are_described}
@@ -92,8 +92,8 @@ module _ (list : ListTree) (files : List (List ℕ)) (judged : Judged) (p : Pack
   pub acyclic : IsAcyclic (world p)
   acyclic = let u = unbroken in unbroken_is_acyclic list.name p.files u.world
 
-  pub is_kin : (xs : List (List ℕ)) → IsKin (world p) xs (kin (world p) xs)
-  is_kin xs = kin-IsKin (world p) acyclic xs
+  pub are_supertypes : (xs : List (List ℕ)) → AreSupertypes (world p) xs (supertypes (world p) xs)
+  are_supertypes xs = supertypes-AreSupertypes (world p) acyclic xs
 
   same_applets : has_applets p ≡ judging.has_applets list
   same_applets = ap (λ (l : ListTree). nat_lt 0 (length l.applets)) by_list
@@ -133,13 +133,13 @@ module _ (list : ListTree) (files : List (List ℕ)) (judged : Judged) (p : Pack
 
   own_small : (n : ℕ) (t : ClassTree) → (let v = p.files in slice_get v.classes n ≡ Some t) → ClassIsSmall p (declared n t)
   own_small n t e = let u = unbroken in
-      let named = few_named list.name p.files u.listed few_imports u.world acyclic is_kin n t e in
+      let named = few_named list.name p.files u.listed few_imports u.world acyclic are_supertypes n t e in
       let kept = Rules.few_interfaces list.name p.files judged.codes (settings_of list) u.checks n t e in
       record {
         interfaces = (let le : length (interfaces_of (world p) (declared n t)) ≤ (if is_interface t.flags then 14 else 15) = omega (arith, named, kept) in le);
-        public = own_public list.name p.files u.listed few_imports u.world acyclic is_kin (IsKin-one (world p)) (has_applets p) tokens writable n t e;
-        «package» = own_package list.name p.files u.listed few_imports u.world acyclic is_kin (IsKin-one (world p)) (has_applets p) tokens writable n t e;
-        maps = own_maps list.name p.files u.listed few_imports u.world acyclic is_kin (IsKin-one (world p)) (has_applets p) tokens writable n t e;
+        public = own_public list.name p.files u.listed few_imports u.world acyclic are_supertypes (AreSupertypes-one (world p)) (has_applets p) tokens writable n t e;
+        «package» = own_package list.name p.files u.listed few_imports u.world acyclic are_supertypes (AreSupertypes-one (world p)) (has_applets p) tokens writable n t e;
+        maps = own_maps list.name p.files u.listed few_imports u.world acyclic are_supertypes (AreSupertypes-one (world p)) (has_applets p) tokens writable n t e;
       }
 
   small : (k : ℕ) (c : Class) → slice_get (class_order (world p)) k ≡ Some c → ClassIsSmall p c

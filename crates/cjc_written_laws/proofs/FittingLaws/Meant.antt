@@ -33,13 +33,13 @@ use Rattle.cjc_world.proofs.Settled.{bytes-true}
 use Rattle.cjc_world.specs.Added.{added, asked_by, by_token, declares_open, has_open, is_one_of, lacking, methods_of, own_methods, takes_added, with_token, without_initialiser}
 use Rattle.cjc_world.specs.Classes.{Class, Member, class_at, class_named, method_of_class, method_of_export}
 use Rattle.cjc_world.specs.Interfaces.{gathered, known}
-use Rattle.cjc_world.specs.Kin.{End, IsKin, Kin, Known, Unknown, ends, kin, known_here, unknown_here, upwards}
+use Rattle.cjc_world.specs.Supertypes.{End, AreSupertypes, Supertypes, Known, Unknown, ends, supertypes, known_here, unknown_here, upwards}
 use Rattle.cjc_world.specs.Lookup.{is_called, member_at, or_else}
 use Rattle.cjc_world.specs.declared.found.Found.{Found}
 use Rattle.cjc_written_laws.proofs.FittingLaws.Exported.{is_bare}
 use Rattle.cjc_written_laws.proofs.FittingLaws.Flags.{HasMethodFlags, small_flags}
 use Rattle.cjc_written_laws.proofs.FittingLaws.Interfaces.{are_asked}
-use Rattle.cjc_written_laws.proofs.FittingLaws.Limited.{acyclic, class_in_bytes, few_imports, is_kin, unbroken, writable}
+use Rattle.cjc_written_laws.proofs.FittingLaws.Limited.{acyclic, class_in_bytes, few_imports, are_supertypes, unbroken, writable}
 use Rattle.cjc_written_laws.proofs.FittingLaws.Lists.{each_after, mapped_at}
 use Rattle.cjc_written_laws.proofs.FittingLaws.Order.{has_cons, has_either, has_none}
 use Rattle.cjc_written_laws.proofs.FittingLaws.Rules as Rules
@@ -112,16 +112,16 @@ lacking_has there given (x ∷ ms) k m e = by (there x || is_one_of given x.name
     by false zero e old fresh = let same : x ≡ m = cc in subst (λ (y : Member). Has y (x ∷ ms)) same at_front
     by false (suc k) e old fresh = behind (fresh k e)
 
-added_asked : (w : List Class) (c : Class) (k : ℕ) (m : Member) → slice_get (added w c) k ≡ Some m → (d : Class) × Has d (known (gathered false (kin w c.supers) ++ gathered true (kin w c.interfaces))) × Has m (own_methods d)
+added_asked : (w : List Class) (c : Class) (k : ℕ) (m : Member) → slice_get (added w c) k ≡ Some m → (d : Class) × Has d (known (gathered false (supertypes w c.supers) ++ gathered true (supertypes w c.interfaces))) × Has m (own_methods d)
 unfolding added asked_by
 added_asked w c k m e = by (takes_added c) e
   where
     test : Member → Bool
-    test q = declares_open q.name q.desc c || has_open q.name q.desc (kin w c.supers)
+    test q = declares_open q.name q.desc c || has_open q.name q.desc (supertypes w c.supers)
 
-    by : (b : Bool) → slice_get (if b then lacking test [] (asked_by (kin w c.supers) (kin w c.interfaces)) else []) k ≡ Some m
-        → (d : Class) × Has d (known (gathered false (kin w c.supers) ++ gathered true (kin w c.interfaces))) × Has m (own_methods d)
-    by true f = asked_has (known (gathered false (kin w c.supers) ++ gathered true (kin w c.interfaces))) m (lacking_has test [] (asked_by (kin w c.supers) (kin w c.interfaces)) k m f)
+    by : (b : Bool) → slice_get (if b then lacking test [] (asked_by (supertypes w c.supers) (supertypes w c.interfaces)) else []) k ≡ Some m
+        → (d : Class) × Has d (known (gathered false (supertypes w c.supers) ++ gathered true (supertypes w c.interfaces))) × Has m (own_methods d)
+    by true f = asked_has (known (gathered false (supertypes w c.supers) ++ gathered true (supertypes w c.interfaces))) m (lacking_has test [] (asked_by (supertypes w c.supers) (supertypes w c.interfaces)) k m f)
     by false f = cc
 
 -- ---- the package
@@ -196,7 +196,7 @@ module _ (list : ListTree) (files : List (List ℕ)) (judged : Judged) (p : Pack
   pub added_method : (x : List ℕ) (c : Class) → class_named w x ≡ Some c → (k : ℕ) (m : Member) → slice_get (added w c) k ≡ Some m → IsMethodRead (as_added m) × (is_unbound (let a = as_added m in a.flags) m.name ≡ false)
   added_method x c e k m at = let u = unbroken list files judged p is in
       let r = added_asked w c k m at in
-      let d = are_asked list.name p.files u.listed (few_imports list files judged p is) u.world (acyclic list files judged p is) (is_kin list files judged p is) x c r.0 e r.1 in
+      let d = are_asked list.name p.files u.listed (few_imports list files judged p is) u.world (acyclic list files judged p is) (are_supertypes list files judged p is) x c r.0 e r.1 in
       let own_one = own_has r.0 m r.2 in
       let n = named_method d.1.0 r.0 d.1.1 m own_one.0 in
       let read = n.0 in
@@ -264,7 +264,7 @@ module _ (list : ListTree) (files : List (List ℕ)) (judged : Judged) (p : Pack
       second true b e = e
       second false b e = cc
 
-  pub line_meant : (xs : List (List ℕ)) (k : Kin) → IsKin w xs k → (s : Signature) (f : Found) → implementing (line_in w k) s ≡ Some f → IsMeant f
+  pub line_meant : (xs : List (List ℕ)) (k : Supertypes) → AreSupertypes w xs k → (s : Signature) (f : Found) → implementing (line_in w k) s ≡ Some f → IsMeant f
   line_meant xs End ends s f e = cc
   line_meant xs (Unknown x next) (unknown_here g n) s f e = cc
   line_meant xs (Known c supers interfaces next) (known_here {x = x} {xs = rest} g sk ik n) s f e = by c.is_imported e (line_meant c.supers supers sk s f)

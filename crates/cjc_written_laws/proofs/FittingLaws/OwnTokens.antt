@@ -28,7 +28,7 @@ use Rattle.cjc_world.specs.Added.{added, asked_by, declares_open, has_open, is_o
 use Rattle.cjc_world.specs.Classes.{Class, Member, all_classes, declared, field_of_class}
 use Rattle.cjc_world.specs.Exported.{is_exported}
 use Rattle.cjc_world.specs.Files.{Files}
-use Rattle.cjc_world.specs.Kin.{kin}
+use Rattle.cjc_world.specs.Supertypes.{supertypes}
 use Rattle.cjc_world.specs.Lookup.{is_called, member_at, or_else}
 use Rattle.cjc_world.specs.Rules.{is_twice}
 use Rattle.cjc_world.specs.declared.found.Found.{Found}
@@ -224,7 +224,7 @@ module _ (files : Files) (applets : Bool) (n : ℕ) (t : ClassTree) (there : sli
   hidden_ones = hidden_slots (line_at w c)
 
   abbrev above : Slots
-  above = slots (line_in w (kin w c.supers))
+  above = slots (line_in w (supertypes w c.supers))
 
   abbrev token_at : ℕ → Option ℕ
   token_at j = token_of_member (assigned applets files) (member_at c j)
@@ -319,7 +319,7 @@ module _ (files : Files) (applets : Bool) (n : ℕ) (t : ClassTree) (there : sli
       means = sym at ∙ row_at (implementing (line_at w c)) shown_slots i s (token-slot shown_slots s i e)
 
       last : Option Found
-      last = implementing (line_in w (kin w c.supers)) s
+      last = implementing (line_in w (supertypes w c.supers)) s
 
       by : (o : Option Found) → own is_shown s c ≡ o → (q : Option Found) → got given s c ≡ q → is_own c.number (Some f) ≡ true
       by (Some g) k q l =
@@ -350,13 +350,13 @@ module _ (files : Files) (applets : Bool) (n : ℕ) (t : ClassTree) (there : sli
   given_apart j k m x lt e f same_one = by (takes_added c) e f
     where
       test : Member → Bool
-      test q = declares_open q.name q.desc c || has_open q.name q.desc (kin w c.supers)
+      test q = declares_open q.name q.desc c || has_open q.name q.desc (supertypes w c.supers)
 
       all : List Member
-      all = lacking test [] (asked_by (kin w c.supers) (kin w c.interfaces))
+      all = lacking test [] (asked_by (supertypes w c.supers) (supertypes w c.interfaces))
 
       by : (b : Bool) → slice_get (if b then all else []) j ≡ Some m → slice_get (if b then all else []) k ≡ Some x → ⊥
-      by true g h = lacking_apart test [] (asked_by (kin w c.supers) (kin w c.interfaces)) j k m x lt g h same_one
+      by true g h = lacking_apart test [] (asked_by (supertypes w c.supers) (supertypes w c.interfaces)) j k m x lt g h same_one
       by false g h = cc
 
   pub both_apart : (j k : ℕ) (m x : Member) → slice_get c.methods j ≡ Some m → is_shown m ≡ true → slice_get given k ≡ Some x → signature_of m ≡ signature_of x → ⊥
@@ -364,14 +364,14 @@ module _ (files : Files) (applets : Bool) (n : ℕ) (t : ClassTree) (there : sli
   both_apart j k m x e is f same_one = by (takes_added c) f
     where
       test : Member → Bool
-      test q = declares_open q.name q.desc c || has_open q.name q.desc (kin w c.supers)
+      test q = declares_open q.name q.desc c || has_open q.name q.desc (supertypes w c.supers)
 
       opens : declares_open x.name x.desc c ≡ true
       opens = any_at (λ q. is_open q.flags && is_called x.name x.desc q) c.methods j m e (ap (λ b. b && is_called x.name x.desc m) (shown_open m is) ∙ ap (λ s. same s (signature_of x)) same_one ∙ same-refl (signature_of x))
 
-      by : (b : Bool) → slice_get (if b then lacking test [] (asked_by (kin w c.supers) (kin w c.interfaces)) else []) k ≡ Some x → ⊥
+      by : (b : Bool) → slice_get (if b then lacking test [] (asked_by (supertypes w c.supers) (supertypes w c.interfaces)) else []) k ≡ Some x → ⊥
       by true g =
-          let none = (lacking_new test [] (asked_by (kin w c.supers) (kin w c.interfaces)) k x g).0 in
-          let off = (or_off (declares_open x.name x.desc c) (has_open x.name x.desc (kin w c.supers)) none).0 in
+          let none = (lacking_new test [] (asked_by (supertypes w c.supers) (supertypes w c.interfaces)) k x g).0 in
+          let off = (or_off (declares_open x.name x.desc c) (has_open x.name x.desc (supertypes w c.supers)) none).0 in
           absurd (let z : true ≡ false = sym opens ∙ off in cc)
       by false g = cc

@@ -13,7 +13,7 @@ use Rattle.cjc_tokens.specs.Rules.{has_high_method, is_above}
 use Rattle.cjc_tokens.specs.Slots.{Slots, has_slot, hidden_slots, holds, listed_slots, new_in, put, reserve, slots, token, with_new}
 use Rattle.cjc_world.specs.Added.{added}
 use Rattle.cjc_world.specs.Classes.{Class, Member, class_named}
-use Rattle.cjc_world.specs.Kin.{End, IsKin, Kin, Known, Lists, Unknown, after, ends, foremost, kin, known_here, unknown_here, upwards}
+use Rattle.cjc_world.specs.Supertypes.{End, AreSupertypes, Supertypes, Known, Lists, Unknown, after, ends, foremost, supertypes, known_here, unknown_here, upwards}
 use Rattle.cjc_written_laws.proofs.FittingLaws.Lists.{all_both}
 
 -- ---- new slots
@@ -160,14 +160,14 @@ pub record IsLow (w : List Class) (c : Class) : Type 0 where
   pub supers : (s : List ℕ) (d : Class) → Lists s c.supers → class_named w s ≡ Some d → is_interface d.flags ≡ false
   pub abroad : c.is_imported ≡ true → (s : List ℕ) (d : Class) → Lists s c.supers → class_named w s ≡ Some d → d.is_imported ≡ true
 
-module _ (w : List Class) (is_kin : (xs : List (List ℕ)) → IsKin w xs (kin w xs)) (one_kin : (xs : List (List ℕ)) (j k : Kin) → IsKin w xs j → IsKin w xs k → j ≡ k) (low : (x : List ℕ) (c : Class) → class_named w x ≡ Some c → IsLow w c) where
+module _ (w : List Class) (are_supertypes : (xs : List (List ℕ)) → AreSupertypes w xs (supertypes w xs)) (one_supertypes : (xs : List (List ℕ)) (j k : Supertypes) → AreSupertypes w xs j → AreSupertypes w xs k → j ≡ k) (low : (x : List ℕ) (c : Class) → class_named w x ≡ Some c → IsLow w c) where
   abbrev ArePlain : List (List ℕ) → Type 0
   ArePlain xs = (s : List ℕ) (d : Class) → Lists s xs → class_named w s ≡ Some d → is_interface d.flags ≡ false
 
   abbrev AreAbroad : List (List ℕ) → Type 0
   AreAbroad xs = (s : List ℕ) (d : Class) → Lists s xs → class_named w s ≡ Some d → d.is_imported ≡ true
 
-  upwards_low : (xs : List (List ℕ)) (k : Kin) → IsKin w xs k → ArePlain xs → AreAbroad xs → AllByRecursion IsLowMember (all_methods (upwards k))
+  upwards_low : (xs : List (List ℕ)) (k : Supertypes) → AreSupertypes w xs k → ArePlain xs → AreAbroad xs → AllByRecursion IsLowMember (all_methods (upwards k))
   upwards_low xs End ends plain abroad = tt
   upwards_low xs (Unknown x next) (unknown_here {x = y} {xs = rest} e n) plain abroad = upwards_low rest next n (λ s d l. plain s d (after l)) (λ s d l. abroad s d (after l))
   upwards_low xs (Known c supers interfaces next) (known_here {x = x} {xs = rest} e s i n) plain abroad =
@@ -176,7 +176,7 @@ module _ (w : List Class) (is_kin : (xs : List (List ℕ)) → IsKin w xs (kin w
       all_both IsLowMember c.methods (all_methods (upwards supers ++ upwards next)) (own.listed im (plain x c foremost e))
       (all_append (upwards supers) (upwards next) (upwards_low c.supers supers s own.supers (own.abroad im)) (upwards_low rest next n (λ s d l. plain s d (after l)) (λ s d l. abroad s d (after l))))
 
-  pub few_slots : (xs : List (List ℕ)) (k : Kin) → IsKin w xs k → ArePlain xs → (length (slots (line_in w k)) ≤ 128) × (length (hidden_slots (line_in w k)) ≤ 128)
+  pub few_slots : (xs : List (List ℕ)) (k : Supertypes) → AreSupertypes w xs k → ArePlain xs → (length (slots (line_in w k)) ≤ 128) × (length (hidden_slots (line_in w k)) ≤ 128)
   few_slots xs End ends plain = (let z : 0 ≤ 128 = omega arith in z, let z : 0 ≤ 128 = omega arith in z)
   few_slots xs (Unknown x next) (unknown_here e n) plain = (let z : 0 ≤ 128 = omega arith in z, let z : 0 ≤ 128 = omega arith in z)
   few_slots xs (Known c supers interfaces next) (known_here {x = x} {xs = rest} e s i n) plain = by c.is_imported refl (few_slots c.supers supers s own.supers)
@@ -203,13 +203,13 @@ module _ (w : List Class) (is_kin : (xs : List (List ℕ)) → IsKin w xs (kin w
           HighAt l = list_any (λ m. is_above 127 (virtual_token (slots l) (hidden_slots l) m)) c.methods || list_any (λ m. is_above 127 (token (slots l) (signature_of m))) (added w c)
 
           at_line : c.is_imported ≡ false → line_at w c ≡ Declared c (added w c) (line_in w supers)
-          at_line im = ap (λ b. if b then Imported (c ∷ upwards (kin w c.supers)) else Declared c (added w c) (line_in w (kin w c.supers))) im ∙ ap (λ k. Declared c (added w c) (line_in w k)) (one_kin c.supers (kin w c.supers) supers (is_kin c.supers) s)
+          at_line im = ap (λ b. if b then Imported (c ∷ upwards (supertypes w c.supers)) else Declared c (added w c) (line_in w (supertypes w c.supers))) im ∙ ap (λ k. Declared c (added w c) (line_in w k)) (one_supertypes c.supers (supertypes w c.supers) supers (are_supertypes c.supers) s)
 
   -- a class of the package that is no interface
   pub class_few : (x : List ℕ) (c : Class) → class_named w x ≡ Some c → is_interface c.flags ≡ false → (length (slots (line_at w c)) ≤ 128) × (length (hidden_slots (line_at w c)) ≤ 128)
   class_few x c e plain =
-      let k = Known c (kin w c.supers) (kin w c.interfaces) End in
-      few_slots (x ∷ []) k (known_here e (is_kin c.supers) (is_kin c.interfaces) ends) one
+      let k = Known c (supertypes w c.supers) (supertypes w c.interfaces) End in
+      few_slots (x ∷ []) k (known_here e (are_supertypes c.supers) (are_supertypes c.interfaces) ends) one
     where
       one : ArePlain (x ∷ [])
       one s d foremost f = let both : Some c ≡ Some d = sym e ∙ f in let is : c ≡ d = cc in ap (λ (y : Class). is_interface y.flags) (sym is) ∙ plain

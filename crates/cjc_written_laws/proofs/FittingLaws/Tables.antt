@@ -34,7 +34,7 @@ use Rattle.cjc_world.specs.Added.{by_token, own_methods, with_token, without_ini
 use Rattle.cjc_world.specs.Classes.{Class, Member, all_classes, class_named, declared, imported, method_of_export}
 use Rattle.cjc_world.specs.Exported.{is_exported}
 use Rattle.cjc_world.specs.Files.{Files}
-use Rattle.cjc_world.specs.Kin.{IsAcyclic, IsKin, Kin, kin}
+use Rattle.cjc_world.specs.Supertypes.{IsAcyclic, AreSupertypes, Supertypes, supertypes}
 use Rattle.cjc_world.specs.Rules.{breaks}
 use Rattle.cjc_world.specs.declared.found.Found.{Found}
 use Rattle.cjc_written_laws.proofs.FittingLaws.Exported.{or_first, or_second}
@@ -142,7 +142,7 @@ count_few n e = ltb-false 255 n (by (nat_lt 255 n) e)
 -- ---- the classes of a package
 
 module _ (list : List ℕ) (files : Files) (own_listed : length files.classes ≤ class_count files.lines) (imports_listed : length files.exports ≤ export_count files.lines) (unbroken : breaks list files ≡ []) (acyclic : IsAcyclic (all_classes files))
-    (is_kin : (xs : List (List ℕ)) → IsKin (all_classes files) xs (kin (all_classes files) xs)) (one_kin : (xs : List (List ℕ)) (j k : Kin) → IsKin (all_classes files) xs j → IsKin (all_classes files) xs k → j ≡ k)
+    (are_supertypes : (xs : List (List ℕ)) → AreSupertypes (all_classes files) xs (supertypes (all_classes files) xs)) (one_supertypes : (xs : List (List ℕ)) (j k : Supertypes) → AreSupertypes (all_classes files) xs j → AreSupertypes (all_classes files) xs k → j ≡ k)
     (applets : Bool) (tokens : token_breaks applets files ≡ []) (writable : (n : ℕ) (t : ExportTree) → slice_get files.exports n ≡ Some t → IsWritable t) where
   abbrev w : List Class
   w = all_classes files
@@ -232,10 +232,10 @@ module _ (list : List ℕ) (files : Files) (own_listed : length files.classes �
         ((let z : length (let m = interface_map w all d in m.index) ≤ 255 = omega (arith, here, same) in z), maps_few all is (λ e h. few e (behind h)))
 
     pub own_maps : AllByRecursion (λ (m : InterfaceMap). length m.index ≤ 255) (let u = table_of w c in u.maps)
-    own_maps = maps_few (slots (line_at w c)) (interfaces_of w c) (λ d h. let r = are_interfaces list files own_listed imports_listed unbroken acyclic is_kin t.name c d there h in interface_few r.1.0 d r.1.1 r.0)
+    own_maps = maps_few (slots (line_at w c)) (interfaces_of w c) (λ d h. let r = are_interfaces list files own_listed imports_listed unbroken acyclic are_supertypes t.name c d there h in interface_few r.1.0 d r.1.1 r.0)
 
     pub few_slots : is_interface t.flags ≡ false → length (slots (line_at w c)) ≤ 128
-    few_slots plain = (class_few w is_kin one_kin is_low t.name c there plain).0
+    few_slots plain = (class_few w are_supertypes one_supertypes is_low t.name c there plain).0
 
     pub own_public : is_interface t.flags ≡ false → length (let u = table_of w c in u.public) ≤ 255
     own_public plain =
@@ -248,7 +248,7 @@ module _ (list : List ℕ) (files : Files) (own_listed : length files.classes �
     pub own_package : is_interface t.flags ≡ false → length (let u = table_of w c in u.«package») ≤ 255
     own_package plain =
         let line = line_at w c in
-        let few = (class_few w is_kin one_kin is_low t.name c there plain).1 in
+        let few = (class_few w are_supertypes one_supertypes is_low t.name c there plain).1 in
         let a = entries_few n (hidden_row line) in
         let b = length-map (hidden_slots line) (meant_by (implementing_hidden line)) in
         let d = methods_few (entries n (hidden_row line)) in

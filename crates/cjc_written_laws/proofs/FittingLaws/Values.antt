@@ -10,8 +10,8 @@ use Rattle.cjc_bytes.specs.Breaks.{Break, broken_at}
 use Rattle.cjc_bytes.specs.Order.{file_of}
 use Rattle.cjc_bytes.specs.Spots as Spots
 use Rattle.cjc_bytes.specs.declared.fault.MemberId.{MemberId}
-use Rattle.cjc_bytes.specs.declared.names.Kind.{Kind}
-use Rattle.cjc_bytes.specs.declared.names.Kind.TheVariants as kinds
+use Rattle.cjc_bytes.specs.declared.descriptor.Kind.{Kind}
+use Rattle.cjc_bytes.specs.declared.descriptor.Kind.TheVariants as kinds
 use Rattle.cjc_classfile.specs.declared.tree.ClassTree.{ClassTree}
 use Rattle.cjc_classfile.specs.declared.tree.FieldTree.{FieldTree}
 use Rattle.cjc_code.specs.declared.insn.JOp.{JOp}

@@ -15,5 +15,5 @@ returns c = λ list p sound ready methods small keeps subtypes tokens keep ask s
     let forms = c.layouts_are_laid_out.ensures.forms in
     let offsets = c.layouts_are_laid_out.ensures.offsets in
     let told = c.classes_are_told.ensures in
-    let known = facts list p sound (methods_fit p small) keep keeps (laws.is_kin (world p) acyclic) (laws.one_kin (world p)) (dispatch.virtual_calls (world p) keeps.rules) (dispatch.interface_calls (world p) keeps.rules keeps.interfaces) (c.token_laws.ensures (world p) keeps.rules) in
+    let known = facts list p sound (methods_fit p small) keep keeps (laws.are_supertypes (world p) acyclic) (laws.one_supertypes (world p)) (dispatch.virtual_calls (world p) keeps.rules) (dispatch.interface_calls (world p) keeps.rules keeps.interfaces) (c.token_laws.ensures (world p) keeps.rules) in
     sent_same list p sound known subtypes tokens keep (told.kinds list p sound) (told.subtypes list p sound) (told.agree list p sound) (dispatch.imported_calls (world p) keeps.rules keeps.imported) c.kinds_are_told.ensures (place p) (methods_begin forms offsets p ready methods (own_ids list p sound) (classes_stand list p sound)) ask send

@@ -12,7 +12,7 @@ returns-clause-named c = λ list files judged p is class id of.
     let none = c.package_laws.ensures.unbroken list.name p.files judged.codes (settings_of list) u.world u.checks in
     let access = c.methods_keep_flags.ensures.access list.name p judged.codes (settings_of list) sound none (exports_have_one_access p is.plain) in
     let rules = keeps.rules in
-    virtual_named list files judged p is (c.lookup_laws.ensures.is_kin _ rules.acyclic) (c.lookup_laws.ensures.one_kin _) keeps
+    virtual_named list files judged p is (c.lookup_laws.ensures.are_supertypes _ rules.acyclic) (c.lookup_laws.ensures.one_supertypes _) keeps
     (c.asked_methods_have_tokens.ensures _ rules keeps.interfaces access) (λ d m there. c.interface_tokens_mean_methods.ensures.listed _ d m there) class id of
 
 pub returns-clause-words : goal.returns-clause-words

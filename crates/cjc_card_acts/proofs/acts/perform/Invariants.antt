@@ -1,5 +1,5 @@
 use Rattle.std.proofs.Common.{◌≡◌, ◌≤◌, ◌+◌, ℕ, drop, length}
-use Rattle.cjc_bytecode.specs.Machine.{prepared, with_heap}
+use Rattle.cjc_bytecode.specs.Machine.{turn_after_acts, with_heap}
 use Rattle.cjc_card.specs.ByToken.{by_token}
 use Rattle.cjc_card_acts.specs.States.{StateByToken, TurnByToken}
 use Rattle.cjc_card_acts.proofs.acts.perform.Given as goal
@@ -8,6 +8,6 @@ abbrev pub invariant-loop-one : goal.invariant-loop-one
 invariant-loop-one g l =
     let set = by_token (g.L.LookUps.loaded l.links) in
     record {
-      acts : (number : ℕ) (s : StateByToken) (go : StateByToken → TurnByToken) → prepared set l.acts number (with_heap set l.fn.heap s) go ≡ prepared set (drop l.one-index l.acts) number (with_heap set l.heap s) go;
+      acts : (number : ℕ) (s : StateByToken) (go : StateByToken → TurnByToken) → turn_after_acts set l.acts number (with_heap set l.fn.heap s) go ≡ turn_after_acts set (drop l.one-index l.acts) number (with_heap set l.heap s) go;
       len : length l.heap ≤ length l.fn.heap + l.one-index;
     }

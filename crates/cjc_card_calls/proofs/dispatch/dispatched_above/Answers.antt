@@ -13,7 +13,7 @@ returns-in-Own c =
     from_above l c.in-Own.part c.in-Own.offset c.depth.result _ (token_of c.args.token) _ c.dispatched.ensures c.depth.ensures.depth c.superclass-class.ensures
     ∙ ap (λ (d : ClassData). dispatched (above (tower l (class_of d))) (token_of c.args.token)) (sym c.in-Own.is)
 
-pub returns-in-Foreign : goal.returns-in-Foreign
-returns-in-Foreign c =
+pub returns-in-External : goal.returns-in-External
+returns-in-External c =
     let l = loaded_of c.args.tables.now in
-    none_found (token_of c.args.token) ∙ ap (λ (d : ClassData). dispatched (above (tower l (class_of d))) (token_of c.args.token)) (sym c.in-Foreign.is)
+    none_found (token_of c.args.token) ∙ ap (λ (d : ClassData). dispatched (above (tower l (class_of d))) (token_of c.args.token)) (sym c.in-External.is)

@@ -1,6 +1,6 @@
 use Rattle.std.proofs.Common.{[], ◌∷◌, refl, ap, ◌∙◌, map, List}
 use Rattle.std.proofs.lemmas.List.{map-append}
-use Rattle.cjc_card.specs.Classes.{Foreign}
+use Rattle.cjc_card.specs.Classes.{External}
 use Rattle.cjc_card_heap.specs.declared.class.Class.{Class as ClassData}
 use Rattle.cjc_card_heap.specs.Objects.{class_of}
 use Rattle.cjc_card_lines.proofs.Putting.{put_all, put_more}
@@ -8,10 +8,10 @@ use Rattle.cjc_card_lines.proofs.every.put_file.Goals as goal
 
 pub loop-class-preserved : goal.loop-class-preserved
 loop-class-preserved c =
-    put_more (λ n cs. map (λ d. Foreign c.args.tree d.token) cs) (λ n d. Foreign c.args.tree d.token ∷ []) (λ n d ds. refl)
+    put_more (λ n cs. map (λ d. External c.args.tree d.token) cs) (λ n d. External c.args.tree d.token ∷ []) (λ n d ds. refl)
     c.loop-class.class-index c.class-item.result c.class-item.result c.args.listed.now (map class_of c.loop-class.classes) _ _ c.loop-class-test.true c.class-item.is
     (ap (λ (cs : List ClassData). map class_of cs) c.in_ok-push.ensures.ok ∙ map-append class_of c.loop-class.classes _)
     c.loop-class.invariant
 
 pub returns : goal.returns
-returns c = put_all (λ n cs. map (λ d. Foreign c.args.tree d.token) cs) (λ n. refl) c.loop-class.class-index c.args.listed.now _ _ c.loop-class-test.false c.loop-class.invariant
+returns c = put_all (λ n cs. map (λ d. External c.args.tree d.token) cs) (λ n. refl) c.loop-class.class-index c.args.listed.now _ _ c.loop-class-test.false c.loop-class.invariant

@@ -2,7 +2,7 @@ use Rattle.std.proofs.Common.{◌≡◌, ◌∷◌, [], List, sym, ap, ◌∙◌
 use Rattle.std.specs.Prelude.{Some, None}
 use Rattle.cjc_script.specs.declared.value.Value.{Value}
 use Rattle.cjc_script.specs.declared.report.Outcome.TheVariants.{Unfit}
-use Rattle.cjc_bytecode.specs.Machine.{Ended, Next, begins, entered, entry_words, with_heap}
+use Rattle.cjc_bytecode.specs.Machine.{Ended, Next, begins, frame_for_call, entry_words, with_heap}
 use Rattle.cjc_card.specs.ByToken.{by_token}
 use Rattle.cjc_card_parts.specs.Kinds.{start_of}
 use Rattle.cjc_card_deeds.specs.Deeds.{memory}
@@ -54,7 +54,7 @@ returns-clause-next g c =
     let heap = c.perform.new.heap in
     let acts = rw c.items.ensures at c.in_ok-perform.ensures.acts in
     let words = rw c.in-Some-2.is at c.in_ok-words.ensures.is in
-    let frame : c.in_ok-frame.frame ≡ entered m c.in-Some-2.words = c.in_ok-frame.ensures ∙ ap (λ (ws : List Value). entered m ws) c.items-2.ensures in
+    let frame : c.in_ok-frame.frame ≡ frame_for_call m c.in-Some-2.words = c.in_ok-frame.ensures ∙ ap (λ (ws : List Value). frame_for_call m ws) c.items-2.ensures in
     subst (λ (s : StateByToken). begins (by_token l) [] s.entries s ≡ Next (record (with_heap (by_token l) heap v) { frames = c.in_ok-frame.frame ∷ []; entries = c.in-Some.rest.now })) c.machine.view_is
     (fits l e c.in-Some.rest.now v heap c.in_ok-perform.field-0 acts c.in-Some.ensures.cases.0 c.if-not-branch.false (Some m) (Some c.in-Some-2.words) c.in-Some-entry_start.ensures.is words
     ∙ ap (λ (f : FrameByToken). Next (record (with_heap (by_token l) heap v) { frames = f ∷ []; entries = c.in-Some.rest.now })) (sym frame))

@@ -1,7 +1,7 @@
 use Rattle.std.proofs.Common.{◌≡◌, ℕ, ◌+◌, List, ap, sym, ◌∙◌, subst}
 use Rattle.std.proofs.lemmas.Result.{IfOk-weaker}
 use Rattle.cjc_decode.specs.Decoded.{instruction_of}
-use Rattle.cjc_bytecode.specs.Machine.{StuckAt, fetched}
+use Rattle.cjc_bytecode.specs.Machine.{StuckAt, turn_after_fetch}
 use Rattle.cjc_card.specs.ByToken.{by_token}
 use Rattle.cjc_card_parts.specs.Kinds.{code_of}
 use Rattle.cjc_card_acts.specs.States.{FrameByToken}
@@ -17,7 +17,7 @@ returns-in_default-clause-next g c =
     let s = c.args.machine.now in
     let j = c.frame.inside in
     let f : FrameByToken = record { code = code_of j.code; at = j.at; next = j.next; stack = j.cells.stack; locals = j.cells.locals } in
-    subst (λ (h : FrameByToken). (had : List FrameByToken) → fetched (by_token l) ((by_token l).fetch h.code h.at) h s.frames (with_frames had s) ≡ StuckAt j.at (with_frames had s)) c.frame.view_is
+    subst (λ (h : FrameByToken). (had : List FrameByToken) → turn_after_fetch (by_token l) ((by_token l).fetch h.code h.at) h s.frames (with_frames had s) ≡ StuckAt j.at (with_frames had s)) c.frame.view_is
     (λ had. fetched_none l f s.frames (with_frames had s) c.in_default.ensures.is)
 
 pub returns-clause-next : goal.returns-clause-next
@@ -27,8 +27,8 @@ returns-clause-next g c =
     let j = c.frame.inside in
     let i = instruction_of c.in-Some.insn in
     let f : FrameByToken = record { code = code_of j.code; at = j.at; next = j.next; stack = j.cells.stack; locals = j.cells.locals } in
-    let found : (had : List FrameByToken) → fetched (by_token l) ((by_token l).fetch c.args.first.code c.args.first.at) c.args.first s.frames (with_frames had s) ≡ made_by l i c.args.first s.frames (with_frames had s) =
-    subst (λ (h : FrameByToken). (had : List FrameByToken) → fetched (by_token l) ((by_token l).fetch h.code h.at) h s.frames (with_frames had s) ≡ made_by l i h s.frames (with_frames had s)) c.frame.view_is
+    let found : (had : List FrameByToken) → turn_after_fetch (by_token l) ((by_token l).fetch c.args.first.code c.args.first.at) c.args.first s.frames (with_frames had s) ≡ made_by l i c.args.first s.frames (with_frames had s) =
+    subst (λ (h : FrameByToken). (had : List FrameByToken) → turn_after_fetch (by_token l) ((by_token l).fetch h.code h.at) h s.frames (with_frames had s) ≡ made_by l i h s.frames (with_frames had s)) c.frame.view_is
     (λ had. fetched_by l f s.frames (with_frames had s) i c.in-Some.ensures.is) in
     let done = c.act_on.new.machine in
     let place : j.at ≡ c.args.first.at = ap (λ (h : FrameByToken). h.at) c.frame.view_is in

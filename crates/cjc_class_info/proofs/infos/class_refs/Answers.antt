@@ -3,7 +3,7 @@ use Rattle.std.specs.Prelude.{option_map}
 use Rattle.cjc_classfile.specs.declared.tree.ClassTree.{ClassTree}
 use Rattle.cjc_export.specs.declared.tree.ExportTree.{ExportTree}
 use Rattle.cjc_capread.specs.declared.tree.ClassRef.TheVariants.{Inside}
-use Rattle.cjc_card.specs.Classes.{foreign_from, or_else}
+use Rattle.cjc_card.specs.Classes.{external_from, or_else}
 use Rattle.cjc_vtable.specs.declared.table.ClassTable.{ClassTable}
 use Rattle.cjc_components.specs.Names.{ref_to}
 use Rattle.cjc_world.specs.Classes.{all_classes}
@@ -31,5 +31,5 @@ returns c = λ p e.
           ∙ ap (λ (ts : List ClassTree). or_else (ref_in c.note_interfaces.new.refs x) (option_map Inside (spot_in (table_named ts) table_bytes c.in_ok-first.first c.items-3.result.now x))) trees
           ∙ ap (λ (n : ℕ). or_else (ref_in c.note_interfaces.new.refs x) (option_map Inside (spot_in (table_named files.classes) table_bytes n c.items-3.result.now x))) c.in_ok-first.ensures.end
           ∙ ap (λ (rows : List ClassTable). or_else (ref_in c.note_interfaces.new.refs x) (option_map Inside (spot_in (table_named files.classes) table_bytes (end_of (bytes_at (all_classes files) files.classes) 2 ns) rows x))) tables;
-      third = λ x. c.in_ok-note_files.ensures x ∙ ap (λ (ts : List ExportTree). or_else (ref_in c.note_classes.new.refs x) (option_map ref_to (foreign_from 0 ts x))) exports;
+      third = λ x. c.in_ok-note_files.ensures x ∙ ap (λ (ts : List ExportTree). or_else (ref_in c.note_classes.new.refs x) (option_map ref_to (external_from 0 ts x))) exports;
     })

@@ -4,7 +4,7 @@ use Rattle.std.proofs.lemmas.Option.{slice_get_read}
 use Rattle.cjc_bytes.specs.declared.settings.FileLine.{FileLine}
 use Rattle.cjc_bytes.specs.Told.{file_place_of, spot_of}
 use Rattle.cjc_subset.specs.Places.{at_method}
-use Rattle.cjc_bytes.specs.Breaks.{Spot, IsFirstOf, broken_at}
+use Rattle.cjc_bytes.specs.Breaks.{RulePlace, IsFirstOf, broken_at}
 use Rattle.cjc_bytes.specs.Order.{FilePlace, file_of}
 use Rattle.cjc_subset.proofs.Codes.{code_there}
 use Rattle.cjc_clinit.specs.Working.Reading.{offset_break}
@@ -28,4 +28,4 @@ returns c =
     let file : f ≡ file_of files.lines x.class = c.file_of-file.ensures ∙ ap (λ (ls : List FileLine). file_of ls x.class) lines in
     let spot : spot_of c.method_spot.result ≡ at_method f class x.method method offset = c.method_spot.ensures f c.class_spot-spot.ensures in
     code_there files x.class x.method (λ f c m. broken_at (at_method f c x.method m offset) 308 ∷ []) class method f (Some (broken_at (spot_of c.method_spot.result) 308)) in_classes in_methods file
-    (subst (λ (s : Spot). IsFirstOf (broken_at (at_method f class x.method method offset) 308 ∷ []) (Some (broken_at s 308))) (sym spot) (first_of_one (broken_at (at_method f class x.method method offset) 308)))
+    (subst (λ (s : RulePlace). IsFirstOf (broken_at (at_method f class x.method method offset) 308 ∷ []) (Some (broken_at s 308))) (sym spot) (first_of_one (broken_at (at_method f class x.method method offset) 308)))

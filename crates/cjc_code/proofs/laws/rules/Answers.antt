@@ -1,4 +1,4 @@
-use Rattle.cjc_code.proofs.Decided.{first_unfit, unfit_first, foreign_is, is_foreign_there, decoded_is, is_decoded}
+use Rattle.cjc_code.proofs.Decided.{first_unfit, unfit_first, unsupported_is, is_unsupported_there, decoded_is, is_decoded}
 use Rattle.cjc_code.proofs.StartLaws.{start_is, is_start_there}
 use Rattle.cjc_code.proofs.laws.rules.Goals as goal
 
@@ -8,8 +8,8 @@ returns-clause-starts c = λ code place. (start_is code place, is_start_there co
 pub returns-clause-unfit : goal.returns-clause-unfit
 returns-clause-unfit c = λ class method code k. (first_unfit class method code k, unfit_first class method code k)
 
-pub returns-clause-foreign : goal.returns-clause-foreign
-returns-clause-foreign c = λ class method code k. (foreign_is class method code k, is_foreign_there class method code k)
+pub returns-clause-unsupported : goal.returns-clause-unsupported
+returns-clause-unsupported c = λ class method code k. (unsupported_is class method code k, is_unsupported_there class method code k)
 
 pub returns-clause-decoded : goal.returns-clause-decoded
 returns-clause-decoded c = λ class method code insns. (decoded_is class method code insns, is_decoded class method code insns)

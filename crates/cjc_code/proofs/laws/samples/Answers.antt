@@ -16,9 +16,9 @@ pub returns-clause-unfit : goal.returns-clause-unfit
 unfolding row operand operands opcode_at wide_opcode_at behind_opcode behind_first instruction cut_rest cut marks starts unfit_code named all_named least decoding repeated raw front digits each desc_of parts_of bad_at after types_from
 returns-clause-unfit c = refl
 
-pub returns-clause-foreign : goal.returns-clause-foreign
+pub returns-clause-unsupported : goal.returns-clause-unsupported
 unfolding row operand operands opcode_at wide_opcode_at behind_opcode behind_first instruction cut_rest cut marks starts unfit_code named all_named least decoding repeated raw front digits each desc_of parts_of bad_at after types_from
-returns-clause-foreign c = refl
+returns-clause-unsupported c = refl
 
 pub returns-clause-good : goal.returns-clause-good
 unfolding row operand operands opcode_at wide_opcode_at behind_opcode behind_first instruction cut_rest cut marks starts unfit_code named all_named least decoding repeated raw front digits each desc_of parts_of bad_at after types_from

@@ -7,7 +7,7 @@ use Rattle.cjc_judge.proofs.Early.{none_early}
 use Rattle.cjc_judge.proofs.judging.group_break.Goals as goal
 
 pub returns-in-Unsupported : goal.returns-in-Unsupported
-returns-in-Unsupported c = rw c.in-Unsupported.is (as_list _ (option_map break_of c.foreigns_break.result) c.foreigns_break.ensures)
+returns-in-Unsupported c = rw c.in-Unsupported.is (as_list _ (option_map break_of c.unsupported_insns_break.result) c.unsupported_insns_break.ensures)
 
 pub returns-in_ok-broken-in-Language : goal.returns-in_ok-broken-in-Language
 returns-in_ok-broken-in-Language c =

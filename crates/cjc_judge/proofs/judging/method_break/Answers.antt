@@ -6,7 +6,7 @@ use Rattle.cjc_classfile.specs.declared.tree.ClassTree.{ClassTree}
 use Rattle.cjc_classfile.specs.declared.tree.MethodTree.{MethodTree}
 use Rattle.cjc_bytes.specs.Told.{file_place_of, spot_of}
 use Rattle.cjc_subset.specs.Places.{at_method}
-use Rattle.cjc_bytes.specs.Breaks.{Spot, broken_at}
+use Rattle.cjc_bytes.specs.Breaks.{RulePlace, broken_at}
 use Rattle.cjc_bytes.specs.Order.{FilePlace, file_of}
 use Rattle.cjc_judge.proofs.Typed.{at_is}
 use Rattle.cjc_judge.proofs.judging.method_break.Goals as goal
@@ -33,4 +33,4 @@ returns c = λ k m t of.
     ∙ ap (λ (p : FilePlace). at_method p c.index-items-code.result code.method c.index-items-place.result x.offset) file
     ∙ ap (λ (t : ClassTree). at_method (file_of files.lines code.class) t code.method c.index-items-place.result x.offset) class
     ∙ ap (λ (t : MethodTree). at_method (file_of files.lines code.class) k code.method t x.offset) method in
-    ap (λ (s : Spot). broken_at s x.rule) spot
+    ap (λ (s : RulePlace). broken_at s x.rule) spot

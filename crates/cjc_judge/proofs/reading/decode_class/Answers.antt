@@ -8,8 +8,8 @@ loop-method-preserved c =
     elim c.if-is_some.branch [
       | then-is_some+in_ok-decode_method w ↦ (
           let code = some_code _ _ c.is_some.ensures w.if-is_some.true in
-          rw (w.codes-is, w.foreigns-is) (step_code _ _ _ _ here c.args.file.now code.0 _ _ _ _ _ _ code.1 c.loop-method.invariant w.in_ok-decode_method.ensures))
-      | else-is_some w ↦ rw (w.codes-is, w.foreigns-is) (step_abstract _ _ _ _ here _ _ _ _ (no_code _ _ c.is_some.ensures w.if-is_some.false) c.loop-method.invariant)
+          rw (w.codes-is, w.unsupported_insns-is) (step_code _ _ _ _ here c.args.file.now code.0 _ _ _ _ _ _ code.1 c.loop-method.invariant w.in_ok-decode_method.ensures))
+      | else-is_some w ↦ rw (w.codes-is, w.unsupported_insns-is) (step_abstract _ _ _ _ here _ _ _ _ (no_code _ _ c.is_some.ensures w.if-is_some.false) c.loop-method.invariant)
     ]
 
 pub returns : goal.returns

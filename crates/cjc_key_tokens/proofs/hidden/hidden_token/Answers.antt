@@ -11,39 +11,39 @@ pub returns-in-Some : goal.returns-in-Some
 returns-in-Some c = λ d e.
     let files = c.args.world.now in
     let w = all_classes files in
-    let is_kin = c.lookup_laws.ensures.is_kin w c.acyclic.ensures in
-    let one_kin = c.lookup_laws.ensures.one_kin w in
+    let are_supertypes = c.lookup_laws.ensures.are_supertypes w c.acyclic.ensures in
+    let one_supertypes = c.lookup_laws.ensures.one_supertypes w in
     let s = called c.args.name.now c.args.desc.now in
     let k = c.loop.at in
     let x = get_or files.classes k d in
     let at = slice_get-get_or files.classes k d c.loop.invariant.at in
-    hidden_here files is_kin one_kin s c.args.number k d x c.in-Some.told c.loop.invariant.so_far e at
+    hidden_here files are_supertypes one_supertypes s c.args.number k d x c.in-Some.told c.loop.invariant.so_far e at
     (subst (IsHiddenHere w (declared k x) s) c.in-Some.is (c.in_ok-told.ensures x at))
 
 pub returns-in-None : goal.returns-in-None
 returns-in-None c = λ d e.
     let files = c.args.world.now in
     let w = all_classes files in
-    let is_kin = c.lookup_laws.ensures.is_kin w c.acyclic.ensures in
-    let one_kin = c.lookup_laws.ensures.one_kin w in
+    let are_supertypes = c.lookup_laws.ensures.are_supertypes w c.acyclic.ensures in
+    let one_supertypes = c.lookup_laws.ensures.one_supertypes w in
     let s = called c.args.name.now c.args.desc.now in
     let k = c.loop.at in
     let x = get_or files.classes k d in
     let at = slice_get-get_or files.classes k d c.loop.invariant.at in
-    hidden_last files is_kin one_kin s c.args.number k d x c.loop.invariant.so_far e at (subst (IsHiddenHere w (declared k x) s) c.in_default.is (c.in_ok-told.ensures x at))
+    hidden_last files are_supertypes one_supertypes s c.args.number k d x c.loop.invariant.so_far e at (subst (IsHiddenHere w (declared k x) s) c.in_default.is (c.in_ok-told.ensures x at))
     (λ y named. let none = c.in-None.ensures x at ∙ named in cc)
 
 pub returns-in-Some-Imported : goal.returns-in-Some-Imported
 returns-in-Some-Imported c = λ d e.
     let files = c.args.world.now in
     let w = all_classes files in
-    let is_kin = c.lookup_laws.ensures.is_kin w c.acyclic.ensures in
-    let one_kin = c.lookup_laws.ensures.one_kin w in
+    let are_supertypes = c.lookup_laws.ensures.are_supertypes w c.acyclic.ensures in
+    let one_supertypes = c.lookup_laws.ensures.one_supertypes w in
     let s = called c.args.name.now c.args.desc.now in
     let k = c.loop.at in
     let x = get_or files.classes k d in
     let at = slice_get-get_or files.classes k d c.loop.invariant.at in
-    hidden_last files is_kin one_kin s c.args.number k d x c.loop.invariant.so_far e at (subst (IsHiddenHere w (declared k x) s) c.in_default.is (c.in_ok-told.ensures x at))
+    hidden_last files are_supertypes one_supertypes s c.args.number k d x c.loop.invariant.so_far e at (subst (IsHiddenHere w (declared k x) s) c.in_default.is (c.in_ok-told.ensures x at))
     (λ y named.
     let both : Some (class_of c.in-Some-Imported.field-0) ≡ Some y = c.in-Some-Imported.ensures x at ∙ named in
     let same : class_of c.in-Some-Imported.field-0 ≡ y = cc in
@@ -53,8 +53,8 @@ pub loop-preserved : goal.loop-preserved
 loop-preserved c =
     let files = c.args.world.now in
     let w = all_classes files in
-    let is_kin = c.lookup_laws.ensures.is_kin w c.acyclic.ensures in
-    let one_kin = c.lookup_laws.ensures.one_kin w in
+    let are_supertypes = c.lookup_laws.ensures.are_supertypes w c.acyclic.ensures in
+    let one_supertypes = c.lookup_laws.ensures.one_supertypes w in
     let s = called c.args.name.now c.args.desc.now in
     let k = c.loop.at in
     let m = c.in-Some-Declared.super_number in
@@ -63,6 +63,6 @@ loop-preserved c =
     let at = slice_get-get_or files.classes k t c.loop.invariant.at in
     let named : class_named w x.superclass ≡ Some (declared m t) = sym (c.in-Some-Declared.ensures x at) ∙ ap (λ q. Some (class_of q)) c.in-Some-Declared.field-0-is in
     record {
-      at = number_within files is_kin one_kin s x.superclass m t named;
-      so_far = hidden_next files is_kin one_kin s c.args.number k m x t c.loop.invariant.so_far at (subst (IsHiddenHere w (declared k x) s) c.in_default.is (c.in_ok-told.ensures x at)) named;
+      at = number_within files are_supertypes one_supertypes s x.superclass m t named;
+      so_far = hidden_next files are_supertypes one_supertypes s c.args.number k m x t c.loop.invariant.so_far at (subst (IsHiddenHere w (declared k x) s) c.in_default.is (c.in_ok-told.ensures x at)) named;
     }

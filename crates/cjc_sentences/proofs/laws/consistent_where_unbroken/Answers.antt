@@ -3,7 +3,7 @@ use Rattle.std.specs.Prelude.{◌&&◌, flat_map}
 use Rattle.std.specs.List.{list_all, AllByRecursion}
 use Rattle.cjc_bytes.specs.Breaks.{Break}
 use Rattle.cjc_export.specs.declared.tree.ExportTree.{ExportTree}
-use Rattle.cjc_sentences.specs.Spots.{Spot}
+use Rattle.cjc_sentences.specs.Spots.{ComponentPlace}
 use Rattle.cjc_sentences.specs.Complete.{Complete, complete}
 use Rattle.cjc_sentences.specs.Listed.{directory_spots, flags_spots}
 use Rattle.cjc_sentences.specs.Imports.{import_spots}
@@ -32,14 +32,14 @@ apart [] ys e = (refl, e)
 apart (x ∷ xs) ys e = absurd cc
 
 -- a true sentence breaks nothing
-counts : (number : ℕ) (needed : Bool) (spots : List Spot) → is_true spots ≡ true → breaks_of (sentence number needed spots) ≡ []
+counts : (number : ℕ) (needed : Bool) (spots : List ComponentPlace) → is_true spots ≡ true → breaks_of (sentence number needed spots) ≡ []
 counts number true [] e = refl
 counts number false [] e = refl
 counts number true (s ∷ spots) e = absurd cc
 counts number false (s ∷ spots) e = absurd cc
 
 -- a sentence that breaks nothing is true where those that it needs are
-given : (number : ℕ) (needed : Bool) (spots : List Spot) → needed ≡ true → breaks_of (sentence number needed spots) ≡ [] → is_true spots ≡ true
+given : (number : ℕ) (needed : Bool) (spots : List ComponentPlace) → needed ≡ true → breaks_of (sentence number needed spots) ≡ [] → is_true spots ≡ true
 given number true [] e f = refl
 given number true (s ∷ spots) e f = absurd cc
 given number false spots e f = absurd cc

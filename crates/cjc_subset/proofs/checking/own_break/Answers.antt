@@ -1,7 +1,7 @@
 use Rattle.std.proofs.Common.{List, ap, ◌∙◌}
 use Rattle.std.specs.Prelude.{not, ◌&&◌}
 use Rattle.cjc_bytes.specs.declared.fault.MemberId.{MemberId}
-use Rattle.cjc_subset.specs.Checks.{has_foreign, has_int, own_breaks}
+use Rattle.cjc_subset.specs.Checks.{has_unsupported, has_int, own_breaks}
 use Rattle.cjc_bytes.proofs.Firsts.{at_same}
 use Rattle.cjc_subset.proofs.checking.own_break.Goals as goal
 
@@ -13,7 +13,7 @@ returns c = λ f e.
     (c.first-2.ensures _ _
     (c.first.ensures _ _
     (c.first-types.ensures _ _
-    (at_same 301 _ (c.has_foreign.ensures ∙ ap (λ (ms : List MemberId). has_foreign ms) added) e c.broken-foreign.ensures)
+    (at_same 301 _ (c.has_unsupported.ensures ∙ ap (λ (ms : List MemberId). has_unsupported ms) added) e c.broken-unsupported.ensures)
     (at_same 302 _ (c.adds_int.ensures ∙ ap (λ (ms : List MemberId). not c.args.settings.now.ints && has_int ms) added) e c.broken-int.ensures))
     (at_same 304 _ c.is_unfit_class.ensures e c.broken-unfit.ensures))
     (at_same 403 _ c.in_ok-has_many_interfaces.ensures e c.broken-interfaces.ensures))

@@ -1,12 +1,12 @@
 use Rattle.std.proofs.Common.{◌≡◌, drop}
 use Rattle.std.specs.List.{flat_map}
 use Rattle.cjc_world.specs.Classes.{all_classes}
-use Rattle.cjc_world.specs.Kin.{kin}
+use Rattle.cjc_world.specs.Supertypes.{supertypes}
 use Rattle.cjc_supers.specs.Working.Walk.{AreDone, upwards_from, with_all, size}
 use Rattle.cjc_supers.proofs.upwards.+put_upwards.Given as goal
 
 abbrev pub decreases-put_upwards : goal.decreases-put_upwards
-decreases-put_upwards l = size (kin (all_classes l.world.now) l.names.now)
+decreases-put_upwards l = size (supertypes (all_classes l.world.now) l.names.now)
 
 abbrev pub invariant-loop-name : goal.invariant-loop-name
 invariant-loop-name l =

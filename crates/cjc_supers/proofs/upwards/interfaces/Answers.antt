@@ -4,7 +4,7 @@ use Rattle.std.proofs.lemmas.List.{map-append}
 use Rattle.std.proofs.lemmas.Result.{IfOk-weaker}
 use Rattle.cjc_world.specs.Classes.{all_classes}
 use Rattle.cjc_world.specs.Interfaces.{gathered}
-use Rattle.cjc_world.specs.Kin.{kin}
+use Rattle.cjc_world.specs.Supertypes.{supertypes}
 use Rattle.cjc_world.specs.Working.Known.{class_of}
 use Rattle.cjc_supers.specs.Supers.{each_once, name_of}
 use Rattle.cjc_supers.specs.Working.Walk.{Seen, interfaces_from, with_all}
@@ -16,8 +16,8 @@ pub returns : goal.returns
 returns c =
     let w = all_classes c.args.world.now in
     let class = class_of c.args.class in
-    let first = gathered false (kin w class.supers) in
-    let second = gathered true (kin w class.interfaces) in
+    let first = gathered false (supertypes w class.supers) in
+    let second = gathered true (supertypes w class.interfaces) in
     IfOk-weaker c.copies.result _ _ (λ names is.
     is
     ∙ (c.in_ok-put_interfaces-2.ensures.put

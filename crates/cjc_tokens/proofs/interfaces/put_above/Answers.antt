@@ -14,8 +14,8 @@ returns c =
     let w = all_classes c.args.world.now in
     let k = class_of c.args.class in
     let old = signs c.args.row.now.items in
-    let is_kin = c.lookup_laws.ensures.is_kin w c.acyclic.ensures in
+    let are_supertypes = c.lookup_laws.ensures.are_supertypes w c.acyclic.ensures in
     c.in_ok-put_places.ensures
     ∙ ap (λ ps. with_new old (map signature_of (methods_of (at_places w ps)))) c.items.ensures
     ∙ ap (λ cs. with_new old (map signature_of (methods_of cs))) c.in_ok-places.ensures
-    ∙ asked-once w k.supers k.interfaces (is_kin k.supers) (is_kin k.interfaces) old
+    ∙ asked-once w k.supers k.interfaces (are_supertypes k.supers) (are_supertypes k.interfaces) old

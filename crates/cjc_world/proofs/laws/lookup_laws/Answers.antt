@@ -1,4 +1,4 @@
-use Rattle.cjc_world.proofs.Settled.{kin-IsKin, IsKin-one}
+use Rattle.cjc_world.proofs.Settled.{supertypes-AreSupertypes, AreSupertypes-one}
 use Rattle.cjc_world.proofs.Unbroken.{unbroken_is_acyclic}
 use Rattle.cjc_world.proofs.Upwards.{line_goes_up, selection_goes_up, lookup_goes_up}
 use Rattle.cjc_world.proofs.laws.lookup_laws.Goals as goal
@@ -6,11 +6,11 @@ use Rattle.cjc_world.proofs.laws.lookup_laws.Goals as goal
 pub returns-clause-acyclic : goal.returns-clause-acyclic
 returns-clause-acyclic c = unbroken_is_acyclic
 
-pub returns-clause-is_kin : goal.returns-clause-is_kin
-returns-clause-is_kin c = kin-IsKin
+pub returns-clause-are_supertypes : goal.returns-clause-are_supertypes
+returns-clause-are_supertypes c = supertypes-AreSupertypes
 
-pub returns-clause-one_kin : goal.returns-clause-one_kin
-returns-clause-one_kin c = IsKin-one
+pub returns-clause-one_supertypes : goal.returns-clause-one_supertypes
+returns-clause-one_supertypes c = AreSupertypes-one
 
 pub returns-clause-line : goal.returns-clause-line
 returns-clause-line c = line_goes_up

@@ -3,7 +3,7 @@ use Rattle.std.specs.Prelude.{IfOk, option_map, if◌then◌else◌}
 use Rattle.std.proofs.lemmas.Result.{IfOk-weaker}
 use Rattle.cjc_script.specs.declared.report.Outcome.TheVariants.{Unfit}
 use Rattle.cjc_acts.specs.Meant.{sort_meant}
-use Rattle.cjc_bytecode.specs.Machine.{Ended, answered, replied}
+use Rattle.cjc_bytecode.specs.Machine.{Ended, turn_after_answer, turn_after_reply}
 use Rattle.cjc_card.specs.ByToken.{by_token}
 use Rattle.cjc_card_deeds.specs.Deeds.{memory}
 use Rattle.cjc_card_acts.specs.States.{FrameByToken, StateByToken}
@@ -24,11 +24,11 @@ returns-then-branch-clause-next g c =
     let v : StateByToken = record { frames = i.callers; memory = memory i.heap i.statics; entries = i.entries.now; answers = i.answers.now; notes = i.notes; spent = i.spent } in
     let next : i.answers.now ≡ a ∷ rest = c.in-Some.ensures.cases.0 in
     let acts = rw c.items.ensures at c.in_ok-perform.ensures.acts in
-    subst (λ (s : StateByToken). IfOk c.reply.result (λ after. (had : List FrameByToken) → Leads had (answered (by_token l) s.answers result f s.frames (with_frames had s)) after c.reply.new.self)) c.self.view_is
+    subst (λ (s : StateByToken). IfOk c.reply.result (λ after. (had : List FrameByToken) → Leads had (turn_after_answer (by_token l) s.answers result f s.frames (with_frames had s)) after c.reply.new.self)) c.self.view_is
     (IfOk-weaker c.reply.result _ _ (λ after h. λ had.
     leads_as had _ _ after c.reply.new.self
     (answer_by l a rest result f i.callers v heap c.in_ok-perform.field-0 next acts had
-    ∙ ap (λ done. if done then replied (by_token l) a.reply a.number result f i.callers (with_answer l rest heap had v) else Ended (Unfit a.number) (with_answer l rest heap had v)) c.if-branch.true)
+    ∙ ap (λ done. if done then turn_after_reply (by_token l) a.reply a.number result f i.callers (with_answer l rest heap had v) else Ended (Unfit a.number) (with_answer l rest heap had v)) c.if-branch.true)
     (h had)) c.reply.ensures.next)
 
 pub returns-else-branch-clause-next : goal.returns-else-branch-clause-next
@@ -43,7 +43,7 @@ returns-else-branch-clause-next g c =
     let v : StateByToken = record { frames = i.callers; memory = memory i.heap i.statics; entries = i.entries.now; answers = i.answers.now; notes = i.notes; spent = i.spent } in
     let next : i.answers.now ≡ a ∷ rest = c.in-Some.ensures.cases.0 in
     let acts = rw c.items.ensures at c.in_ok-perform.ensures.acts in
-    subst (λ (s : StateByToken). (had : List FrameByToken) → answered (by_token l) s.answers result f s.frames (with_frames had s) ≡ Ended (Unfit a.number) (with_answer l rest heap had v)) c.self.view_is
+    subst (λ (s : StateByToken). (had : List FrameByToken) → turn_after_answer (by_token l) s.answers result f s.frames (with_frames had s) ≡ Ended (Unfit a.number) (with_answer l rest heap had v)) c.self.view_is
     (λ had.
     answer_by l a rest result f i.callers v heap c.in_ok-perform.field-0 next acts had
-    ∙ ap (λ done. if done then replied (by_token l) a.reply a.number result f i.callers (with_answer l rest heap had v) else Ended (Unfit a.number) (with_answer l rest heap had v)) c.if-branch.false)
+    ∙ ap (λ done. if done then turn_after_reply (by_token l) a.reply a.number result f i.callers (with_answer l rest heap had v) else Ended (Unfit a.number) (with_answer l rest heap had v)) c.if-branch.false)

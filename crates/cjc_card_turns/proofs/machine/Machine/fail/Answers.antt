@@ -1,7 +1,7 @@
 use Rattle.std.proofs.Common.{sym, ap, ◌∙◌}
 use Rattle.std.specs.Prelude.{Option}
 use Rattle.std.proofs.lemmas.Result.{IfOk-weaker}
-use Rattle.cjc_bytecode.specs.Machine.{StuckAt, raised}
+use Rattle.cjc_bytecode.specs.Machine.{StuckAt, turn_after_raise}
 use Rattle.cjc_card.specs.Classes.{Class}
 use Rattle.cjc_card.specs.ByToken.{by_token}
 use Rattle.cjc_card_acts.specs.States.{FrameByToken}
@@ -17,7 +17,7 @@ returns-in-Some-clause-next g c =
     let f = c.args.frame in
     IfOk-weaker c.raise.result _ _ (λ after h. λ had.
     leads_as had _ _ after c.raise.new.self
-    (ap (λ (o : Option Class). raised (by_token l) o f s.frames (with_frames had s) (StuckAt f.at (with_frames had s))) (sym c.in-Some.ensures))
+    (ap (λ (o : Option Class). turn_after_raise (by_token l) o f s.frames (with_frames had s) (StuckAt f.at (with_frames had s))) (sym c.in-Some.ensures))
     (h had (StuckAt f.at (with_frames had s)))) c.raise.ensures.next
 
 pub returns-in-None-clause-next : goal.returns-in-None-clause-next
@@ -27,5 +27,5 @@ returns-in-None-clause-next g c =
     let s = c.args.self.now in
     let f = c.args.frame in
     λ had.
-    ap (λ (o : Option Class). raised (by_token l) o f s.frames (with_frames had s) (StuckAt f.at (with_frames had s))) (sym c.in-None.ensures)
+    ap (λ (o : Option Class). turn_after_raise (by_token l) o f s.frames (with_frames had s) (StuckAt f.at (with_frames had s))) (sym c.in-None.ensures)
     ∙ ap (λ (h : FrameByToken). StuckAt h.at (with_frames had s)) (sym c.frame.view_is)

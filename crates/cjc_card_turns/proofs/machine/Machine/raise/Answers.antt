@@ -2,7 +2,7 @@ use Rattle.std.proofs.Common.{◌≡◌, ◌∙◌, [], List, ap, map, refl, sub
 use Rattle.std.specs.Prelude.{IfOk, Some}
 use Rattle.std.proofs.lemmas.Result.{IfOk-weaker}
 use Rattle.cjc_script.specs.Sorts.{OfClass}
-use Rattle.cjc_bytecode.specs.Machine.{raised, with_heap}
+use Rattle.cjc_bytecode.specs.Machine.{turn_after_raise, with_heap}
 use Rattle.cjc_card.specs.ByToken.{by_token}
 use Rattle.cjc_bytecode.specs.Effects.{Object}
 use Rattle.cjc_card_heap.specs.declared.slots.Slot.{Slot}
@@ -22,5 +22,5 @@ returns-clause-next g c =
     let v : StateByToken = record { frames = i.callers; memory = memory i.heap i.statics; entries = i.entries.now; answers = i.answers.now; notes = i.notes; spent = i.spent } in
     let bare : c.object.result ≡ Object class [] = c.object.ensures ∙ ap (λ (slots : List Slot). Object class (map slot_by slots)) c.new.ensures.items in
     let exit : StateByToken = with_thrown c.throw.new.callers c.throw.new.notes (with_heap (by_token l) c.push.new.self v) in
-    subst (λ (s : StateByToken). IfOk c.throw.result (λ after. (had : List FrameByToken) (otherwise : TurnByToken) → Leads had (raised (by_token l) (Some class) f s.frames (with_frames had s) otherwise) after exit)) c.self.view_is
+    subst (λ (s : StateByToken). IfOk c.throw.result (λ after. (had : List FrameByToken) (otherwise : TurnByToken) → Leads had (turn_after_raise (by_token l) (Some class) f s.frames (with_frames had s) otherwise) after exit)) c.self.view_is
     (IfOk-weaker c.throw.result _ _ (λ after h. λ had otherwise. raised_by l f v c.len-object.result (OfClass class) c.throw.new.callers c.throw.new.notes after h had class otherwise c.push.new.self c.object.result refl c.in_ok-push.ensures bare c.len-object.ensures) c.throw.ensures)

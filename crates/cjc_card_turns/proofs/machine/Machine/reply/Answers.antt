@@ -4,7 +4,7 @@ use Rattle.std.proofs.lemmas.Result.{IfOk-weaker}
 use Rattle.cjc_script.specs.declared.script.Reply.{Reply}
 use Rattle.cjc_script.specs.declared.report.Outcome.TheVariants.{Unfit}
 use Rattle.cjc_acts.specs.Meant.{sort_meant}
-use Rattle.cjc_bytecode.specs.Machine.{Ended, raised, replied}
+use Rattle.cjc_bytecode.specs.Machine.{Ended, turn_after_raise, turn_after_reply}
 use Rattle.cjc_card.specs.Classes.{Class}
 use Rattle.cjc_card.specs.Calls.{throwable}
 use Rattle.cjc_card.specs.ByToken.{by_token}
@@ -23,8 +23,8 @@ returns-in-Some-clause-next g c =
     let class = c.in-Some.ensures ∙ ap (λ (name : List ℕ). throwable l name) c.items.ensures in
     IfOk-weaker c.raise.result _ _ (λ after h. λ had.
     leads_as had _ _ after c.raise.new.self
-    (ap (λ (r : Reply). replied (by_token l) r a.number result f s.frames (with_frames had s)) c.in-Throw.is
-    ∙ ap (λ (o : Option Class). raised (by_token l) o f s.frames (with_frames had s) (Ended (Unfit a.number) (with_frames had s))) (sym class))
+    (ap (λ (r : Reply). turn_after_reply (by_token l) r a.number result f s.frames (with_frames had s)) c.in-Throw.is
+    ∙ ap (λ (o : Option Class). turn_after_raise (by_token l) o f s.frames (with_frames had s) (Ended (Unfit a.number) (with_frames had s))) (sym class))
     (h had (Ended (Unfit a.number) (with_frames had s)))) c.raise.ensures.next
 
 pub returns-in-None-clause-next : goal.returns-in-None-clause-next
@@ -37,5 +37,5 @@ returns-in-None-clause-next g c =
     let result = option_map sort_meant c.args.sort in
     let none = c.in-None.ensures ∙ ap (λ (name : List ℕ). throwable l name) c.items.ensures in
     λ had.
-    ap (λ (r : Reply). replied (by_token l) r a.number result f s.frames (with_frames had s)) c.in-Throw.is
-    ∙ ap (λ (o : Option Class). raised (by_token l) o f s.frames (with_frames had s) (Ended (Unfit a.number) (with_frames had s))) (sym none)
+    ap (λ (r : Reply). turn_after_reply (by_token l) r a.number result f s.frames (with_frames had s)) c.in-Throw.is
+    ∙ ap (λ (o : Option Class). turn_after_raise (by_token l) o f s.frames (with_frames had s) (Ended (Unfit a.number) (with_frames had s))) (sym none)

@@ -1,7 +1,7 @@
 use Rattle.std.proofs.Common.{List, subst}
 use Rattle.std.specs.Prelude.{IfOk, slice_get}
 use Rattle.std.proofs.lemmas.Result.{IfOk-weaker}
-use Rattle.cjc_bytecode.specs.Machine.{tossed}
+use Rattle.cjc_bytecode.specs.Machine.{turn_after_toss}
 use Rattle.cjc_card.specs.ByToken.{by_token}
 use Rattle.cjc_card_heap.specs.Objects.{shape_of}
 use Rattle.cjc_card_deeds.specs.Deeds.{memory}
@@ -17,5 +17,5 @@ returns-in-Some-clause-next g c =
     let f = c.args.frame in
     let v : StateByToken = record { frames = i.callers; memory = memory i.heap i.statics; entries = i.entries.now; answers = i.answers.now; notes = i.notes; spent = i.spent } in
     let exit : StateByToken = with_thrown c.throw.new.callers c.throw.new.notes v in
-    subst (λ (s : StateByToken). IfOk c.throw.result (λ after. (had : List FrameByToken) → Leads had (tossed (by_token l) (slice_get (heap_of s) c.args.object) f s.frames c.args.object (with_frames had s)) after exit)) c.self.view_is
+    subst (λ (s : StateByToken). IfOk c.throw.result (λ after. (had : List FrameByToken) → Leads had (turn_after_toss (by_token l) (slice_get (heap_of s) c.args.object) f s.frames c.args.object (with_frames had s)) after exit)) c.self.view_is
     (IfOk-weaker c.throw.result _ _ (λ after h. λ had. tossed_by l f v c.args.object (shape_of c.in-Some.kind) c.throw.new.callers c.throw.new.notes after h had (slice_get i.heap c.args.object) c.in-Some.ensures) c.throw.ensures)

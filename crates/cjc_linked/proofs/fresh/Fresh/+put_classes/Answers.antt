@@ -3,10 +3,10 @@ use Rattle.std.specs.Prelude.{Some}
 use Rattle.std.proofs.lemmas.List.{take_rest}
 use Rattle.std.proofs.lemmas.Result.{on_ok_weaker}
 use Rattle.cjc_world.specs.Classes.{all_classes, class_named}
-use Rattle.cjc_world.specs.Kin.{kin}
+use Rattle.cjc_world.specs.Supertypes.{supertypes}
 use Rattle.cjc_world.specs.Working.Known.{class_of}
 use Rattle.cjc_linked.specs.Fresh.{fresh_in, Has, HasClass, HasEach}
-use Rattle.cjc_linked.proofs.Heights.{kin_size, size_rest, size_supers}
+use Rattle.cjc_linked.proofs.Heights.{supertypes_size, size_rest, size_supers}
 use Rattle.cjc_linked.proofs.Keeping.{first_of_all, has_some, both_ok, keeps_each}
 use Rattle.cjc_linked.proofs.fresh.Fresh.+put_classes.Goals as goal
 
@@ -16,9 +16,9 @@ put_classes-requires t c =
     let names = c.args.names.now in
     let name = c.name-item.result in
     let are : names ≡ name ∷ drop 1 names = first_of_all names name c.in-len1-up.len_at_least c.name-item.is in
-    let less : kin_size (kin w (drop 1 names)) < kin_size (kin w names) = subst (λ ns. kin_size (kin w (drop 1 names)) < kin_size (kin w ns)) (sym are) (size_rest w c.acyclic.ensures name (drop 1 names)) in
-    let here : kin_size (kin w (take (length names - 1) (drop 1 names))) < kin_size (kin w names) = subst (λ ns. kin_size (kin w ns) < kin_size (kin w names)) (sym (take_rest names 1)) less in
-    (subst (λ m. kin_size (kin w (take (length names - 1) (drop 1 names))) < m) c.decreases here, c.requires.fresh)
+    let less : supertypes_size (supertypes w (drop 1 names)) < supertypes_size (supertypes w names) = subst (λ ns. supertypes_size (supertypes w (drop 1 names)) < supertypes_size (supertypes w ns)) (sym are) (size_rest w c.acyclic.ensures name (drop 1 names)) in
+    let here : supertypes_size (supertypes w (take (length names - 1) (drop 1 names))) < supertypes_size (supertypes w names) = subst (λ ns. supertypes_size (supertypes w ns) < supertypes_size (supertypes w names)) (sym (take_rest names 1)) less in
+    (subst (λ m. supertypes_size (supertypes w (take (length names - 1) (drop 1 names))) < m) c.decreases here, c.requires.fresh)
 
 pub returns-then-is_some-clause-has : goal.returns-then-is_some-clause-has
 returns-then-is_some-clause-has t c =
@@ -39,9 +39,9 @@ put_classes-requires-in-len1-up t c =
     let class = class_of c.in-Some.class in
     let are : names ≡ name ∷ drop 1 names = first_of_all names name c.in-len1-up.len_at_least c.name-item.is in
     let named : class_named w name ≡ Some class = ap (class_named w) (sym c.items-in-len1-up.ensures) ∙ sym c.in-Some.ensures.named in
-    let less : kin_size (kin w class.supers) < kin_size (kin w names) = subst (λ ns. kin_size (kin w class.supers) < kin_size (kin w ns)) (sym are) (size_supers w c.acyclic.ensures name (drop 1 names) class named) in
-    let here : kin_size (kin w c.supers.result.now) < kin_size (kin w names) = subst (λ ns. kin_size (kin w ns) < kin_size (kin w names)) (sym c.supers.ensures) less in
-    (subst (λ m. kin_size (kin w c.supers.result.now) < m) c.decreases here, c.in_ok-put_classes-in-len1-up.ensures.fresh)
+    let less : supertypes_size (supertypes w class.supers) < supertypes_size (supertypes w names) = subst (λ ns. supertypes_size (supertypes w class.supers) < supertypes_size (supertypes w ns)) (sym are) (size_supers w c.acyclic.ensures name (drop 1 names) class named) in
+    let here : supertypes_size (supertypes w c.supers.result.now) < supertypes_size (supertypes w names) = subst (λ ns. supertypes_size (supertypes w ns) < supertypes_size (supertypes w names)) (sym c.supers.ensures) less in
+    (subst (λ m. supertypes_size (supertypes w c.supers.result.now) < m) c.decreases here, c.in_ok-put_classes-in-len1-up.ensures.fresh)
 
 pub returns-in_ok-put_classes-in-len1-up-2-clause-keeps : goal.returns-in_ok-put_classes-in-len1-up-2-clause-keeps
 returns-in_ok-put_classes-in-len1-up-2-clause-keeps t c =

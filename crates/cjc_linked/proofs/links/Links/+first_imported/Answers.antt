@@ -1,11 +1,11 @@
 use Rattle.std.proofs.Common.{◌≡◌, ◌<◌, ◌∙◌, ap, sym, subst, refl, [], ◌∷◌}
 use Rattle.std.specs.Prelude.{Some, None}
 use Rattle.cjc_world.specs.Classes.{all_classes, class_named, declared, imported}
-use Rattle.cjc_world.specs.Kin.{IsAcyclic, kin, line}
+use Rattle.cjc_world.specs.Supertypes.{IsAcyclic, supertypes, line}
 use Rattle.cjc_world.specs.Working.Known.{class_of}
 use Rattle.cjc_by_name.specs.OnePackage.{first_imported}
 use Rattle.cjc_linked.proofs.Calling.{imported_here, imported_nowhere, declared_above}
-use Rattle.cjc_linked.proofs.Heights.{kin_size, size_supers}
+use Rattle.cjc_linked.proofs.Heights.{supertypes_size, size_supers}
 use Rattle.cjc_linked.proofs.links.Links.+first_imported.Goals as goal
 
 pub returns-in_default : goal.returns-in_default
@@ -24,9 +24,9 @@ first_imported-requires t c =
     let class = c.in-Declared.class.now in
     let above = c.items-in-Declared.result.now in
     let named : class_named w name ≡ Some (declared c.in-Declared.field-0 class) = ap (λ f. class_named (all_classes f) name) (sym files) ∙ sym c.in-Some.ensures.named ∙ ap (λ k. Some (class_of k)) c.in-Declared.is in
-    let less : kin_size (kin w (class.superclass ∷ [])) < kin_size (kin w (name ∷ [])) = size_supers w acyclic name [] (declared c.in-Declared.field-0 class) named in
-    let here : kin_size (kin w (above ∷ [])) < kin_size (kin w (name ∷ [])) = subst (λ n. kin_size (kin w (n ∷ [])) < kin_size (kin w (name ∷ []))) (sym c.items-in-Declared.ensures) less in
-    (subst (λ m. kin_size (kin w (above ∷ [])) < m) c.decreases here, tt)
+    let less : supertypes_size (supertypes w (class.superclass ∷ [])) < supertypes_size (supertypes w (name ∷ [])) = size_supers w acyclic name [] (declared c.in-Declared.field-0 class) named in
+    let here : supertypes_size (supertypes w (above ∷ [])) < supertypes_size (supertypes w (name ∷ [])) = subst (λ n. supertypes_size (supertypes w (n ∷ [])) < supertypes_size (supertypes w (name ∷ []))) (sym c.items-in-Declared.ensures) less in
+    (subst (λ m. supertypes_size (supertypes w (above ∷ [])) < m) c.decreases here, tt)
 
 pub returns-in-Imported : goal.returns-in-Imported
 returns-in-Imported t c =

@@ -1,8 +1,0 @@
-use Rattle.std.proofs.Common.{◌≡◌, drop}
-use Rattle.cjc_bytes.specs.declared.names.Spot.TheVariants as spots
-use Rattle.cjc_bytes.specs.Spots.{bad_at}
-use Rattle.cjc_bytes.proofs.DescriptorRead.{shifted}
-use Rattle.cjc_bytes.proofs.names.first_bad.Given as goal
-
-abbrev pub invariant-loop-at : goal.invariant-loop-at
-invariant-loop-at l = shifted l.at (bad_at l.spot (drop l.at l.bytes)) ≡ bad_at spots.Start l.bytes

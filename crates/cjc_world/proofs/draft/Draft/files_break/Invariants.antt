@@ -1,9 +1,0 @@
-use Rattle.std.proofs.Common.{◌≡◌, drop}
-use Rattle.cjc_world.specs.Classes.{all_classes}
-use Rattle.cjc_world.specs.Rules.{head, breaks_from}
-use Rattle.cjc_world.proofs.draft.Draft.files_break.Given as goal
-
-abbrev pub invariant-loop-place : goal.invariant-loop-place
-invariant-loop-place l =
-    head (breaks_from l.self (all_classes l.self) l.place l.classes l.exports l.imports (drop l.place l.self.lines))
-    ≡ head (breaks_from l.self (all_classes l.self) 0 0 0 0 l.self.lines)

@@ -1,6 +1,0 @@
-use Rattle.cjc_world.specs.Classes.{all_classes}
-use Rattle.cjc_world.specs.Working.Tables.{Closer}
-use Rattle.cjc_world.proofs.roster.Roster.pass_back.Given as goal
-
-abbrev pub invariant-loop-left : goal.invariant-loop-left
-invariant-loop-left l = Closer (all_classes l.self) l.initial.rows.items l.rows.items 0 0
