@@ -238,7 +238,8 @@ fn are_alike(left: &[Part], right: &[Part]) -> bool
     true
 }
 
-/// The cells of a part joined in turn with those of another of this height. Where that is one of the two, it stays shared.
+/// The cells of a part joined in turn with those of another of this height. Where that is one of the two, it stays
+/// shared.
 fn joined_part(alloc: Global, left: &Part, right: &Part) -> Result<Part, NoMemory>
     requires sized { length left.now ≡ length right.now }
     requires left { All IsCell left.now }
