@@ -3,7 +3,7 @@ use Rattle.std.specs.FinMap.{empty}
 use Rattle.cjc_command.specs.Publish.{written_files}
 use Rattle.cjc_make_report.specs.Package.{package_files}
 use Rattle.cjc_make_report.proofs.Files.{package_added, with_one}
-use Rattle.cjc_shelf.specs.Memory.{files_of}
+use Rattle.cjc_shelf.specs.Memory.{clean_shelved, files_of}
 use Rattle.cjc_make_report.proofs.shelf.package_shelf.Goals as goal
 
 pub returns : goal.returns
@@ -11,6 +11,6 @@ returns c =
     let list = rw c.items.ensures at c.in_ok-add.ensures.ok in
     let named = rw c.items-2.ensures at c.in_ok-add_named.ensures in
     let script = rw c.items-3.ensures at c.in_ok-add-2.ensures.ok in
-    package_added c.in_ok-made.made _ _ _ _ (with_one _ _ _ _ list) named (with_one _ _ _ _ script)
-    ∙ ap (written_files (package_files c.in_ok-made.made)) (ap files_of c.new.ensures)
+    package_added c.in_ok-made.made _ _ _ _ (with_one (clean_shelved c.new-shelf.result) _ _ _ list) named (with_one (clean_shelved c.add_named.new.shelf) _ _ _ script)
+    ∙ ap (written_files (package_files c.in_ok-made.made)) (ap files_of c.new-shelf.ensures)
     ∙ ap (λ made. written_files (package_files made) empty) c.in_ok-made.ensures
