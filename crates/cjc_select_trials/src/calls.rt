@@ -9,7 +9,7 @@
 
 use crate::fits::can_be_selected;
 use cjc_bytes::{Bytes, NoMemory, Row};
-use cjc_cases::{class, code, cut, flags, octets, package, pool, question_and_answer, text};
+use cjc_cases::{code, cut, flags, octets, package, pool, question_and_answer, text};
 use cjc_classfile::{ClassTree, Code, MethodTree};
 use cjc_code::decode_method;
 use cjc_keys::{Key, Numbers, number};
@@ -112,10 +112,18 @@ fn method_of<'t>(alloc: Global, words: &str, bytes: &'t [u8]) -> Result<MethodTr
 
 /// p/T with the one method.
 fn holder<'t>(alloc: Global, words: &str, bytes: &'t [u8]) -> Result<ClassTree<'t>, NoMemory> {
-    let mut holder = class(alloc, "21 p/T p/M -")?;
-    holder.pool = pool(alloc, POOL)?;
-    holder.methods.push(method_of(alloc, words, bytes)?)?;
-    Ok(holder)
+    let mut methods = Row::new(alloc);
+    methods.push(method_of(alloc, words, bytes)?)?;
+    Ok(ClassTree {
+        major: 52,
+        flags: 0x21,
+        name: text(alloc, "p/T")?,
+        superclass: text(alloc, "p/M")?,
+        interfaces: Row::new(alloc),
+        pool: pool(alloc, POOL)?,
+        fields: Row::new(alloc),
+        methods,
+    })
 }
 
 /// Which of so many instructions are reached.
