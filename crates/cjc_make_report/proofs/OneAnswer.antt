@@ -1,7 +1,7 @@
 -- A number and a size decide one answer.
 use Rattle.std.proofs.Common.{◌≡◌, ℕ, List, [], ◌∷◌, refl, sym, subst, ◌∙◌}
 use Rattle.cjc_bytes.specs.declared.fault.Refusal.{Refusal}
-use Rattle.cjc_command.specs.Plan.{complete, refused}
+use Rattle.cjc_command.specs.Plan.{Verdict, complete, refused}
 use Rattle.cjc_command.specs.declared.status.Todo.{Todo}
 use Rattle.cjc_conversion.specs.Conversion.{Conversion, IsConverted, IsRefused}
 use Rattle.cjc_judge.specs.Rules.{IsFirstRefused}
@@ -25,7 +25,7 @@ module _ (one : IsRefusedOnce) (never : IsNeverBoth) (number size : ℕ) where
   same_input a b e f = let both : complete a ≡ complete b = sym e ∙ f in cc
 
   same_refusal : (r s : Refusal) → reads_end (made_files number size) ≡ refused r → reads_end (made_files number size) ≡ refused s → r ≡ s
-  same_refusal r s e f = let both : refused {X = Input} r ≡ refused s = sym e ∙ f in cc
+  same_refusal r s e f = let both : ◌≡◌ {A = Verdict Input} (refused r) (refused s) = sym e ∙ f in cc
 
   not_refused : (input : Input) (r : Refusal) → reads_end (made_files number size) ≡ complete input → reads_end (made_files number size) ≡ refused r → ⊥
   not_refused input r e f = let both : complete input ≡ refused r = sym e ∙ f in cc

@@ -1,5 +1,5 @@
 -- What `make NUMBER SIZE` prints: the summary of the package that is made, of its conversion, and of its runs by name and by token.
-use Rattle.std.specs.Prelude.{◌≡◌, ℕ, List, [], map, Result, Ok, Err}
+use Rattle.std.specs.Prelude.{◌≡◌, ℕ, [], map, Result, Ok, Err}
 use Rattle.cjc_bytes.specs.declared.fault.Refusal.{Refusal}
 use Rattle.cjc_card_report.specs.Runs as card_runs
 use Rattle.cjc_card_running.specs.Reads.{plan_of_card}

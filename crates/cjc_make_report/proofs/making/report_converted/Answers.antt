@@ -7,7 +7,7 @@ use Rattle.cjc_make_report.proofs.making.report_converted.Goals as goal
 pub returns-clause-made : goal.returns-clause-made
 returns-clause-made c =
     let put = rw c.items-2.ensures at c.in_ok-add_converted.ensures in
-    let size = c.size_item.ensures ∙ ap size_item c.items.ensures in
+    let size = c.size_item-method_bytes.ensures ∙ ap size_item c.items.ensures in
     record {
       by_name = c.in_ok-by_name.by_name;
       is_by_name = c.in_ok-by_name.ensures.report;
