@@ -1,7 +1,7 @@
 //! The files of a conversion below a folder, and the lines to print of them. Called by whoever publishes a conversion.
 
 ghost use Rattle.std.specs.Prelude.{◌≡◌, ◌++◌, ◌∷◌, [], codes, IfOk};
-ghost use Rattle.cjc_publication.specs.Publication.{last_part as last_part_lem, files_made as files_lem, named, where_there, file_line, publication as publication_lem, with_files};
+ghost use Rattle.cjc_publication.specs.Publication.{last_part, files_made, named, where_there, file_line, publication, with_files};
 
 use cjc_bytes::{Bytes, NoMemory, Out, Row};
 use cjc_capwrite::CapFiles;
@@ -18,7 +18,7 @@ pub fn publication(
     mut caps: CapFiles,
     mut export: Bytes,
 ) -> Result<Todo, NoMemory>
-    ensures { IfOk result (λ todo. todo ≡ publication_lem dir.now (files_lem package_name.now caps export)) }
+    ensures { IfOk result (λ todo. todo ≡ publication dir.now (files_made package_name.now caps export)) }
 {
     let name = export_name(alloc, package_name)?;
     let mut todo = Todo {
@@ -53,7 +53,7 @@ pub fn publication(
 }
 
 fn last_part(name: &[u8]) -> &[u8]
-    ensures { result.now ≡ last_part_lem name.now }
+    ensures { result.now ≡ last_part name.now }
 {
     let mut part = name;
     let mut left = name;
@@ -100,7 +100,7 @@ fn put_where_there(
 }
 
 fn export_name(alloc: Global, package_name: &[u8]) -> Result<Bytes, NoMemory>
-    ensures { IfOk result (λ name. name ≡ last_part_lem package_name.now ++ codes ".exp") }
+    ensures { IfOk result (λ name. name ≡ last_part package_name.now ++ codes ".exp") }
 {
     let mut name = Out::new(alloc);
     name.put_slice(last_part(package_name))?;

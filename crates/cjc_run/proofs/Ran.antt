@@ -1,7 +1,6 @@
 -- A run of class files that is done keeps its promise.
 use Rattle.std.proofs.Common.{◌≡◌, ℕ, List, [], ◌∷◌, ◌++◌, Option, Some, None, IfSome, ap, ◌∙◌}
 use Rattle.std.proofs.lemmas.List.{append-nil}
-use Rattle.std.specs.Prelude.{Ok}
 use Rattle.cjc_command.specs.Answer.{IsReady}
 use Rattle.cjc_command.specs.Plan.{EndsBy, complete}
 use Rattle.cjc_command.specs.Publish.{IsPrinted, IsWritten, text_of, written_files}

@@ -7,7 +7,7 @@ use Rattle.cjc_command.specs.declared.status.File.{File}
 use Rattle.cjc_command.specs.Publish.{written_files, IsNew, AreDistinct, Stand}
 use Rattle.cjc_command.proofs.Published.{written_stand}
 use Rattle.cjc_capwrite.specs.declared.files.CapFiles.{CapFiles}
-use Rattle.cjc_publication.specs.Publication.{named, below, last_part, files_made}
+use Rattle.cjc_publication.specs.Publication.{below, last_part, files_made}
 
 -- ---- names
 
