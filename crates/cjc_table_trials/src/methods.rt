@@ -7,7 +7,8 @@ ghost use Rattle.cjc_types.specs.Tables.{IsOfPackage};
 
 use crate::words::{cut, is_number, number, octet, question_and_answer, small_number};
 use cjc_bytes::{Bytes, Fault, FileLine, NoMemory, Row};
-use cjc_classfile::{Catch, ClassTree, Code, ItemKind, MemberText, MethodTree, PoolItem};
+use cjc_cases::pool;
+use cjc_classfile::{Catch, ClassTree, Code, MethodTree};
 use cjc_code::{MethodCode, decode};
 use cjc_export::{ExportClass, ExportTree};
 use cjc_types::{Cell, Frame, Method, TypeTable, TypeWalk, infer};
@@ -99,39 +100,6 @@ fn language(alloc: Global) -> Result<ExportTree, NoMemory> {
     })
 }
 
-fn member(words: &str) -> MemberText<'_> {
-    let (class, words) = cut(words, " ");
-    let (name, desc) = cut(words, " ");
-    MemberText {
-        class: class.as_bytes(),
-        name: name.as_bytes(),
-        desc: desc.as_bytes(),
-    }
-}
-
-fn pool_item(line: &str) -> Result<PoolItem<'_>, NoMemory> {
-    let (kind, words) = cut(line, " ");
-    let kind = match kind {
-        "class" => ItemKind::Class(words.as_bytes()),
-        "field" => ItemKind::Field(member(words)),
-        "method" => ItemKind::Method(member(words)),
-        "interface" => ItemKind::InterfaceMethod(member(words)),
-        _ => return Err(NoMemory),
-    };
-    Ok(PoolItem { kind })
-}
-
-fn pool<'t>(alloc: Global) -> Result<Row<PoolItem<'t>>, NoMemory> {
-    let mut pool = Row::new(alloc);
-    pool.push(PoolItem {
-        kind: ItemKind::Other,
-    })?;
-    for line in POOL.lines() {
-        pool.push(pool_item(line)?)?;
-    }
-    Ok(pool)
-}
-
 /// The handler of these words: where it begins, ends and goes.
 fn handler(words: &str) -> Result<Catch, NoMemory> {
     let (start, words) = cut(words, " ");
@@ -200,7 +168,7 @@ fn class<'t>(alloc: Global, line: &str, draft: TestMethod<'t>) -> Result<ClassTr
         name: text(alloc, name)?,
         superclass: text(alloc, "java/lang/Object")?,
         interfaces: texts(alloc, interfaces)?,
-        pool: pool(alloc)?,
+        pool: pool(alloc, POOL)?,
         fields: Row::new(alloc),
         methods: methods(alloc, name, draft)?,
     })
