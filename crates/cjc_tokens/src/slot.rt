@@ -112,8 +112,8 @@ fn method_place(methods: &[MethodTree<'_>], hidden: bool, name: &[u8], desc: &[u
     ensures { result ≡ position (λ m. is_kind hidden m.flags m.name && (bytes_eq m.name name.now && bytes_eq m.desc desc.now)) methods.now }
 {
     methods.iter().position(|m| {
-        is_of_kind(hidden, m.flags, m.name.items())
-            && (m.name.items() == name && m.desc.items() == desc)
+        (m.name.items() == name && m.desc.items() == desc)
+            && is_of_kind(hidden, m.flags, m.name.items())
     })
 }
 
