@@ -1,5 +1,5 @@
 -- The summary of a package and of its two runs.
-use Rattle.std.specs.Prelude.{ℕ, ◌+◌, ◌*◌, List, [], ◌∷◌, ◌++◌, codes, decimal, count_by, bytes_eq, Bool, true, false, Some, pos}
+use Rattle.std.specs.Prelude.{ℕ, ◌+◌, ◌*◌, List, [], ◌∷◌, ◌++◌, codes, decimal, count_by, filter_map, bytes_eq, Bool, true, false, Option, None, pos}
 use Rattle.cjc_script.specs.declared.report.Note.{Note}
 use Rattle.cjc_script.specs.declared.report.Note.TheVariants as notes
 use Rattle.cjc_script.specs.declared.report.Report.{Report}
@@ -17,19 +17,19 @@ abbrev pub is_result : Note → Bool
 is_result (notes.Result value) = true
 is_result note = false
 
--- the value of a result; of another note the value before it
-abbrev pub result_or : Value → Note → Value
-result_or before (notes.Result (Some value)) = value
-result_or before note = before
+-- the value that an entry ended with, where it ended with one
+abbrev pub value_of : Note → Option Value
+value_of (notes.Result value) = value
+value_of note = None
 
--- the value of the last result; the value before these notes where there is none
-abbrev pub last_from : Value → List Note → Value
-last_from before [] = before
-last_from before (note ∷ more) = last_from (result_or before note) more
+-- the last of these values; the one before them where there are none
+abbrev pub last_value : Value → List Value → Value
+last_value before [] = before
+last_value before (value ∷ more) = last_value value more
 
--- the value of the last result, 0 where there is none
+-- the value of the last result that has one, 0 where none has
 abbrev pub last_result : List Note → Value
-last_result all = last_from (Num (pos 0)) all
+last_result all = last_value (Num (pos 0)) (filter_map value_of all)
 
 -- whether reports are the same as they are printed
 abbrev pub prints_alike : Report → Report → Bool

@@ -2,7 +2,7 @@
 
 ghost use Rattle.std.specs.Prelude.{◌≡◌, ◌≤◌, ◌++◌, [], codes, count_by, decimal, IfOk, OnOk};
 ghost use Rattle.cjc_script_text.specs.Printed.{line, value_text};
-ghost use Rattle.cjc_make_report.specs.Summary.{agree_word, is_result, last_result, package_lines, prints_alike, result_or, run_lines, size_item, summary_lines};
+ghost use Rattle.cjc_make_report.specs.Summary.{agree_word, is_result, last_result, package_lines, prints_alike, run_lines, size_item, summary_lines, value_of};
 
 use cjc_bytes::{Bytes, NoMemory, Out, Row};
 use cjc_command::Todo;
@@ -35,13 +35,13 @@ fn result_count(notes: &[Note]) -> usize
     notes.iter().filter(|note| is_result(note)).count()
 }
 
-/// The value of a result, or the one before it.
-fn result_or(before: Value, note: &Note) -> Value
-    ensures { result ≡ result_or before note.now }
+/// The value that an entry ended with, where it ended with one.
+fn value_of(note: &Note) -> Option<Value>
+    ensures { result ≡ value_of note.now }
 {
     match note {
-        Note::Result(Some(value)) => *value,
-        _ => before,
+        Note::Result(value) => *value,
+        _ => None,
     }
 }
 
@@ -52,7 +52,9 @@ fn last_result(notes: &[Note]) -> Value
     let mut last = Value::Num(0);
     let mut left = notes;
     while let [note, rest @ ..] = left {
-        last = result_or(last, note);
+        if let Some(value) = value_of(note) {
+            last = value;
+        }
         left = rest;
     }
     last
