@@ -15,6 +15,7 @@ pub mod Onwards
 pub mod Parts
 pub mod Passing
 pub mod Reversed
+pub mod Same
 pub mod Telling
 pub mod Typed
 pub mod Upper

@@ -5,6 +5,7 @@ ghost use Rattle.std.specs.Prelude.{◌≡◌, ◌≤◌, ◌^◌, IfOk, IsTrue}
 ghost use Rattle.cjc_types.specs.Cells.{IsCell, cell_rank, joined_cell, refs};
 
 use crate::names::{self, Names};
+use crate::recent::Sets;
 use cjc_bytes::NoMemory;
 use std::alloc::Global;
 
@@ -43,8 +44,14 @@ pub(crate) fn copied(cell: &Cell) -> Result<Cell, NoMemory>
     }
 }
 
-/// The least cell above both, made of the first.
-pub(crate) fn joined(alloc: Global, left: Cell, right: &Cell) -> Result<Cell, NoMemory>
+/// The least cell above both, made of the first, at this place of its frame.
+pub(crate) fn joined(
+    alloc: Global,
+    recent: &mut Sets,
+    at: usize,
+    left: Cell,
+    right: &Cell,
+) -> Result<Cell, NoMemory>
     requires left { IsCell left }
     requires right { IsCell right.now }
     ensures { IfOk result (λ joined. joined ≡ joined_cell left right.now) }
@@ -52,7 +59,7 @@ pub(crate) fn joined(alloc: Global, left: Cell, right: &Cell) -> Result<Cell, No
     match (left, right) {
         (Cell::Number, Cell::Number) => Ok(Cell::Number),
         (Cell::Refs(types), Cell::Refs(others)) => {
-            Ok(refs(names::either(alloc, types, others)?))
+            Ok(refs(names::either(alloc, recent, at, types, others)?))
         }
         _ => Ok(Cell::Unusable),
     }

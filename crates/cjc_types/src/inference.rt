@@ -21,6 +21,7 @@ ghost use Rattle.cjc_types.specs.declared.table.TypeTable.{TypeTable as Types};
 
 use crate::marks::marks_of;
 use crate::method::Method;
+use crate::recent::Recent;
 use crate::repeats::{MarkedMethod, bounds_of};
 use crate::rules;
 use crate::state::State;
@@ -31,6 +32,7 @@ use cjc_code::{JInsn, MethodCode};
 use cjc_fixpoint::{Table, Walk, solve};
 use cjc_world::World;
 use std::alloc::Global;
+use std::cell::Cell;
 
 /// Why a method got no types.
 #[derive(Clone, Copy)]
@@ -178,6 +180,7 @@ fn types_of(alloc: Global, world: &World<'_>, method: &Method<'_>) -> Result<Typ
         method,
         marks: &marks,
         bounds: bounds.items(),
+        recent: Cell::new(Recent::new(alloc)),
     };
     let table = least_table(alloc, &marked)?;
     judged(alloc, world, &marked, table)

@@ -13,6 +13,7 @@ mod marks;
 mod method;
 mod names;
 mod operands;
+mod recent;
 mod repeats;
 pub mod rows;
 mod rules;

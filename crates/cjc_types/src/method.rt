@@ -13,6 +13,7 @@ ghost use Rattle.cjc_classfile.specs.declared.tree.MethodTree.{MethodTree as Cla
 
 use crate::cell::Cell;
 use crate::operands::Operands;
+use crate::recent::Recent;
 use crate::rows::{put_all, put_some};
 use crate::state::{self, Stack, State};
 use crate::{index, insns, names, steps, types};
@@ -357,11 +358,12 @@ impl Flow for Method<'_> {
     }
 
     fn join(&self, alloc: Global, left: &State, right: &State) -> Result<State, NoMemory> {
-        state::joined(alloc, self.max_locals, state::copied(alloc, left)?, right)
+        let left = state::copied(alloc, left)?;
+        state::joined(alloc, &mut Recent::new(alloc), self.max_locals, left, right)
     }
 
     fn join_into(&self, alloc: Global, left: State, right: &State) -> Result<State, NoMemory> {
-        state::joined(alloc, self.max_locals, left, right)
+        state::joined(alloc, &mut Recent::new(alloc), self.max_locals, left, right)
     }
 
     fn is_above(&self, row: &State, state: &State) -> bool {

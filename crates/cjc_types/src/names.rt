@@ -6,6 +6,7 @@ ghost use Rattle.std.specs.Prelude.{◌≡◌, ◌≤◌, ◌∷◌, ◌++◌, [
 ghost use Rattle.cjc_types.specs.Names.{compare, insert, union, IsSet, IsWithin};
 ghost use Rattle.cjc_types.specs.Working.Merging.{lesser, steps_left, steps_right};
 
+use crate::recent::Sets;
 use crate::shared::Shared;
 use cjc_bytes::{Bytes, NoMemory, Row};
 use std::alloc::Global;
@@ -165,36 +166,62 @@ fn merged(alloc: Global, left: &[Name], right: &[Name]) -> Result<Names, NoMemor
     Shared::new(alloc, Row::of(set))
 }
 
-/// The names of a set to be changed, with room for some more: those of the set itself if no cell shares it.
-fn own_names(alloc: Global, set: Names, room: usize) -> Result<Vec<Name>, NoMemory>
-    ensures { IfOk result (λ own. own.items ≡ set) }
+/// The names of a set once more, with room for some more.
+fn copied(alloc: Global, names: &[Name], room: usize) -> Result<Vec<Name>, NoMemory>
+    ensures { IfOk result (λ own. own.items ≡ names.now) }
 {
+    let mut own = Vec::with_capacity(alloc, names.len().saturating_add(room))?;
+    put_rest(&mut own, names, 0)?;
+    Ok(own)
+}
+
+/// Puts some names into the set.
+fn put_all(set: &mut Vec<Name>, names: &[Name]) -> Result<(), NoMemory>
+    requires { IsSet set.old.items }
+    ensures { OnOk result (set.new.items ≡ union names.now set.old.items) }
+{
+    for name in names {
+        put_shared(set, name)?;
+    }
+    Ok(())
+}
+
+/// The set with some names more. Where other cells share the set, what is made of it is shared with what was made last.
+fn with_names(
+    alloc: Global,
+    recent: &mut Sets,
+    at: usize,
+    set: Names,
+    names: &[Name],
+) -> Result<Names, NoMemory>
+    requires { IsSet set }
+    ensures { IfOk result (λ all. all ≡ union names.now set) }
+{
+    recent.forget(at, &set);
     match set.alone() {
-        Ok(names) => Ok(names.into_vec()),
+        Ok(own) => {
+            let mut all = own.into_vec();
+            put_all(&mut all, names)?;
+            Shared::new(alloc, Row::of(all))
+        }
         Err(set) => {
-            let names = set.items();
-            let mut own = Vec::with_capacity(alloc, names.len().saturating_add(room))?;
-            put_rest(&mut own, names, 0)?;
-            Ok(own)
+            let mut all = copied(alloc, set.items(), names.len())?;
+            put_all(&mut all, names)?;
+            let all = Shared::new(alloc, Row::of(all))?;
+            recent.shared(at, all)
         }
     }
 }
 
-/// The set with some names more.
-fn with_names(alloc: Global, set: Names, names: &[Name]) -> Result<Names, NoMemory>
-    requires { IsSet set }
-    ensures { IfOk result (λ all. all ≡ union names.now set) }
-{
-    let mut all = own_names(alloc, set, names.len())?;
-    for name in names {
-        put_shared(&mut all, name)?;
-    }
-    Shared::new(alloc, Row::of(all))
-}
-
-/// The names of either set, made of the first. Where they are those of one of the two, that is shared. A few
-/// names are put in one by one, so that a great set that no other cell shares is not copied for them.
-pub(crate) fn either(alloc: Global, set: Names, others: &Names) -> Result<Names, NoMemory>
+/// The names of either set, made of the first, a cell at this place. Where they are those of one of the two, that is
+/// shared. A few names are put in one by one, so that a great set that no other cell shares is not copied for them.
+pub(crate) fn either(
+    alloc: Global,
+    recent: &mut Sets,
+    at: usize,
+    set: Names,
+    others: &Names,
+) -> Result<Names, NoMemory>
     requires left { IsSet set }
     requires right { IsSet others.now }
     ensures { IfOk result (λ all. all ≡ union set others.now) }
@@ -204,8 +231,9 @@ pub(crate) fn either(alloc: Global, set: Names, others: &Names) -> Result<Names,
     } else if has_all(others.items(), set.items()) {
         others.shared()
     } else if others.items().len() <= 8 {
-        with_names(alloc, set, others.items())
+        with_names(alloc, recent, at, set, others.items())
     } else {
-        merged(alloc, set.items(), others.items())
+        let all = merged(alloc, set.items(), others.items())?;
+        recent.shared(at, all)
     }
 }

@@ -10,6 +10,7 @@ ghost use Rattle.cjc_types.specs.Working.Parts.{bottom_up};
 ghost use Rattle.cjc_types.specs.declared.cell.Cell.TheVariants as cells_of;
 
 use crate::cell::{self, Cell};
+use crate::recent::Recent;
 use crate::shared::Shared;
 use crate::state::{are_above, cells_rank, copied_cells, joined_cells};
 use cjc_bytes::{NoMemory, Row};
@@ -147,7 +148,12 @@ impl Operands {
     }
 
     /// The cells of two stacks of one height, joined in turn.
-    pub(crate) fn joined(self, alloc: Global, other: &Operands) -> Result<Operands, NoMemory>
+    pub(crate) fn joined(
+        self,
+        alloc: Global,
+        recent: &mut Recent,
+        other: &Operands,
+    ) -> Result<Operands, NoMemory>
         requires sized { length self ≡ length other.now }
         requires left { All IsCell self }
         requires right { All IsCell other.now }
@@ -155,13 +161,13 @@ impl Operands {
     {
         let Operands { parts, deep, own } = self;
         if are_alike(&parts, &other.parts) && own.len() == other.own.len() {
-            let parts = joined_parts(alloc, parts, &other.parts)?;
-            let own = joined_cells(alloc, own, &other.own)?;
+            let parts = joined_parts(alloc, recent, parts, &other.parts)?;
+            let own = joined_cells(alloc, &mut recent.own, own, &other.own)?;
             Ok(Operands { parts, deep, own })
         } else {
             let left = all_cells(alloc, &parts, &own)?;
             let right = all_cells(alloc, &other.parts, &other.own)?;
-            let own = joined_cells(alloc, left, &right)?;
+            let own = joined_cells(alloc, &mut recent.own, left, &right)?;
             Ok(Operands {
                 parts: Vec::new(alloc),
                 deep: 0,
@@ -239,8 +245,14 @@ fn are_alike(left: &[Part], right: &[Part]) -> bool
 }
 
 /// The cells of a part joined in turn with those of another of this height. Where that is one of the two, it stays
-/// shared.
-fn joined_part(alloc: Global, left: &Part, right: &Part) -> Result<Part, NoMemory>
+/// shared, and else with what was made last at this place of the stack.
+fn joined_part(
+    alloc: Global,
+    recent: &mut Recent,
+    at: usize,
+    left: &Part,
+    right: &Part,
+) -> Result<Part, NoMemory>
     requires sized { length left.now ≡ length right.now }
     requires left { All IsCell left.now }
     requires right { All IsCell right.now }
@@ -253,11 +265,17 @@ fn joined_part(alloc: Global, left: &Part, right: &Part) -> Result<Part, NoMemor
         return right.shared();
     }
     let cells = copied_cells(alloc, left.items())?.into_vec();
-    Shared::new(alloc, Row::of(joined_cells(alloc, cells, right.items())?))
+    let cells = joined_cells(alloc, &mut recent.deep, cells, right.items())?;
+    recent.shared_part(alloc, at, Row::of(cells))
 }
 
 /// The parts of two stacks joined in turn, made of the first ones.
-fn joined_parts(alloc: Global, left: Vec<Part>, right: &[Part]) -> Result<Vec<Part>, NoMemory>
+fn joined_parts(
+    alloc: Global,
+    recent: &mut Recent,
+    left: Vec<Part>,
+    right: &[Part],
+) -> Result<Vec<Part>, NoMemory>
     requires sized { map length left.items ≡ map length right.now }
     requires left { All IsCell (bottom_up left.items) }
     requires right { All IsCell (bottom_up right.now) }
@@ -265,7 +283,7 @@ fn joined_parts(alloc: Global, left: Vec<Part>, right: &[Part]) -> Result<Vec<Pa
 {
     let mut parts = left;
     for i in 0..right.len() {
-        let part = joined_part(alloc, &parts[i], &right[i])?;
+        let part = joined_part(alloc, recent, i, &parts[i], &right[i])?;
         parts[i] = part;
     }
     Ok(parts)

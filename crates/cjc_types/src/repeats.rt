@@ -10,12 +10,14 @@ ghost use Rattle.cjc_types.specs.Repeats.{IsFrom, CoverAlike, keeps_locals as is
 
 use crate::insns;
 use crate::method::Method;
-use crate::state::State;
+use crate::recent::Recent;
+use crate::state::{self, State};
 use cjc_bytes::{NoMemory, Row};
 use cjc_classfile::Catch;
 use cjc_code::{JInsn, JOp};
 use cjc_fixpoint::{Edge, Flow, Repeating, is_marked, moved_on};
 use std::alloc::Global;
+use std::cell::Cell;
 
 /// The place of the first instruction from an offset on.
 fn place_from(insns: &[JInsn], offset: u32) -> usize
@@ -112,6 +114,8 @@ pub(crate) struct MarkedMethod<'a> {
     pub(crate) method: &'a Method<'a>,
     pub(crate) marks: &'a Row<u32>,
     pub(crate) bounds: &'a [bool],
+    /// What joins made last.
+    pub(crate) recent: Cell<Recent>,
     ghost marked: { marks.now ≡ marks_of method.now },
     ghost alike: { CoverAlike method.now.insns bounds.now method.now.catches },
 }
@@ -131,11 +135,14 @@ impl Flow for MarkedMethod<'_> {
     }
 
     fn join(&self, alloc: Global, left: &State, right: &State) -> Result<State, NoMemory> {
-        self.method.join(alloc, left, right)
+        self.join_into(alloc, state::copied(alloc, left)?, right)
     }
 
     fn join_into(&self, alloc: Global, left: State, right: &State) -> Result<State, NoMemory> {
-        self.method.join_into(alloc, left, right)
+        let mut recent = self.recent.replace(Recent::new(alloc));
+        let joined = state::joined(alloc, &mut recent, self.method.max_locals(), left, right);
+        self.recent.set(recent);
+        joined
     }
 
     fn is_above(&self, row: &State, state: &State) -> bool {

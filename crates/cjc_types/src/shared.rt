@@ -38,6 +38,11 @@ impl<T: Drop> Shared<T> {
         Ok(Shared { owned })
     }
 
+    /// Whether this and the other are seen to be owners of one value. Contracts know nothing of it.
+    pub(crate) fn is_one_with(&self, other: &Shared<T>) -> bool {
+        Rc::ptr_eq(&self.owned, &other.owned)
+    }
+
     /// The value itself, if it has no other owner.
     pub(crate) fn alone(self) -> Result<T, Shared<T>>
         ensures ok { IfOk result (λ value. value ≡ self) }

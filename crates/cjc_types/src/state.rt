@@ -8,6 +8,7 @@ ghost use Rattle.cjc_types.specs.States.{IsStack, joined_stack, stack_of, stack_
 
 use crate::cell::{self, Cell};
 use crate::operands::Operands;
+use crate::recent::{Recent, Sets};
 use cjc_bytes::{NoMemory, Row};
 use std::alloc::Global;
 use std::mem;
@@ -42,6 +43,7 @@ pub(crate) fn copied_cells(alloc: Global, cells: &[Cell]) -> Result<Row<Cell>, N
 /// The cells joined in turn, made of the first ones.
 pub(crate) fn joined_cells(
     alloc: Global,
+    recent: &mut Sets,
     left: Vec<Cell>,
     right: &[Cell],
 ) -> Result<Vec<Cell>, NoMemory>
@@ -53,7 +55,7 @@ pub(crate) fn joined_cells(
     let mut cells = left;
     for i in 0..right.len() {
         let cell = mem::replace(&mut cells[i], Cell::Unusable);
-        cells[i] = cell::joined(alloc, cell, &right[i])?;
+        cells[i] = cell::joined(alloc, recent, i, cell, &right[i])?;
     }
     Ok(cells)
 }
@@ -109,14 +111,19 @@ fn copied_stack(alloc: Global, stack: &Stack) -> Result<Stack, NoMemory>
 }
 
 /// The least stack above both, made of the first.
-fn joined_stacks(alloc: Global, left: Stack, right: &Stack) -> Result<Stack, NoMemory>
+fn joined_stacks(
+    alloc: Global,
+    recent: &mut Recent,
+    left: Stack,
+    right: &Stack,
+) -> Result<Stack, NoMemory>
     requires left { IsStack left }
     requires right { IsStack right.now }
     ensures { IfOk result (λ joined. joined ≡ joined_stack left right.now) }
 {
     match (left, right) {
         (Stack::Cells(cells), Stack::Cells(others)) if cells.len() == others.len() => {
-            Ok(Stack::Cells(cells.joined(alloc, others)?))
+            Ok(Stack::Cells(cells.joined(alloc, recent, others)?))
         }
         _ => Ok(Stack::Clash),
     }
@@ -162,6 +169,7 @@ pub(crate) fn copied(alloc: Global, state: &State) -> Result<State, NoMemory>
 /// The least state above both, made of the first.
 pub(crate) fn joined(
     alloc: Global,
+    recent: &mut Recent,
     max_locals: u16,
     left: State,
     right: &State,
@@ -171,8 +179,13 @@ pub(crate) fn joined(
     ensures { IfOk result (λ joined. joined ≡ (states max_locals).join left right.now) }
 {
     let State { stack, locals } = left;
-    let stack = joined_stacks(alloc, stack, &right.stack)?;
-    let cells = joined_cells(alloc, locals.into_vec(), right.locals.items())?;
+    let stack = joined_stacks(alloc, recent, stack, &right.stack)?;
+    let cells = joined_cells(
+        alloc,
+        &mut recent.locals,
+        locals.into_vec(),
+        right.locals.items(),
+    )?;
     Ok(State {
         stack,
         locals: Row::of(cells),
