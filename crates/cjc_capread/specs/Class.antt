@@ -6,7 +6,7 @@ use Rattle.cjc_capread.specs.declared.tree.ClassInfo.{ClassInfo}
 use Rattle.cjc_capread.specs.declared.tree.InterfaceEntry.{InterfaceEntry}
 use Rattle.cjc_capread.specs.declared.tree.ClassEntry.{ClassEntry}
 use Rattle.cjc_capread.specs.declared.tree.ImplementedInterface.{ImplementedInterface}
-use Rattle.cjc_capread.specs.Parts.{exactly, class_ref, bytes1}
+use Rattle.cjc_capread.specs.Parts.{exactly, class_ref, items1}
 use Rattle.cjc_capread.specs.Until.{until}
 
 -- an interface behind its flags and the number of its superinterfaces
@@ -19,7 +19,7 @@ interface_entry flags count = do
 unfoldable pub implemented_interface : Format ImplementedInterface
 implemented_interface = do
   interface ← class_ref
-  index ← bytes1
+  index ← items1
   gives (record { interface = interface; index = index })
 
 -- a class behind its flags and the number of its interfaces

@@ -3,7 +3,7 @@ use Rattle.std.specs.Prelude.{ℕ, ◌/◌, ◌%◌, Bool, true, false, List, []
 use Rattle.std.specs.List.{flat_map}
 use Rattle.std.specs.Int.{w8, w16}
 use Rattle.cjc_bytes.specs.AccessFlags.{is_static}
-use Rattle.cjc_bytes.specs.Format.{Format, number, gives, ◌>>=◌, repeated, before, u1, u2, raw}
+use Rattle.cjc_bytes.specs.Format.{Format, number, gives, ◌>>=◌, repeated, before, u1, u2}
 use Rattle.cjc_capread.specs.declared.tree.Descriptor.{Descriptor}
 use Rattle.cjc_capread.specs.declared.tree.ClassDescriptor.{ClassDescriptor}
 use Rattle.cjc_capread.specs.declared.tree.FieldDescriptor.{FieldDescriptor}
@@ -86,11 +86,11 @@ ended true nibbles = do
   gives (record { nibbles = nibbles ++ last ∷ [] })
 ended false nibbles = gives (record { nibbles = nibbles })
 
--- a type descriptor: how many nibbles, and these in pairs (section 6.13.4)
+-- a type descriptor: how many nibbles, and these in pairs, each pair an item of one byte (section 6.13.4)
 unfoldable pub type_descriptor : Format TypeDescriptor
 type_descriptor = do
   count ← u1
-  pairs ← raw (count / 2)
+  pairs ← repeated (count / 2) u1
   ended (count % 2 == 1) (flat_map two_nibbles pairs)
 
 -- the types up to the end of the file, which has so many bytes

@@ -1,7 +1,7 @@
 -- What several components share: fixed values, lists with a count, and references to classes and static members.
 use Rattle.std.specs.Prelude.{ℕ, ◌-◌, ◌/◌, ◌%◌, List, Option, Some, None, nat_lt, ◌==◌, if◌then◌else◌}
 use Rattle.std.specs.Int.{w8, w16}
-use Rattle.cjc_bytes.specs.Format.{Format, number, here, gives, ◌>>=◌, u1, u2, raw}
+use Rattle.cjc_bytes.specs.Format.{Format, number, here, gives, ◌>>=◌, repeated, u1, u2, raw}
 use Rattle.cjc_capread.specs.declared.tree.ClassRef.{ClassRef}
 use Rattle.cjc_capread.specs.declared.tree.ClassRef.TheVariants as class_refs
 use Rattle.cjc_capread.specs.declared.tree.StaticRef.{StaticRef}
@@ -22,6 +22,12 @@ unfoldable pub bytes2 : Format (List ℕ)
 bytes2 = do
   n ← u2
   raw n
+
+-- items of one byte behind their number, read one by one: of a cut list the first item that is missing breaks
+unfoldable pub items1 : Format (List ℕ)
+items1 = do
+  n ← u1
+  repeated n u1
 
 -- the bytes up to this place
 unfoldable pub bytes_before : ℕ → Format (List ℕ)

@@ -8,7 +8,7 @@ ghost use Rattle.cjc_bytes.specs.Reading.{Reads};
 ghost use Rattle.cjc_capread.specs.Class.{interface_entry, implemented_interface, class_entry, with_interface, with_class, entry_content, next_entry, no_entries, class_info};
 ghost use Rattle.cjc_capread.specs.Until.{until};
 
-use crate::parts::{read_bytes1, read_class_ref, read_class_refs, read_numbers};
+use crate::parts::{read_class_ref, read_class_refs, read_items1, read_numbers};
 use crate::tree::{ClassEntry, ClassInfo, ImplementedInterface, InterfaceEntry};
 use cjc_bytes::{Cursor, Row, Stop};
 use std::alloc::Global;
@@ -37,7 +37,7 @@ fn read_implemented_interface(
     ensures { Reads (λ x. x) implemented_interface cursor.old cursor.new result }
 {
     let interface = read_class_ref(cursor)?;
-    let index = read_bytes1(alloc, cursor)?;
+    let index = read_items1(alloc, cursor)?;
     Ok(ImplementedInterface { interface, index })
 }
 

@@ -8,7 +8,7 @@ ghost use Rattle.cjc_bytes.specs.AccessFlags.{is_static};
 ghost use Rattle.cjc_bytes.specs.Reading.{Reads};
 ghost use Rattle.cjc_capread.specs.Descriptor.{field_place, type_of, field_descriptor, method_descriptor, class_descriptor, two_nibbles, ended, type_descriptor, descriptor};
 
-use crate::parts::{read_class_ref, read_class_refs, read_numbers};
+use crate::parts::{read_class_ref, read_class_refs, read_items, read_numbers};
 use crate::tree::{
     ClassDescriptor, Descriptor, FieldDescriptor, FieldPlace, FieldType, MethodDescriptor,
     TypeDescriptor,
@@ -197,13 +197,13 @@ fn read_end(
     Ok(TypeDescriptor { nibbles })
 }
 
-#[tactic(auto, unfolding(crate::specs::Descriptor::type_descriptor, cjc_bytes::specs::Format::u1, cjc_bytes::specs::Format::raw))]
+#[tactic(auto, unfolding(crate::specs::Descriptor::type_descriptor, cjc_bytes::specs::Format::u1))]
 fn read_type(alloc: Global, cursor: &mut Cursor<'_>) -> Result<TypeDescriptor, Stop>
     ensures { Reads (λ x. x) type_descriptor cursor.old cursor.new result }
 {
     let count = cursor.u1()?;
-    let pairs = cursor.take(u32::from(count / 2))?;
-    let nibbles = nibbles_of(alloc, pairs)?;
+    let pairs = read_items(alloc, count / 2, cursor)?;
+    let nibbles = nibbles_of(alloc, pairs.items())?;
     read_end(count % 2 == 1, nibbles, cursor)
 }
 

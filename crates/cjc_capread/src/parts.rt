@@ -2,9 +2,9 @@
 //! by the module of each component, of which it knows none.
 
 ghost use Rattle.std.specs.Prelude.{◌≡◌};
-ghost use Rattle.cjc_bytes.specs.Format.{repeated, u2, raw};
+ghost use Rattle.cjc_bytes.specs.Format.{repeated, u1, u2, raw};
 ghost use Rattle.cjc_bytes.specs.Reading.{Reads};
-ghost use Rattle.cjc_capread.specs.Parts.{bytes1, bytes2, bytes_before, class_of, class_ref, package_of, static_rest, static_ref};
+ghost use Rattle.cjc_capread.specs.Parts.{bytes1, bytes2, items1, bytes_before, class_of, class_ref, package_of, static_rest, static_ref};
 
 use crate::tree::{ClassRef, StaticRef};
 use cjc_bytes::{Bytes, Cursor, Row, Stop};
@@ -34,6 +34,35 @@ pub(crate) fn read_bytes2(alloc: Global, cursor: &mut Cursor<'_>) -> Result<Byte
 {
     let count = cursor.u2()?;
     read_bytes(alloc, u32::from(count), cursor)
+}
+
+#[tactic(auto, unfolding(cjc_bytes::specs::Format::u1))]
+fn read_item(cursor: &mut Cursor<'_>) -> Result<u8, Stop>
+    ensures { Reads (λ x. x) u1 cursor.old cursor.new result }
+{
+    let item = cursor.u1()?;
+    Ok(item)
+}
+
+/// So many items of one byte, one by one: where the bytes end among them, the first that is missing breaks.
+#[tactic(auto, using(cjc_bytes::proofs::Loops::repeated_more, cjc_bytes::proofs::Loops::repeated_stops, cjc_bytes::proofs::Loops::repeated_all, cjc_bytes::proofs::Loops::with_none))]
+pub(crate) fn read_items(alloc: Global, count: u8, cursor: &mut Cursor<'_>) -> Result<Bytes, Stop>
+    ensures { Reads (λ xs. xs) (repeated count u1) cursor.old cursor.new result }
+{
+    let mut items = Row::new(alloc);
+    for _ in 0..count {
+        items.push(read_item(cursor)?)?;
+    }
+    Ok(items)
+}
+
+/// Items of one byte behind their number.
+#[tactic(auto, unfolding(crate::specs::Parts::items1, cjc_bytes::specs::Format::u1))]
+pub(crate) fn read_items1(alloc: Global, cursor: &mut Cursor<'_>) -> Result<Bytes, Stop>
+    ensures { Reads (λ x. x) items1 cursor.old cursor.new result }
+{
+    let count = cursor.u1()?;
+    read_items(alloc, count, cursor)
 }
 
 /// The bytes up to a place.

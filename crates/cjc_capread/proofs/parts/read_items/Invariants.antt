@@ -1,0 +1,8 @@
+use Rattle.std.proofs.Common.{◌≡◌, ◌-◌}
+use Rattle.cjc_bytes.specs.Format.{repeated, u1}
+use Rattle.cjc_bytes.specs.Reading.{read}
+use Rattle.cjc_bytes.proofs.Loops.{with_front}
+use Rattle.cjc_capread.proofs.parts.read_items.Given as goal
+
+abbrev pub invariant-loop : goal.invariant-loop
+invariant-loop l = with_front l.items (read (repeated (l.count - l.counter) u1) l.cursor) ≡ read (repeated l.count u1) l.fn.cursor
