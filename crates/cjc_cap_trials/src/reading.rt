@@ -1,8 +1,8 @@
 //! Components that are cut or have one byte changed, and where they are refused.
 
 use crate::bytes::{
-    CLASS, DESCRIPTOR, DIRECTORY, EXPORT, FAR, HEADER, IMPORT, LOCATIONS, METHOD, OTHER_CLASS,
-    OTHER_METHOD, OTHER_POOL, OTHER_STATICS, POOL, STATICS,
+    CLASS, DESCRIPTOR, DIRECTORY, EXPORT, FAR, HEADER, IMPORT, LOCATIONS, MAPPED_CLASS, METHOD,
+    OTHER_CLASS, OTHER_METHOD, OTHER_POOL, OTHER_STATICS, POOL, STATICS,
 };
 use cjc_bytes::{Fault, Rule};
 use cjc_capread::read;
@@ -23,6 +23,11 @@ const IMPORT_CUTS: [u8; 14] = [0, 1, 1, 3, 4, 5, 6, 7, 7, 7, 7, 7, 7, 7];
 const POOL_CUTS: [u8; 5] = [0, 1, 1, 3, 3];
 
 const CLASS_CUTS: [u8; 15] = [0, 1, 1, 3, 3, 255, 6, 6, 8, 9, 10, 11, 12, 13, 14];
+
+// Of the map's two indices the first that is missing is broken.
+const MAPPED_CUTS: [u8; 20] = [
+    0, 1, 1, 3, 3, 255, 6, 6, 8, 9, 10, 11, 12, 13, 14, 15, 15, 17, 18, 19,
+];
 
 const METHOD_CUTS: [u8; 10] = [0, 1, 1, 3, 255, 255, 255, 255, 255, 255];
 
@@ -77,12 +82,13 @@ fn first_other_cut(rt: &HostRuntime, tag: u8, bytes: &[u8], places: &[u8]) -> Op
 }
 
 /// A component and the offset of its refusal at each cut.
-const CUTS: [(u8, &[u8], &[u8]); 10] = [
+const CUTS: [(u8, &[u8], &[u8]); 11] = [
     (1, HEADER, &HEADER_CUTS),
     (2, DIRECTORY, &DIRECTORY_CUTS),
     (4, IMPORT, &IMPORT_CUTS),
     (5, POOL, &POOL_CUTS),
     (6, CLASS, &CLASS_CUTS),
+    (6, MAPPED_CLASS, &MAPPED_CUTS),
     (7, METHOD, &METHOD_CUTS),
     (8, STATICS, &STATICS_CUTS),
     (9, LOCATIONS, &LOCATIONS_CUTS),
@@ -111,7 +117,7 @@ fn changed(rt: &HostRuntime, tag: u8, bytes: &[u8], at: usize, byte: u8) -> Opti
 }
 
 /// A component, one byte of it changed, and the offset of the refusal.
-const CHANGES: [(u8, &[u8], usize, u8, u32); 18] = [
+const CHANGES: [(u8, &[u8], usize, u8, u32); 20] = [
     (1, HEADER, 6, 0xEE, 3), // the magic
     (1, HEADER, 7, 1, 7), // minor version of the format
     (1, HEADER, 2, 0x12, 1), // a size that does not fit
@@ -123,13 +129,15 @@ const CHANGES: [(u8, &[u8], usize, u8, u32); 18] = [
     (5, OTHER_POOL, 12, 1, 12), // the byte behind a class
     (6, CLASS, 4, 1, 3), // a signature pool
     (6, OTHER_CLASS, 12, 3, 19), // three methods, and two are there
+    (6, MAPPED_CLASS, 17, 4, 20), // four indices of a map, and two are there
     (7, OTHER_METHOD, 3, 3, 24), // three handlers, and half of the third is there
     (8, OTHER_STATICS, 9, 6, 9), // no type of an element
     (8, STATICS, 12, 1, 13), // a byte that is not there
     (9, FAR, 6, 4, 7), // four bytes, and three are there
     (10, EXPORT, 6, 2, 10), // two methods, and one is there
     (11, DESCRIPTOR, 27, 1, 28), // one nibble, and behind it one that is not 0
-    (11, DESCRIPTOR, 27, 6, 28), // three bytes of nibbles, and one is there
+    (11, DESCRIPTOR, 27, 6, 29), // three bytes of nibbles, and one is there
+    (11, DESCRIPTOR, 27, 7, 29), // and one nibble more
 ];
 
 #[test]

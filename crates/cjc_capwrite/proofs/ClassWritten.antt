@@ -16,7 +16,7 @@ use Rattle.cjc_capread.specs.Class.{interface_entry, implemented_interface, clas
 use Rattle.cjc_capwrite.specs.Class.{interface_bytes, implemented_bytes, class_entry_bytes, class_info_bytes}
 use Rattle.cjc_capwrite.specs.Parts.{one, two, class_bytes}
 use Rattle.cjc_capwrite.specs.Fits.{InterfaceFits, ImplementedFits, ClassEntryFits, ClassInfoFits}
-use Rattle.cjc_capwrite.proofs.PartsWritten.{one_writes, table_writes, bytes1_writes, numbers_write, class_ref_writes, class_refs_write}
+use Rattle.cjc_capwrite.proofs.PartsWritten.{one_writes, table_writes, items1_writes, numbers_write, class_ref_writes, class_refs_write}
 
 -- ---- items that fill the bytes up to a place
 
@@ -51,7 +51,7 @@ interface_writes at flags count x is len fits = rw is (last_writes (class_refs_w
 
 implemented_writes : (at : ℕ) (x : ImplementedInterface) → ImplementedFits x → Writes implemented_interface at x (implemented_bytes x)
 unfolding implemented_interface implemented_bytes
-implemented_writes at x fits = then_writes (class_ref_writes at x.interface fits.interface) (last_writes (bytes1_writes _ x.index fits.index) refl)
+implemented_writes at x fits = then_writes (class_ref_writes at x.interface fits.interface) (last_writes (items1_writes _ x.index fits.index) refl)
 
 -- a class's bytes behind its first
 abbrev class_rest : ClassEntry → List ℕ

@@ -4,7 +4,7 @@ use Rattle.std.specs.List.{flat_map, AllByRecursion}
 use Rattle.std.proofs.lemmas.Bool.{lt-ltb}
 use Rattle.std.proofs.lemmas.List.{append-nil}
 use Rattle.std.proofs.lemmas.List.Concat.{flat_map-cons}
-use Rattle.cjc_bytes.proofs.Writers.{Writes, then_writes, last_writes, gives_writes, raw_writes, number1_writes, u1_writes, repeated_writes, before_writes}
+use Rattle.cjc_bytes.proofs.Writers.{Writes, then_writes, last_writes, gives_writes, number1_writes, u1_writes, repeated_writes, before_writes}
 use Rattle.cjc_capread.specs.declared.tree.Descriptor.{Descriptor}
 use Rattle.cjc_capread.specs.declared.tree.ClassDescriptor.{ClassDescriptor}
 use Rattle.cjc_capread.specs.declared.tree.FieldDescriptor.{FieldDescriptor}
@@ -21,7 +21,7 @@ use Rattle.cjc_capwrite.specs.Parts.{one, two, class_bytes}
 use Rattle.cjc_capwrite.specs.Class.{nibbles}
 use Rattle.cjc_capwrite.specs.Descriptor.{place_bytes, type_number, field_bytes, code_bytes, method_descriptor_bytes, class_descriptor_bytes, packed, type_bytes, types_bytes, descriptor_bytes}
 use Rattle.cjc_capwrite.specs.Fits.{PlaceFits, TypeFits, FieldFits, MethodDescriptorFits, ClassDescriptorFits, TypeDescriptorFits, DescriptorFits}
-use Rattle.cjc_capwrite.proofs.PartsWritten.{one_writes, two_writes, table_writes, numbers_write, class_ref_writes, class_refs_write}
+use Rattle.cjc_capwrite.proofs.PartsWritten.{one_writes, two_writes, table_writes, items_write, numbers_write, class_ref_writes, class_refs_write}
 
 -- ---- members
 
@@ -155,7 +155,7 @@ pairs_write at x w lt =
     let whole : w.pairs ++ [] ≡ packed None x.nibbles = append-nil w.pairs ∙ sym w.bytes in
     subst (λ (bs : List ℕ). Writes type_descriptor at x (one (length x.nibbles) ++ bs)) whole (
     then_writes (one_writes at (length x.nibbles) lt)
-    (then_writes (raw_writes _ (length x.nibbles / 2) w.pairs half)
+    (then_writes (items_write _ (length x.nibbles / 2) w.pairs half)
     (ended_even _ (eqb (length x.nibbles % 2) 1) (flat_map two_nibbles w.pairs) x.nibbles even w.back)))
 
 behind_writes : (at : ℕ) (x : TypeDescriptor) → OneBehind x.nibbles → length x.nibbles < 2 ^ 8 → Writes type_descriptor at x (one (length x.nibbles) ++ packed None x.nibbles)
@@ -165,7 +165,7 @@ behind_writes at x w lt =
     let half : length w.pairs ≡ length x.nibbles / 2 = omega (arith, w.count) in
     subst (λ (bs : List ℕ). Writes type_descriptor at x (one (length x.nibbles) ++ bs)) (sym w.bytes) (
     then_writes (one_writes at (length x.nibbles) lt)
-    (then_writes (raw_writes _ (length x.nibbles / 2) w.pairs half)
+    (then_writes (items_write _ (length x.nibbles / 2) w.pairs half)
     (ended_odd _ w.last (eqb (length x.nibbles % 2) 1) (flat_map two_nibbles w.pairs) x.nibbles odd w.small w.back)))
 
 pub type_writes : (at : ℕ) (x : TypeDescriptor) → TypeDescriptorFits x → Writes type_descriptor at x (type_bytes x)

@@ -10,7 +10,7 @@ use Rattle.cjc_capread.specs.declared.tree.ClassRef.TheVariants as class_refs
 use Rattle.cjc_capread.specs.declared.tree.StaticRef.{StaticRef}
 use Rattle.cjc_capread.specs.declared.tree.StaticRef.TheVariants as static_refs
 use Rattle.cjc_capread.specs.Parts.{class_of, class_ref, package_of, static_rest, static_ref}
-use Rattle.cjc_capread.specs.Parts.{bytes1, bytes2}
+use Rattle.cjc_capread.specs.Parts.{bytes1, bytes2, items1}
 use Rattle.cjc_capwrite.specs.Parts as written
 use Rattle.cjc_capwrite.specs.Parts.{one, two, class_bytes, static_bytes}
 use Rattle.cjc_capwrite.specs.Fits.{Fits1, Fits2, ClassFits, StaticFits}
@@ -32,6 +32,17 @@ bytes1_writes at bytes lt = then_writes (one_writes at (length bytes) lt) (raw_w
 pub bytes2_writes : (at : ℕ) (bytes : List ℕ) → Fits2 (length bytes) → Writes bytes2 at bytes (written.bytes2 bytes)
 unfolding bytes2
 bytes2_writes at bytes lt = then_writes (two_writes at (length bytes) lt) (raw_writes _ (length bytes) bytes refl)
+
+-- items of one byte, one by one, as they stand
+pub items_write : (at n : ℕ) (bytes : List ℕ) → length bytes ≡ n → Writes (repeated n u1) at bytes bytes
+unfolding Spells repeated
+items_write at n [] len = rw (← len) (record { spells = (refl, refl) })
+items_write at n (b ∷ bytes) len =
+    rw (← len) (then_writes (u1_writes at b) (last_writes (items_write (at + 1) (length bytes) bytes refl) refl))
+
+pub items1_writes : (at : ℕ) (bytes : List ℕ) → Fits1 (length bytes) → Writes items1 at bytes (written.bytes1 bytes)
+unfolding items1
+items1_writes at bytes lt = then_writes (one_writes at (length bytes) lt) (items_write _ (length bytes) bytes refl)
 
 pub numbers_write : (at n : ℕ) (xs : List ℕ) → length xs ≡ n → AllByRecursion Fits2 xs → Writes (repeated n u2) at xs (flat_map two xs)
 numbers_write at n xs len fits = repeated_writes u2 two Fits2 two_writes at n xs len fits
