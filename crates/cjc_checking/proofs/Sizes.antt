@@ -7,7 +7,7 @@ use Rattle.std.proofs.lemmas.List.Sums.{sum_by-cons, sum_by-append}
 use Rattle.cjc_bytes.specs.AccessFlags.{is_static}
 use Rattle.cjc_bytes.specs.Format.{Format, number, run, here, looked_up, gives, followed_by, Spells, FileSpells, repeated, before, where_true, u1, u2, raw}
 use Rattle.cjc_bytes.proofs.Laws.{file_ok}
-use Rattle.cjc_capread.specs.Parts.{bytes1, bytes2, bytes_before, class_ref, static_ref, static_rest}
+use Rattle.cjc_capread.specs.Parts.{bytes1, bytes2, items1, bytes_before, class_ref, static_ref, static_rest}
 use Rattle.cjc_capread.specs.Header.{header}
 use Rattle.cjc_capread.specs.Directory.{directory}
 use Rattle.cjc_capread.specs.Applet.{applet, applet_entry}
@@ -148,6 +148,28 @@ numbers n at xs bytes h =
     let s = in_row u2 (λ x. 2) (λ k a bs g. let e = two_bytes k a bs g in omega (arith, e)) n at xs bytes h in
     let e = two_each xs in
     omega (arith, s, e)
+
+items : (n : ℕ) → Measures (repeated n u1) (λ xs. length xs)
+unfolding repeated
+items zero at xs bytes h = subst (λ (ys : List ℕ). length ys ≤ length bytes) (given [] at xs bytes h) (omega arith)
+items (suc n) at xs bytes h =
+    let t = two _ _ _ _ _ h in
+    let u = two _ _ _ _ _ t.rest in
+    let a = t.total in
+    let b = u.total in
+    let one = one_byte t.from t.x t.front t.one in
+    let more = items n u.from u.x u.front u.one in
+    let is : t.x ∷ u.x ≡ xs = given (t.x ∷ u.x) u.place xs u.back u.rest in
+    subst (λ (ys : List ℕ). length ys ≤ length bytes) is (omega (arith, a, b, one, more))
+
+behind_items : Measures items1 (λ xs. 1 + length xs)
+unfolding items1
+behind_items at a bytes h =
+    let t = two _ _ _ _ _ h in
+    let total = t.total in
+    let one = one_byte t.from t.x t.front t.one in
+    let rest = items t.x t.place a t.back t.rest in
+    omega (arith, total, one, rest)
 
 refs : (n : ℕ) → Measures (repeated n class_ref) (λ xs. 2 * length xs)
 refs n at xs bytes h =
@@ -375,7 +397,7 @@ of_map at v bytes h =
     let interface_s = named interface.from interface.x interface.front interface.one in
     let index = two _ _ _ _ _ interface.rest in
     let index_t = index.total in
-    let index_s = behind_one index.from index.x index.front index.one in
+    let index_s = behind_items index.from index.x index.front index.one in
     let P : ImplementedInterface → Type 0 = λ y. map_size y ≤ length bytes in
     subst P (given _ index.place v index.back index.rest) (omega (arith, interface_t, interface_s, index_t, index_s))
 
@@ -668,7 +690,7 @@ of_type at v bytes h =
     let a = count.total in
     let b = pairs.total in
     let c = one_byte count.from count.x count.front count.one in
-    let d = all_bytes _ pairs.from pairs.x pairs.front pairs.one in
+    let d = items _ pairs.from pairs.x pairs.front pairs.one in
     let rest = of_ended _ (length pairs.x) _ (pairs_length pairs.x) pairs.place v pairs.back pairs.rest in
     omega (arith, a, b, c, d, rest)
 
