@@ -1,11 +1,10 @@
 //! Import names the export files (Java Card Virtual Machine Specification 2.2.2, sections 4.5.2 and 6.6). It
 //! knows no other component.
 
-ghost use Rattle.std.specs.Prelude.{◌≡◌, ◌+◌, ◌<◌, ◌^◌};
+ghost use Rattle.std.specs.Prelude.{◌≡◌, ◌+◌, ◌<◌, ◌^◌, ◌==◌, length};
 ghost use Rattle.cjc_sentences.specs.Complete.{import_size};
-ghost use Rattle.cjc_sentences.specs.Imports.{import_spots, package_agrees};
-ghost use Rattle.cjc_sentences.specs.Spots.{first};
-ghost use Rattle.std.specs.Str.{bytes_eq};
+ghost use Rattle.cjc_sentences.specs.Imports.{aid_agrees, import_spots, package_agrees};
+ghost use Rattle.cjc_sentences.specs.Spots.{first, in_info, unless};
 
 use cjc_capread::{Import, ImportedPackage};
 use cjc_export::ExportTree;
@@ -15,11 +14,28 @@ use cjc_sentences::ComponentPlace;
 /// The tag of Import.
 const IMPORT: u8 = 4;
 
-/// Whether a package has the AID of an export file.
-fn has_aid(one: &ImportedPackage, tree: &ExportTree) -> bool
-    ensures { result ≡ bytes_eq one.now.aid tree.now.aid }
+/// Whether bytes are the same.
+struct Same;
+
+impl Comparison<u8, u8> for Same {
+    ghost broken = { λ s at b w. unless (b == w) (in_info 4 at) };
+
+    ghost fits = { λ s. Unit {0} };
+
+    fn first_between(&self, at: u32, item: &u8, other: &u8) -> Option<ComponentPlace> {
+        unless(*item == *other, IMPORT, at)
+    }
+}
+
+/// Where an AID whose length stands at an offset is not an export file's: its length, else the first byte that is
+/// another.
+#[tactic(auto, using(cjc_sentences::proofs::Firsts::first_append, cjc_sentences::proofs::Arrays::one_each))]
+fn aid_spot(at: u32, aid: &[u8], own: &[u8]) -> Option<ComponentPlace>
+    requires { 4 + at + length aid.now < 2 ^ 32 }
+    ensures { result ≡ first (aid_agrees at aid.now own.now) }
 {
-    one.aid.items() == tree.aid.items()
+    let length = unless(aid.len() == own.len(), IMPORT, at);
+    earlier(length, first_beside(&Same, at + 1, aid, own))
 }
 
 /// Whether packages are those of export files.
@@ -38,13 +54,14 @@ impl Comparison<ImportedPackage, ExportTree> for Agree {
         other: &ExportTree,
     ) -> Option<ComponentPlace> {
         let major = unless(item.major == other.major, IMPORT, at + 1);
-        let aid = unless(has_aid(item, other), IMPORT, at + 2);
+        let aid = aid_spot(at + 2, item.aid.items(), other.aid.items());
         earlier(major, aid)
     }
 }
 
-/// Where 703 is broken first: the number of packages, a major version or an AID that is another than the export
-/// file's of its place. A component with its tag and size has fewer than 2^32 bytes.
+/// Where 703 is broken first: the number of packages, or a major version or an AID that is another than the export
+/// file's of its place. An AID is broken at its length where that is another, else at its first byte that is. A
+/// component with its tag and size has fewer than 2^32 bytes.
 pub fn import_spot(import: &Import, exports: &[ExportTree]) -> Option<ComponentPlace>
     requires { 3 + import_size import.now < 2 ^ 32 }
     ensures { result ≡ first (import_spots import.now exports.now) }

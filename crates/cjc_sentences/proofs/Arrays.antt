@@ -14,6 +14,13 @@ bytes_fit (a ∷ arrays) =
     let b = sum_by-cons (λ (x : ArrayInit). length x.values) a arrays in
     omega (arith, h, s, b)
 
+pub one_each : {A : Type 0} (xs : List A) → sum_by (λ x. 1) xs ≡ length xs
+one_each [] = omega arith
+one_each {A} (x ∷ xs) =
+    let h = one_each xs in
+    let s = sum_by-cons (λ (y : A). 1) x xs in
+    omega (arith, h, s)
+
 pub two_each : {A : Type 0} (xs : List A) → sum_by (λ x. 2) xs ≡ 2 * length xs
 two_each [] = omega arith
 two_each {A} (x ∷ xs) =

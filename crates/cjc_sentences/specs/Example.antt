@@ -122,9 +122,13 @@ directory_of applet_size descriptor_size applet_count = record {
 abbrev pub applet_of : (install_method : ℕ) → Applet
 applet_of install_method = record { applets = record { aid = 0xA0 ∷ 0 ∷ 0 ∷ 0 ∷ 1 ∷ []; install_method = install_method } ∷ [] }
 
+-- one package of this AID alone, in this major version
+abbrev pub import_under : (aid : List ℕ) → (major : ℕ) → Import
+import_under aid major = record { packages = record { minor = 0; major = major; aid = aid } ∷ [] }
+
 -- java/lang alone, in this major version
 abbrev pub import_of : (major : ℕ) → Import
-import_of major = record { packages = record { minor = 0; major = major; aid = lang.aid } ∷ [] }
+import_of major = import_under lang.aid major
 
 -- five entries; the token of the instance field and the class token of the Classref are given
 abbrev pub pool_of : (field class : ℕ) → ConstantPool
@@ -272,10 +276,11 @@ with_applet install_method = record example { header = header_of 6; directory = 
 -- alterations of one item each
 abbrev pub altered : List CapTree
 altered =
-    -- a size, no ACC_EXPORT, a major version, a class_ref, a superclass that is an interface
+    -- a size, no ACC_EXPORT, a major version, the last byte of an AID, a class_ref, a superclass that is an interface
     record example { directory = directory_of 0 134 0 }
     ∷ record example { header = header_of 0 }
     ∷ record example { import = Some (import_of 2) }
+    ∷ record example { import = Some (import_under (0xA0 ∷ 0 ∷ 0 ∷ 0 ∷ 0x62 ∷ 0 ∷ 2 ∷ []) 1) }
     ∷ record example { pool = Some (pool_of 0 9) }
     ∷ record example { class = Some (class_of (Inside 2) 16 1) }
     -- a table entry, an index of a map, the token of a field
@@ -302,6 +307,7 @@ altered_at =
     ((701 ∷ 2 ∷ 23 ∷ []) ∷ [])
     ∷ ((702 ∷ 1 ∷ 9 ∷ []) ∷ [])
     ∷ ((703 ∷ 4 ∷ 5 ∷ []) ∷ [])
+    ∷ ((703 ∷ 4 ∷ 13 ∷ []) ∷ [])
     ∷ ((704 ∷ 5 ∷ 22 ∷ []) ∷ [])
     ∷ ((705 ∷ 6 ∷ 7 ∷ []) ∷ [])
     ∷ ((706 ∷ 6 ∷ 16 ∷ []) ∷ [])
@@ -378,8 +384,8 @@ small = record {
   });
 }
 
--- no such class, the class itself as its superclass, a jump into an operand, an index into an empty pool, another method, no flags, and
--- a method cut short
+-- no such class, the class itself as its superclass, a jump into an operand, an index into an empty pool, another method,
+-- no flags, a method cut short, and an AID without its last byte
 abbrev pub changed : List CapTree
 changed =
     record small { class = Some (small_class (Outside 0 11)) }
@@ -389,6 +395,7 @@ changed =
     ∷ record small { export = Some (small_export 3) }
     ∷ record small { header = header_of 0 }
     ∷ record small { method = Some (small_method (0x1C ∷ 0x04 ∷ 0x41 ∷ [])) }
+    ∷ record small { import = Some (import_under (0xA0 ∷ 0 ∷ 0 ∷ 0 ∷ 0x62 ∷ 0 ∷ []) 1) }
     ∷ []
 
 -- which sentences are false of each, and where
@@ -401,6 +408,7 @@ changed_at =
     ∷ ((717 ∷ 10 ∷ 8 ∷ []) ∷ [])
     ∷ ((702 ∷ 1 ∷ 9 ∷ []) ∷ [])
     ∷ ((701 ∷ 2 ∷ 15 ∷ []) ∷ (709 ∷ 7 ∷ 9 ∷ []) ∷ [])
+    ∷ ((701 ∷ 2 ∷ 9 ∷ []) ∷ (703 ∷ 4 ∷ 6 ∷ []) ∷ [])
     ∷ []
 
 -- ---- tables

@@ -1,7 +1,7 @@
 -- ReferenceLocation lists the indices into the constant pool (Java Card Virtual Machine Specification 2.2.2, 6.11).
 use Rattle.std.specs.Prelude.{ℕ, ◌+◌, ◌-◌, ◌/◌, ◌%◌, List, [], ◌∷◌, ◌++◌, length, map, filter, replicate, ◌==◌, if◌then◌else◌}
 use Rattle.cjc_capread.specs.declared.tree.Handler.{Handler}
-use Rattle.cjc_sentences.specs.Spots.{ComponentPlace, in_info, unless, beside}
+use Rattle.cjc_sentences.specs.Spots.{ComponentPlace, in_info, unless, bytes_differ}
 use Rattle.cjc_sentences.specs.Complete.{Complete}
 use Rattle.cjc_sentences.specs.Instructions.{IndexOperand, all_indices}
 
@@ -25,7 +25,7 @@ distances before (at ∷ places) = distance (at - before) ++ distances at places
 
 -- bytes that differ, as far as there are both; the first has this offset
 abbrev pub differ : (at : ℕ) → (listed wanted : List ℕ) → List ComponentPlace
-differ at listed wanted = beside (λ b. 1) (λ at b w. unless (b == w) (in_info 9 at)) at listed wanted
+differ at listed wanted = bytes_differ 9 at listed wanted
 
 -- bytes behind their number of two bytes, which stands at this offset
 abbrev pub are_listed : (at : ℕ) → (listed wanted : List ℕ) → List ComponentPlace

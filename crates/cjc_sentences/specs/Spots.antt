@@ -27,6 +27,10 @@ unfoldable pub beside : {A B : Type 0} → (size : A → ℕ) → (broken : ℕ 
 beside size broken at (x ∷ xs) (y ∷ ys) = broken at x y ++ beside size broken (at + size x) xs ys
 beside size broken at _ _ = []
 
+-- bytes of a component that differ from those that are wanted, as far as there are both; the first has this offset
+abbrev pub bytes_differ : (tag at : ℕ) → (bytes wanted : List ℕ) → List ComponentPlace
+bytes_differ tag at bytes wanted = beside (λ b. 1) (λ at b w. unless (b == w) (in_info tag at)) at bytes wanted
+
 -- an item and the offset of its first byte
 pub record Placed (A : Type 0) : Type 0 where
   pub at : ℕ
