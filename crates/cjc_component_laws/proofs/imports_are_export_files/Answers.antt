@@ -19,7 +19,7 @@ unfolding beside
 all_agree at [] = refl
 all_agree at (t ∷ exports) =
     let length_is = passes _ (in_info 4 (at + 2)) (same_number (length t.aid)) in
-    let aid_is = none_in_both length_is (none_differ (at + 3) t.aid) in
+    let aid_is = none_in_both length_is (none_differ (at + 2 + 1) t.aid) in
     none_in_both (none_in_both (passes _ (in_info 4 (at + 1)) (same_number t.major)) aid_is)
     (all_agree (at + package_size (imported_package t)) exports)
 
