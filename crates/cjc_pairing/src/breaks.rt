@@ -1,5 +1,5 @@
-//! Where components are not of a package, as a refusal tells it, and the first of several such places in an
-//! order of their own.
+//! Where components are not of a package, as a refusal tells it, and the first of several such places, which stand
+//! in their order.
 
 ghost use Rattle.std.specs.Prelude.{◌≡◌, ◌+◌, ◌++◌, ◌<◌, ◌^◌, List, option_map};
 ghost use Rattle.cjc_bytes.specs.Breaks.{broken_at};

@@ -56,7 +56,7 @@ fn cell_break(
     Ok(in_statics(passes))
 }
 
-/// The first place, whatever the order of components says.
+/// The first place, by the order of components and then of offsets.
 fn pair_break(
     alloc: Global,
     parts: &Parts<'_>,
@@ -70,7 +70,7 @@ fn pair_break(
     let cells = cell_break(image, parts.statics)?;
     let methods = method_break(parts.descriptor, counts.items());
     let infos = count_break(parts.class, counts.items().len());
-    Ok(or_else(infos, or_else(methods, cells)))
+    Ok(or_else(cells, or_else(infos, methods)))
 }
 
 /// Tests whether components are of a package whose static fields hold this at first.
@@ -78,9 +78,9 @@ fn pair_break(
 /// # Errors
 ///
 /// Sentence 719: Class has not an info for each class of the package; a class of Descriptor has not as many
-/// methods as the package gives it; or the static cells have other sizes. The place is the number of classes in
-/// Descriptor, the number of the first such class's methods there, or the size of the image in StaticField,
-/// whichever is the first in this order.
+/// methods as the package gives it; or the static cells have other sizes. The place is the size of the image in
+/// StaticField, else the number of classes in Descriptor, else the number of the first such class's methods there:
+/// the first by the order of components and then of offsets.
 pub fn test_pair(
     alloc: Global,
     parts: &Parts<'_>,

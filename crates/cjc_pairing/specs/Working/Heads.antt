@@ -1,4 +1,4 @@
--- The first of several places in an order of their own.
+-- The first of several places, which stand in their order.
 use Rattle.std.specs.Prelude.{◌≡◌, ℕ, ◌+◌, ◌==◌, List, ◌++◌, length, map, option_map, option_to_list, Option}
 use Rattle.cjc_bytes.specs.Breaks.{RulePlace as Place}
 use Rattle.cjc_bytes.specs.declared.breaks.Break.{Break}
@@ -27,6 +27,7 @@ place_in component file at = record { file = keys.Component component; class = 0
 abbrev pub count_spots_at : (at : ℕ) → ClassDescriptor → (count : ℕ) → List ComponentPlace
 count_spots_at at d count = unless (length d.methods == count) (in_info 11 (at + 7))
 
--- all places where components are not of a package
+-- all places where components are not of a package, in their order
 abbrev pub all_spots : Files → StaticImage → Complete → List ComponentPlace
-all_spots files image c = count_spots (all_classes files) c.class ++ (method_spots (all_classes files) c.descriptor ++ cell_spots image c.statics)
+all_spots files image c =
+    cell_spots image c.statics ++ (count_spots (all_classes files) c.class ++ method_spots (all_classes files) c.descriptor)

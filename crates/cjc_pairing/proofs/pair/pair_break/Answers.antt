@@ -20,4 +20,5 @@ returns c =
     let descriptor = k.descriptor in
     let one = subst (λ (n : ℕ). IsHead (unless (info_count k.class == n) (in_info 11 0)) c.count_break-infos.result) (ap length (c.items-2.ensures ∙ c.in_ok-counts.ensures) ∙ length-map order many) c.count_break-infos.ensures in
     let two = subst (λ (spots : List ComponentPlace). IsHead spots c.method_break-methods.result) (ap (spots_from 1 descriptor.classes) (c.items.ensures ∙ c.in_ok-counts.ensures) ∙ by_classes w 1 descriptor.classes order) c.method_break-methods.ensures in
-    c.or_else-2.ensures (count_spots w k.class) _ one (c.or_else.ensures (method_spots w k.descriptor) (cell_spots c.args.image.now k.statics) two c.in_ok-cells.ensures)
+    let described = c.or_else.ensures (count_spots w k.class) (method_spots w k.descriptor) one two in
+    c.or_else-2.ensures (cell_spots c.args.image.now k.statics) _ c.in_ok-cells.ensures described
