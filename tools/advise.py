@@ -17,9 +17,7 @@ def unlisted_applets(of):
     """Classes below Applet that no applet line names."""
     listed = {name for name, _ in of.listing.applets}
     for name, (file, each, _) in of.own.items():
-        above = [c for c in of.above(name)]
-        supers = {each.super} | {s for c in above for s in [*getattr(c, "supers", []), c.super]}
-        if APPLET in supers and not each.flags & ABSTRACT and name not in listed:
+        if APPLET in of.supers(name) and not each.flags & ABSTRACT and name not in listed:
             yield f"{file}: {name} is below {APPLET} and has no applet line: no card can install it"
 
 
@@ -30,8 +28,8 @@ def odd_aids(of):
         if other == aid:
             yield f"applet {name}: its AID {other.hex().upper()} is the package's own; a card has each AID once"
         elif other[:5] != aid[:5]:
-            yield (f"applet {name}: its AID begins with {other[:5].hex().upper()}, the package's with {aid[:5].hex().upper()}:"
-                   " an applet has the RID, the first five bytes, of its package")
+            yield (f"applet {name}: its AID begins with {other[:5].hex().upper()}, the package's with"
+                   f" {aid[:5].hex().upper()}: an applet has the RID, the first five bytes, of its package")
     for file, export in of.exports:
         if export.aid == aid:
             yield f"{file}: {export.package} has the AID of the package itself"
@@ -59,7 +57,8 @@ def unused_exports(of):
     packages = {package_of(name) for name in used_names(of) if name}
     for file, export in of.exports:
         if export.package not in packages and export.package != "java/lang":
-            yield f"{file}: no class of the list uses {export.package}; a card has to have every package that is imported"
+            yield (f"{file}: no class of the list uses {export.package};"
+                   " a card has to have every package that is imported")
 
 
 def disordered_classes(of):
@@ -67,8 +66,8 @@ def disordered_classes(of):
     names = [(name, file) for name, (file, _, _) in of.own.items()]
     for (name, file), (after, other) in zip(names, names[1:]):
         if after < name:
-            yield (f"{file} stands before {other}: class lines are not in the order of their classes' names. Their order gives the"
-                   " tokens, so keep it from release to release (docs/EXPORTS.md)")
+            yield (f"{file} stands before {other}: class lines are not in the order of their classes' names. Their"
+                   " order gives the tokens, so keep it from release to release (docs/EXPORTS.md)")
             return
 
 

@@ -1,7 +1,7 @@
 # Completes the words of jcconv in bash:  . tools/completion.bash
 _jcconv() {
-    local word=${COMP_WORDS[COMP_CWORD]} words="convert check jvm card make explain pack unpack advise help --help --version"
-    local kind="" page
+    local word=${COMP_WORDS[COMP_CWORD]} kind="" page
+    local words="convert check jvm card make explain pack unpack advise help --help --version"
     COMPREPLY=()
     if [ "$COMP_CWORD" -eq 1 ]; then
         mapfile -t COMPREPLY < <(compgen -W "$words" -- "$word")
@@ -12,7 +12,8 @@ _jcconv() {
     pack:2) kind=-d ;;
     make:* | help:*) ;;
     explain:2)
-        page=$(dirname "$(readlink -f "$(command -v -- "${COMP_WORDS[0]}" || echo "${COMP_WORDS[0]}")")")/docs/RULES.md
+        page=$(command -v -- "${COMP_WORDS[0]}" || echo "${COMP_WORDS[0]}")
+        page=$(dirname "$(readlink -f "$page")")/docs/RULES.md
         mapfile -t COMPREPLY < <(compgen -W "- $(sed -n 's/^### \([0-9]*\) .*/\1/p' "$page" 2>/dev/null)" -- "$word")
         return
         ;;

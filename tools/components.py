@@ -1,4 +1,4 @@
-"""Component files of a package (docs/FORMATS.md, "Components"), as far as a CAP file needs to know what is in them."""
+"""Component files of a package (docs/FORMATS.md, "Components"), as far as a CAP file tells what is in them."""
 from classfile import BadClass, Reader
 
 NAMES = ["Header", "Directory", "Applet", "Import", "ConstantPool", "Class", "Method", "StaticField", "RefLocation",
@@ -47,7 +47,8 @@ def read_header(reader):
     """The format, the flags, the package's version, AID and name; formats before 2.2 have no name."""
     if reader.u4() != 0xDECAFFED:
         raise Refused(106, FILES[0], 3)
-    found = {"format": version(reader), "flags": reader.u1(), "version": version(reader), "aid": reader.take(reader.u1())}
+    found = {"format": version(reader), "flags": reader.u1(), "version": version(reader)}
+    found["aid"] = reader.take(reader.u1())
     ends = reader.at == len(reader.data)
     found["name"] = "" if ends else reader.take(reader.u1()).decode("utf-8", "replace")
     return found
@@ -75,8 +76,8 @@ def read_imports(reader):
 
 
 class Components:
-    """The components that Directory counts, by their tags, with what a manifest says of them. `fetch` gives the bytes of
-    a file by its name, and raises FileNotFoundError."""
+    """The components that Directory counts, by their tags, with what a manifest says of them. `fetch` gives the bytes
+    of a file by its name, and raises where it is missing."""
 
     def __init__(self, fetch):
         self.data = {1: fetch(FILES[0]), 2: fetch(FILES[1])}

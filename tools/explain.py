@@ -14,9 +14,9 @@ USE = """usage: jcconv explain RULE
        jcconv explain 'refused RULE FILE CLASS MEMBER OFFSET' [LIST]
        jcconv convert LIST DIR 2>&1 | jcconv explain - [LIST]"""
 OTHER = {
-    "absent": "No file has this name. Names are used as they stand in the list, from the folder in which you run the command.",
+    "absent": "No file has this name. Names are used as they stand in the list, from the folder where you run jcconv.",
     "too long": "The file has more than 262,144 bytes, which no file that is read may have.",
-    "shelf fault": "The system could not open, read, make or write the file: is the folder there, and may you write into it?",
+    "shelf fault": "The system could not open, read, make or write the file: is its folder there, and may you write?",
     "sink fault": "Standard output did not take all of the text.",
     "no memory": "There was no memory left.",
     "usage:": "The words are of no form that the program has: `jcconv --help` tells the forms.",
@@ -59,7 +59,7 @@ class Told:
         except classfile.BadClass as fault:
             return [f"{self.refusal.file} can't be read any more as a class file: {fault}."]
         if of.name != self.refusal.of:
-            return [f"{self.refusal.file} is now the class {of.name}, not {self.refusal.of}: it changed since the refusal."]
+            return [f"{self.refusal.file} is now the class {of.name}, not {self.refusal.of}: it changed since then."]
         return methods.lines(self, of, Source(of, self.path))
 
     def known(self):
@@ -87,7 +87,9 @@ def whole(refusal, listing):
 
 
 def unknown(rule):
-    print(f"jcconv: there is no rule {rule}. These are the rules:\n\n{rules.all_rules()}", file=sys.stderr)
+    """Says that there is no such rule, and which there are."""
+    print(f"jcconv: there is no rule {rule}", file=sys.stderr)
+    print(f"The rules:\n\n{rules.all_rules()}")
     return 1
 
 

@@ -1,5 +1,5 @@
-"""Export files as the tools read them (docs/FORMATS.md, "Export files"): the package, and its classes with the names of
-what stands above them and their members."""
+"""Export files as the tools read them (docs/FORMATS.md, "Export files"): the package, and its classes with the names
+of what stands above them and their members."""
 from classfile import BadClass, Member, Reader
 
 

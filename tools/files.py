@@ -1,5 +1,5 @@
-"""What is told of a refusal at a file that is no class with members: a list, a script, an export file, a component, or
-a class file of another version."""
+"""What is told of a refusal at a file that is no class with members: a list, a script, an export file, a component,
+or a class file of another version."""
 import exportfile
 import listfile
 
@@ -34,7 +34,9 @@ def line_at(data, offset):
 
 def shown(line):
     """A line so that what is not seen in it is."""
-    text = line.decode("utf-8", "backslashreplace").replace("\t", "\\t").replace("\r", "\\r").replace("\ufeff", "\\ufeff")
+    text = line.decode("utf-8", "backslashreplace")
+    for unseen, escape in (("\t", "\\t"), ("\r", "\\r"), ("\ufeff", "\\ufeff")):
+        text = text.replace(unseen, escape)
     return text[:-1] + "\u2423" if text.endswith(" ") else text
 
 
@@ -60,7 +62,8 @@ def kind(data):
     if not data:
         return "it is empty"
     begins = [(b"\xca\xfe\xba\xbe", "it begins as a class file does"), (b"\x00\xfa\xca\xde", "it is an export file"),
-              (b"PK", "it is a JAR or CAP file; name the files that are packed in it"), (b"\x01", "it may be a component")]
+              (b"PK", "it is a JAR or CAP file; name the files that are packed in it"),
+              (b"\x01", "it may be a component")]
     return next((words for magic, words in begins if data.startswith(magic)), "it begins as none of the files does")
 
 
@@ -79,7 +82,8 @@ def of_export_class(told, data):
     except exportfile.BadExport as fault:
         return [f"{told.refusal.file} can't be read any more as an export file: {fault}"]
     words = " ".join(filter(None, [told.refusal.of, told.refusal.member]))
-    return [f"{told.refusal.file}, the export file of {of.package} {of.version[0]}.{of.version[1]}" + (f": {words}" if words else "")]
+    package = f"{of.package} {of.version[0]}.{of.version[1]}"
+    return [f"{told.refusal.file}, the export file of {package}" + (f": {words}" if words else "")]
 
 
 def of_applets(told):
@@ -101,9 +105,8 @@ def applet_fault(world, name):
     of = world.own[name][1]
     if of.flags & 0x0400:
         return "the class is abstract"
-    above = [each.name for each in world.above(name)] + [s for each in world.above(name) for s in getattr(each, "supers", [])]
-    if "javacard/framework/Applet" not in above and "javacard/framework/Applet" != of.super:
-        return f"it is no subclass of javacard/framework/Applet by the files of the list; its superclass is {of.super}"
+    if "javacard/framework/Applet" not in world.supers(name):
+        return f"it is no subclass of javacard/framework/Applet by the files of the list, but of {of.super}"
     install = of.find("install([BSB)V")
     if install is None:
         return "it declares no `public static void install(byte[] b, short o, byte l)`"

@@ -135,7 +135,7 @@ def fault_of_aid(word):
         shown = aid.replace("0x", "").replace("0X", "").replace(":", "").replace(",", "")
         return [f"the AID `{aid}` begins with `0x`; write its digits alone: {shown}"]
     if re.search(rb"[^0-9A-Fa-f]", word):
-        return [f"the AID `{aid}` has characters that are no hexadecimal digits; write two digits a byte and nothing between"]
+        return [f"the AID `{aid}` has characters that are no hexadecimal digits; write two a byte, nothing between"]
     if len(word) % 2:
         return [f"the AID `{aid}` has {len(word)} digits, an odd number; write two digits a byte"]
     if not 10 <= len(word) <= 32:

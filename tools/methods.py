@@ -1,5 +1,5 @@
-"""What is told of a refusal at a class file: the line of its class, member or instruction, and the name that is missing
-or refused."""
+"""What is told of a refusal at a class file: the line of its class, member or instruction, and the name that is
+missing or refused."""
 import classfile
 import opcodes
 from source import Source
@@ -70,7 +70,8 @@ def of_descriptor(told, member):
 
 def at_instruction(told, of, source, method):
     offset = told.refusal.offset
-    found = at(source, method.code.line_at(offset), f"{told.refusal.file} has no line numbers: compile it with `javac -g`.")
+    without = f"{told.refusal.file} has no line numbers: compile it with `javac -g`."
+    found = at(source, method.code.line_at(offset), without)
     words = opcodes.words(of, method.code, offset)
     found.append(f"{of.name} {method.spelt()}, instruction {offset}: {words}" if words else
                  f"{of.name} {method.spelt()}, offset {offset}, where no instruction starts")

@@ -53,8 +53,8 @@ def attributes(package, listing, name):
     """The attributes of the manifest, in order (section 4.1.3.1)."""
     head = package.header
     number = "{}.{}".format
-    pairs = [("Manifest-Version", "1.0"), ("Created-By", f"jcconv {helping.version()}"),
-             ("Java-Card-Converter-Provider", "jcconv"), ("Java-Card-Converter-Version", helping.version()),
+    pairs = [("Manifest-Version", "1.0"), ("Created-By", f"jcconv {helping.VERSION}"),
+             ("Java-Card-Converter-Provider", "jcconv"), ("Java-Card-Converter-Version", helping.VERSION),
              ("Java-Card-CAP-File-Version", number(*head["format"])),
              ("Java-Card-Package-Version", number(*head["version"])),
              ("Java-Card-Package-Name", name.replace("/", ".")), ("Java-Card-Package-AID", aid_words(head["aid"]))]
@@ -94,7 +94,7 @@ def package_name(package, folder, listing):
                 continue
             if of.aid == package.header["aid"]:
                 return of.package
-    raise Ended(1, "jcconv: Header has no package name, and no export file in the folder has it: name the list as a third word")
+    raise Ended(1, "jcconv: Header has no package name, and no export file in the folder has it: name the list too")
 
 
 def listing_of(path, package):
@@ -111,7 +111,7 @@ def tell_stale(package, folder):
     """Says which component files of the folder are none of the package's."""
     for name in components.FILES:
         if name not in package.names() and os.path.exists(os.path.join(folder, name)):
-            print(f"left out {name}: Directory counts no such component; it is of an earlier conversion", file=sys.stderr)
+            print(f"left out {name}: Directory counts no such component; it is an earlier package's", file=sys.stderr)
 
 
 def pack(folder, path, listing_path, method):
@@ -150,11 +150,12 @@ def members(path):
                 if name in components.FILES and folder and folder[-1] == "javacard":
                     found.setdefault("/".join(folder), []).append((name, entry))
             if len(found) != 1:
-                raise Ended(2, f"jcconv: {path} has components of {len(found)} packages, and of one alone is unpacked")
+                raise Ended(2, f"jcconv: {path} has components of {len(found)} packages, and has to have those of one")
             pairs = next(iter(found.values()))
             if len(dict(pairs)) < len(pairs) or any(entry.file_size > components.LONGEST for _, entry in pairs):
                 raise Ended(2, f"jcconv: {path} has a component twice, or one of more than {components.LONGEST} bytes")
-            return {name: archive.read(entry) for name, entry in sorted(pairs, key=lambda p: components.FILES.index(p[0]))}
+            pairs.sort(key=lambda pair: components.FILES.index(pair[0]))
+            return {name: archive.read(entry) for name, entry in pairs}
     except (zipfile.BadZipFile, EOFError, NotImplementedError, RuntimeError):
         raise Ended(2, f"jcconv: {path} is no JAR file") from None
 

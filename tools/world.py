@@ -8,7 +8,7 @@ import opcodes
 
 
 def find(name, listing_path):
-    """Where a file that a list names stands: from the current folder, or else from the list's; None where it is nowhere."""
+    """Where a file that a list names stands: from the current folder, or else from the list's; None where nowhere."""
     for path in (name, os.path.join(os.path.dirname(listing_path or ""), name)):
         if os.path.isfile(path):
             return path
@@ -54,6 +54,10 @@ class World:
                 found.append(of)
                 waiting += [*(getattr(of, "supers", None) or [of.super]), *of.interfaces]
         return found
+
+    def supers(self, name):
+        """The names of all superclasses that files list of a class and of what stands above it."""
+        return {s for of in self.above(name) for s in [of.super, *getattr(of, "supers", [])] if s}
 
     def members_named(self, owner, name):
         """The members of a name in a class and above it, each with its class."""

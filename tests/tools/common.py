@@ -2,11 +2,11 @@
 import os
 import shutil
 import subprocess
+import sys
 import tempfile
 
 HERE = os.path.dirname(os.path.abspath(__file__))
 TOP = os.path.dirname(os.path.dirname(HERE))
-WRAPPER = os.path.join(TOP, "jcconv")
 WALLET = os.path.join(HERE, "wallet")
 CONVERTER = os.environ.get("JCCONV")
 
@@ -20,8 +20,13 @@ class Run:
 
 
 def jcconv(*words, folder=HERE, given=""):
-    """Runs the wrapper. None of the tests' words may need the converter, so nothing is built."""
-    return Run([WRAPPER, *words], folder, given)
+    """Runs what the script jcconv hands words to that need no converter."""
+    return Run([sys.executable, "-B", os.path.join(TOP, "tools", "main.py"), *words], folder, given)
+
+
+def script(*words, folder=HERE, given=""):
+    """Runs the script jcconv. None of the tests' words may need the converter, so nothing is built."""
+    return Run([os.path.join(TOP, "jcconv"), *words], folder, given)
 
 
 def folder_of(test, **files):

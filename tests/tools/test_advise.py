@@ -29,13 +29,13 @@ class Advice(unittest.TestCase):
             self.assertEqual((run.status, run.out, run.err), (0, "", ""))
 
     def test_applet_without_a_line(self):
-        self.assertEqual(self.told(BEGIN + FILES), "Wallet.class: p/Wallet is below javacard/framework/Applet and has no applet"
-                         " line: no card can install it\n")
+        self.assertEqual(self.told(BEGIN + FILES), "Wallet.class: p/Wallet is below javacard/framework/Applet and has"
+                         " no applet line: no card can install it\n")
 
     def test_rid(self):
         self.assertEqual(self.told(BEGIN + "applet p/Wallet F00000000101\n" + FILES),
-                         "applet p/Wallet: its AID begins with F000000001, the package's with A000000001: an applet has the"
-                         " RID, the first five bytes, of its package\n")
+                         "applet p/Wallet: its AID begins with F000000001, the package's with A000000001: an applet has"
+                         " the RID, the first five bytes, of its package\n")
 
     def test_aid_of_the_package(self):
         self.assertIn("is the package's own", self.told(BEGIN + "applet p/Wallet A000000001\n" + FILES))

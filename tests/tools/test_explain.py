@@ -129,9 +129,8 @@ class Forms(unittest.TestCase):
     def test_unknown_rule(self):
         for words in (["999"], ["refused", "999", "a", "b", "c", "0"]):
             run = jcconv("explain", *words)
-            self.assertEqual((run.status, run.out), (1, ""))
-            self.assertIn("there is no rule 999", run.err)
-            self.assertIn("  601  comparison of a number", run.err)
+            self.assertEqual((run.status, run.err), (1, "jcconv: there is no rule 999\n"))
+            self.assertIn("  601  comparison of a number", run.out)
 
     def test_no_rule(self):
         run = jcconv("explain")
@@ -171,12 +170,14 @@ class Places(unittest.TestCase):
     def test_class_that_changed(self):
         folder = os.path.join(CASES, "602")
         self.assertIn("it changed since", self.before("refused 601 Mean.class p/Other f()V 3", folder))
-        self.assertIn("offset 5000, where no instruction", self.before("refused 601 Mean.class p/Mean f(SS)S 5000", folder))
+        told = self.before("refused 601 Mean.class p/Mean f(SS)S 5000", folder)
+        self.assertIn("offset 5000, where no instruction", told)
         broken = folder_of(self, T_class=b"\xca\xfe\xba\xbe\0\0\0\x34")
         self.assertIn("can't be read any more", self.before("refused 601 T.class p/T f()V 3", broken))
 
     def test_source_that_is_not_there(self):
-        folder = folder_of(self, Mean_class=read(CASES, "602", "Mean.class"), Clock_class=read(CASES, "301", "Clock.class"))
+        mean, clock = read(CASES, "602", "Mean.class"), read(CASES, "301", "Clock.class")
+        folder = folder_of(self, Mean_class=mean, Clock_class=clock)
         self.assertIn("\nMean.java:6\np/Mean f(SS)S, instruction 6: idiv", self.before(refusal_of("602"), folder))
         self.assertIn("The source is not beside the class file.", self.before(refusal_of("301"), folder))
 
@@ -193,13 +194,14 @@ class Places(unittest.TestCase):
         self.assertIn("script:2\n    call p/T f(S)S 5\\t\n", self.before("refused 105 script - - 8", folder) + "\n")
 
     def test_applet_lines(self):
-        lines = "package p A000000001 1.0\n{}export lang.exp\nexport framework.exp\nclass Wallet.class\nclass T.class\n"
+        lines = ("package p A000000001 1.0\n{}export lang.exp\nexport framework.exp\n"
+                 "class Wallet.class\nclass T.class\n")
         wallet = os.path.join(TOP, "examples", "wallet")
         folder = folder_of(self, T_class=read(TOP, "examples", "first", "T.class"))
         for name in ("lang.exp", "framework.exp", "Wallet.class"):
             write(os.path.join(folder, name), read(wallet, name))
         for applets, told in (
-                ("applet p/Purse A00000000101\n", "applet p/Purse A00000000101: no class file of the list has this class"),
+                ("applet p/Purse A00000000101\n", "p/Purse A00000000101: no class file of the list has this class"),
                 ("applet p/T A00000000101\n", "p/T A00000000101: it is no subclass of javacard/framework/Applet"),
                 ("applet p/Wallet A00000000101\napplet p/Wallet A00000000101\n", "its AID is that of p/Wallet too")):
             write(os.path.join(folder, "list"), lines.format(applets))
@@ -213,8 +215,8 @@ class Instructions(unittest.TestCase):
         of = classfile.read(os.path.join(TOP, "examples", "wallet", "Wallet.class"))
         method = of.find("install([BSB)V")
         self.assertEqual([opcodes.words(of, method.code, at) for at in opcodes.offsets(method.code.data)],
-                         ["new p/Wallet", "dup", "invokespecial p/Wallet.<init>()V", "invokevirtual p/Wallet.register()V",
-                          "return"])
+                         ["new p/Wallet", "dup", "invokespecial p/Wallet.<init>()V",
+                          "invokevirtual p/Wallet.register()V", "return"])
 
     def test_each_opcode_has_its_name(self):
         names = {0x00: "nop", 0x12: "ldc", 0x15: "iload", 0x36: "istore", 0x60: "iadd", 0x84: "iinc", 0x99: "ifeq",
