@@ -64,6 +64,9 @@ def unused_exports(of):
 def disordered_classes(of):
     """The first class line that stands behind one of a greater name."""
     names = [(name, file) for name, (file, _, _) in of.own.items()]
+    files = [file for _, file in names]
+    if files == sorted(files):
+        return
     for (name, file), (after, other) in zip(names, names[1:]):
         if after < name:
             yield (f"{file} stands before {other}: class lines are not in the order of their classes' names. Their"

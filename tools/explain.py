@@ -3,7 +3,7 @@ import os
 import sys
 
 import classfile
-import exportfile
+import components
 import files
 import methods
 import rules
@@ -13,6 +13,8 @@ from source import Source
 USE = """usage: jcconv explain RULE
        jcconv explain 'refused RULE FILE CLASS MEMBER OFFSET' [LIST]
        jcconv convert LIST DIR 2>&1 | jcconv explain - [LIST]"""
+# the rules whose file is the list
+OF_LISTS = {107, 108, 207, 309, 401, 402, 407, 408, 409, 411, 414, 416}
 OTHER = {
     "absent": "No file has this name. Names are used as they stand in the list, from the folder where you run jcconv.",
     "too long": "The file has more than 262,144 bytes, which no file that is read may have.",
@@ -40,27 +42,28 @@ class Told:
 
     def __init__(self, refusal, listing):
         self.refusal, self.rule = refusal, refusal.rule
-        if listing is None and os.path.isfile("list"):
-            listing = "list" if lists("list", refusal.file) else None
-        self.listing = listing
+        if listing is None:
+            listing = refusal.file if self.rule in OF_LISTS else "list" if lists("list", refusal.file) else None
         self.world = world.of_list(listing) if listing else None
         self.path = world.find(refusal.file, listing)
 
     def lines(self):
         """What is to be said of the place, line by line."""
+        if self.refusal.file in components.FILES:
+            return files.of_component(self.refusal)
         if self.path is None:
             return [f"{self.refusal.file} is not found from this folder, so its place in the source is not told."]
-        with open(self.path, "rb") as source:
-            data = source.read()
+        with open(self.path, "rb") as file:
+            data = file.read()
         if self.refusal.of is None or data[:4] == b"\x00\xfa\xca\xde":
             return files.lines(self, data)
         try:
             of = classfile.ClassFile(data)
+            if of.name != self.refusal.of:
+                return [f"{self.refusal.file} is now the class {of.name}, not {self.refusal.of}: it changed since then."]
+            return methods.lines(self, of, Source(of, self.path))
         except classfile.BadClass as fault:
-            return [f"{self.refusal.file} can't be read any more as a class file: {fault}."]
-        if of.name != self.refusal.of:
-            return [f"{self.refusal.file} is now the class {of.name}, not {self.refusal.of}: it changed since then."]
-        return methods.lines(self, of, Source(of, self.path))
+            return [f"{self.refusal.file} can't be read as a class file: {fault}."]
 
     def known(self):
         """The classes that files have, or None where no list is known."""

@@ -1,7 +1,12 @@
 """What is told of a refusal at a file that is no class with members: a list, a script, an export file, a component,
 or a class file of another version."""
+import components
 import exportfile
 import listfile
+
+# the classes of java/lang without which no package is converted
+NEEDED = ["Object", "Throwable", "ArithmeticException", "ArrayIndexOutOfBoundsException", "ArrayStoreException",
+          "ClassCastException", "NegativeArraySizeException", "NullPointerException"]
 
 
 def lines(told, data):
@@ -17,6 +22,8 @@ def lines(told, data):
         return of_export(data, offset)
     if rule == 309:
         return of_applets(told)
+    if rule == 207:
+        return of_language(told)
     if data[:4] == b"\x00\xfa\xca\xde":
         return of_export_class(told, data)
     if rule == 101:
@@ -84,6 +91,25 @@ def of_export_class(told, data):
     words = " ".join(filter(None, [told.refusal.of, told.refusal.member]))
     package = f"{of.package} {of.version[0]}.{of.version[1]}"
     return [f"{told.refusal.file}, the export file of {package}" + (f": {words}" if words else "")]
+
+
+def of_component(refusal):
+    """Where in a component a refusal points; its folder is not told by the refusal."""
+    name, tag = refusal.file, (refusal.offset - 1) // 2
+    if refusal.rule == 701 and name == components.FILES[1] and 3 <= refusal.offset < 27:
+        return [f"Directory's size of {components.FILES[tag - 1]}: it is not that of the file, or the file is missing"]
+    return [f"byte {refusal.offset} of the file {name}, whose tag and size are bytes 0 to 2"]
+
+
+def of_language(told):
+    """What of java/lang the export files of a list do not have."""
+    exports = told.world.exports if told.world else []
+    found = [(file, {each.name for each in of.classes}) for file, of in exports if of.package == "java/lang"]
+    if not found:
+        return [f"{told.refusal.file}: no export file that it names is that of java/lang"]
+    lacking = [name for name in NEEDED if "java/lang/" + name not in found[0][1]]
+    return [f"{found[0][0]}: java/lang lacks {', '.join(lacking)}" if lacking else
+            f"{found[0][0]}: an exception of java/lang is no subclass of Throwable there"]
 
 
 def of_applets(told):

@@ -55,6 +55,10 @@ class Advice(unittest.TestCase):
         ordered = FILES.replace("class Wallet", "class T.class\nclass Wallet")
         self.assertEqual(self.told(applet + ordered), "")
 
+    def test_order_of_file_names(self):
+        folder = os.path.join(HERE, "refusals", "302-access")
+        self.assertEqual(jcconv("advise", "list", folder=folder).out, "")
+
     def test_file_that_is_not_there(self):
         told = self.told(BEGIN + "export lang.exp\nclass T.class\t\nclass T.class\n")
         self.assertEqual(told, "'T.class\\t' is not found, or can't be read; nothing is told of it\n")

@@ -173,7 +173,7 @@ class Places(unittest.TestCase):
         told = self.before("refused 601 Mean.class p/Mean f(SS)S 5000", folder)
         self.assertIn("offset 5000, where no instruction", told)
         broken = folder_of(self, T_class=b"\xca\xfe\xba\xbe\0\0\0\x34")
-        self.assertIn("can't be read any more", self.before("refused 601 T.class p/T f()V 3", broken))
+        self.assertIn("can't be read as a class file", self.before("refused 601 T.class p/T f()V 3", broken))
 
     def test_source_that_is_not_there(self):
         mean, clock = read(CASES, "602", "Mean.class"), read(CASES, "301", "Clock.class")
@@ -188,6 +188,19 @@ class Places(unittest.TestCase):
         self.assertIn("it is a JAR or CAP file", self.before("refused 104 b.exp - - 0", folder))
         told = self.before("refused 208 c.exp javacard/framework/APDU - 0", folder)
         self.assertIn("c.exp, the export file of javacard/framework 1.0: javacard/framework/APDU", told)
+
+    def test_components(self):
+        self.assertIn("Directory's size of Class.cap", self.before("refused 701 Directory.cap - - 13"))
+        self.assertIn("byte 7 of the file Header.cap", self.before("refused 106 Header.cap - - 7"))
+
+    def test_language(self):
+        wallet = os.path.join(TOP, "examples", "wallet")
+        folder = folder_of(self, mine=b"package p A000000001 1.0\nexport framework.exp\nclass T.class\n",
+                           lang_exp=read(wallet, "lang.exp").replace(b"ArithmeticException", b"ArithmeticExceptioN"),
+                           framework_exp=read(wallet, "framework.exp"))
+        self.assertIn("mine: no export file that it names is that of java/lang", self.before("refused 207 mine - - 0", folder))
+        write(os.path.join(folder, "mine"), "package p A000000001 1.0\nexport lang.exp\n")
+        self.assertIn("lang.exp: java/lang lacks ArithmeticException", self.before("refused 207 mine - - 0", folder))
 
     def test_script(self):
         folder = folder_of(self, script="# begin\ncall p/T f(S)S 5\t\n")
