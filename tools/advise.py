@@ -35,26 +35,35 @@ def odd_aids(of):
             yield f"{file}: {export.package} has the AID of the package itself"
 
 
+def names_in(of):
+    """The classes that a class file names, as far as its constant pool is one."""
+    names = set()
+    for tag, *parts in of.pool.values():
+        try:
+            if tag == 7:
+                names.add(classfile.class_of_type(of.text(parts[0])))
+            elif tag == 12:
+                names.update(classfile.classes_of(of.text(parts[1])))
+        except classfile.BadClass:
+            pass
+    for member in of.fields + of.methods:
+        names.update(classfile.classes_of(member.descriptor))
+    return names
+
+
 def used_names(of):
     """The classes that own class files name, and all that stands above them."""
-    names = set()
-    for _, each, _ in of.own.values():
-        for entry in each.pool.values():
-            if entry[0] == 7:
-                names.add(classfile.class_of_type(each.text(entry[1])))
-            elif entry[0] == 12:
-                names.update(classfile.classes_of(each.text(entry[2])))
-        for member in each.fields + each.methods:
-            names.update(classfile.classes_of(member.descriptor))
+    names = {name for _, each, _ in of.own.values() for name in names_in(each) if name}
     for name in list(names):
         for above in of.above(name):
-            names.update([above.name, above.super, *above.interfaces, *getattr(above, "supers", [])])
+            names.update([above.name, *above.interfaces])
+        names |= of.supers(name)
     return names
 
 
 def unused_exports(of):
     """Export files whose package no class names, java/lang aside, which every package needs."""
-    packages = {package_of(name) for name in used_names(of) if name}
+    packages = {package_of(name) for name in used_names(of)}
     for file, export in of.exports:
         if export.package not in packages and export.package != "java/lang":
             yield (f"{file}: no class of the list uses {export.package};"

@@ -60,7 +60,7 @@ class Told:
         try:
             of = classfile.ClassFile(data)
             if of.name != self.refusal.of:
-                return [f"{self.refusal.file} is now the class {of.name}, not {self.refusal.of}: it changed since then."]
+                return [f"{self.refusal.file} is now class {of.name}, not {self.refusal.of}: it changed since then."]
             return methods.lines(self, of, Source(of, self.path))
         except classfile.BadClass as fault:
             return [f"{self.refusal.file} can't be read as a class file: {fault}."]

@@ -198,9 +198,10 @@ class Places(unittest.TestCase):
         folder = folder_of(self, mine=b"package p A000000001 1.0\nexport framework.exp\nclass T.class\n",
                            lang_exp=read(wallet, "lang.exp").replace(b"ArithmeticException", b"ArithmeticExceptioN"),
                            framework_exp=read(wallet, "framework.exp"))
-        self.assertIn("mine: no export file that it names is that of java/lang", self.before("refused 207 mine - - 0", folder))
+        line = "refused 207 mine - - 0"
+        self.assertIn("mine: no export file that it names is that of java/lang", self.before(line, folder))
         write(os.path.join(folder, "mine"), "package p A000000001 1.0\nexport lang.exp\n")
-        self.assertIn("lang.exp: java/lang lacks ArithmeticException", self.before("refused 207 mine - - 0", folder))
+        self.assertIn("lang.exp: java/lang lacks ArithmeticException", self.before(line, folder))
 
     def test_script(self):
         folder = folder_of(self, script="# begin\ncall p/T f(S)S 5\t\n")
