@@ -1,0 +1,9 @@
+package p;
+
+public class Named {
+    private byte[] name;
+
+    public String name() {
+        return null;
+    }
+}

@@ -1,0 +1,8 @@
+package p;
+
+/** Caller.class was compiled when n was no static method. */
+public class Callee {
+    public static short n() {
+        return 1;
+    }
+}

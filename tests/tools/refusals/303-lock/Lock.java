@@ -1,0 +1,11 @@
+package p;
+
+public class Lock {
+    private short n;
+
+    public void f() {
+        synchronized (this) {
+            n = 1;
+        }
+    }
+}

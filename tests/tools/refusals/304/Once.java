@@ -1,0 +1,9 @@
+package p;
+
+public class Once {
+    private short n;
+
+    public synchronized void f() {
+        n++;
+    }
+}

@@ -1,0 +1,134 @@
+"""What there is: the help of `jcconv`, of each of its words, and its version."""
+import os
+import re
+import subprocess
+import sys
+
+TOP = os.path.dirname(os.path.dirname(os.path.abspath(__file__)))
+# which program runs and how it is built or proved, where a script of its own knows that
+PROGRAM = os.path.join(TOP, "tools", "program")
+# as the first heading of CHANGELOG.md has them
+VERSION, STATE = "0.1.0", "not released"
+
+# of each word: its form, what it does, and an example
+WORDS = {
+    "convert": ("convert LIST DIR", """
+        reads the list and the files that it names, and writes the components of the package and its export file into
+        the folder DIR""",
+        "cd examples/first && mkdir -p out && ../../jcconv convert list out"),
+    "check": ("check LIST DIR", """
+        tells whether the components in the folder DIR are consistent with each other and with the export files that
+        the list names; prints ok, and writes nothing""",
+        "cd examples/first && ../../jcconv check list out"),
+    "jvm": ("jvm LIST SCRIPT N", """
+        runs at most N instructions of the class files that the list names, called by the script, and prints what was
+        called, given back and thrown, and what is in memory at the end""",
+        "cd examples/wallet && ../../jcconv jvm list script 10000"),
+    "card": ("card LIST DIR SCRIPT N", """
+        runs at most N instructions of the components in the folder DIR, as jvm runs class files""",
+        "cd examples/wallet && ../../jcconv card list out script 10000"),
+    "make": ("make NUMBER SIZE", """
+        makes a package of SIZE classes (1 to 250) from a number, converts it, runs class files and components, and
+        tells how that went; reads and writes no file""",
+        "jcconv make 7 3"),
+    "explain": ("explain RULE, explain 'REFUSAL' [LIST], explain - [LIST]", """
+        what a refusal means, where in the source it points, and how to repair it: by the number of a rule, the whole
+        line, or the line on standard input""",
+        "jcconv convert list out 2>&1 | jcconv explain -"),
+    "pack": ("pack [--deflate] DIR FILE.cap [LIST]", """
+        writes the components in the folder DIR into a CAP file, as loaders take it; with the list it names the
+        applets' classes too""",
+        "cd examples/wallet && ../../jcconv pack out out/wallet.cap list"),
+    "unpack": ("unpack FILE.cap DIR", """
+        writes the components of a CAP file, of whatever converter, into the folder DIR, for check and card""",
+        "mkdir -p parts && jcconv unpack wallet.cap parts"),
+    "advise": ("advise LIST", """
+        tells what is allowed in a list and likely wrong, a line each""",
+        "cd examples/wallet && ../../jcconv advise list"),
+}
+
+PROVE = """  jcconv --prove             proves the converter and builds it, which takes hours; what is proved runs from
+                             then on. Without it a program is built without its proofs, in minutes, and each run
+                             says so"""
+OTHERS = """  jcconv --version           the version, the kit that the converter is proved with, and what it converts
+  jcconv --help, -h, help    this text; jcconv WORD --help the part of it on one word"""
+
+PAGES = [("COMMANDS", "commands, the list, exit statuses, what stands after each answer"),
+         ("RULES", "each refusal, its place, and its repair"),
+         ("EXPORTS", "where export files come from, and how a library's own stays stable"),
+         ("FORMATS", "class files, export files, components"),
+         ("MACHINES", "what a run of class files and of components is"),
+         ("PROVED", "what is proved, and what is not")]
+
+
+def wrapped(text, first, rest, width=118):
+    """The words of a text in lines of a width, the first behind one beginning and the others behind another."""
+    lines, line = [], first
+    for word in text.split():
+        if len(line) + 1 + len(word) > width and line.strip():
+            lines.append(line)
+            line = rest
+        line += word if not line or line.endswith(" ") else " " + word
+    return lines + [line]
+
+
+def of_word(word):
+    form, text, example = WORDS[word]
+    begin = f"  jcconv {form}"
+    lines = [begin] if len(begin) > 28 else []
+    lines += wrapped(text, " " * 29 if lines else begin.ljust(29), " " * 29)
+    return "\n".join(lines + [f"      {example}"])
+
+
+def everything():
+    parts = ["jcconv converts a Java Card package: class files and export files into the components that a card"
+             " loads.\nIt also tests components, runs class files and components, and packs components into CAP files."]
+    parts += [of_word(word) for word in WORDS]
+    parts.append("\n".join(([PROVE] if os.path.isfile(PROGRAM) else []) + [OTHERS]))
+    pages = "\n".join(f"  docs/{name + '.md':14} {text}" for name, text in PAGES)
+    words = f"Words are completed in bash after: . {TOP}/tools/completion.bash"
+    return "\n\n".join([*parts, f"Pages, in {TOP}:\n{pages}\n{words}"])
+
+
+def kit():
+    """The kit that the converter is proved with, as README.md names it."""
+    with open(os.path.join(TOP, "README.md"), encoding="utf-8") as page:
+        return re.search(r"^    (rattle-kit-.*)$", page.read(), re.M)[1]
+
+
+def version_lines():
+    """The version, which program would run, and what it converts."""
+    run = f"proved with {kit()}"
+    if os.path.isfile(PROGRAM):
+        which = subprocess.run([sys.executable, PROGRAM, "which"], stdout=subprocess.PIPE, check=False, text=True)
+        run = which.stdout.strip()
+    return f"jcconv {VERSION}, {STATE}\n{run}\nconverts every package that breaks no rule"
+
+
+def usage(word):
+    print(f"usage: jcconv {WORDS[word][0]}", file=sys.stderr)
+    return 1
+
+
+def is_asked(words):
+    """Whether the words ask for help or the version, or there are none."""
+    alone = len(words) == 1 and words[0] in ("-h", "--help", "help", "--version")
+    return not words or alone or (len(words) == 2 and (words[0] == "help" or words[1] in ("-h", "--help")))
+
+
+def main(words):
+    """Prints what is asked; without any words the same on standard error, with the status of the usage line."""
+    if words == ["--version"]:
+        print(version_lines())
+    elif not words:
+        print(everything(), file=sys.stderr)
+        return 1
+    elif len(words) == 1:
+        print(everything())
+    else:
+        word = words[1] if words[0] == "help" else words[0]
+        if word not in WORDS:
+            print(f"jcconv: there is no word {word}; there are: {', '.join(WORDS)}", file=sys.stderr)
+            return 1
+        print(of_word(word))
+    return 0
