@@ -50,8 +50,8 @@ abbrev pub head_of : List ComponentPlace → List ComponentPlace
 head_of [] = []
 head_of (s ∷ spots) = s ∷ []
 
--- Where components are not of the package: the first of these by the order of components and then of offsets, so StaticField
--- before Descriptor, and there the number of classes before those of methods.
+-- Where components are not of the package: the first of these by the order of components and then of offsets, so
+-- StaticField before Descriptor, and there the number of classes before those of methods.
 abbrev pub pair_spots : Files → StaticImage → Complete → List ComponentPlace
 pair_spots files image c =
     head_of (
