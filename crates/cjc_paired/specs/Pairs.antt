@@ -55,7 +55,8 @@ head_of (s ∷ spots) = s ∷ []
 abbrev pub pair_spots : Files → StaticImage → Complete → List ComponentPlace
 pair_spots files image c =
     head_of (
-    cell_spots image c.statics ++ (count_spots (all_classes files) c.class ++ method_spots (all_classes files) c.descriptor))
+    cell_spots image c.statics
+    ++ (count_spots (all_classes files) c.class ++ method_spots (all_classes files) c.descriptor))
 
 -- 719. The numbers of classes, methods and static cells are the package's.
 abbrev pub pair_breaks : Files → StaticImage → Complete → List Break
