@@ -50,12 +50,13 @@ abbrev pub head_of : List ComponentPlace → List ComponentPlace
 head_of [] = []
 head_of (s ∷ spots) = s ∷ []
 
--- Where components are not of the package: the first of these by the order of components and then of offsets, so StaticField
--- before Descriptor, and there the number of classes before those of methods.
+-- Where components are not of the package: the first of these by the order of components and then of offsets, so
+-- StaticField before Descriptor, and there the number of classes before those of methods.
 abbrev pub pair_spots : Files → StaticImage → Complete → List ComponentPlace
 pair_spots files image c =
     head_of (
-    cell_spots image c.statics ++ (count_spots (all_classes files) c.class ++ method_spots (all_classes files) c.descriptor))
+    cell_spots image c.statics
+    ++ (count_spots (all_classes files) c.class ++ method_spots (all_classes files) c.descriptor))
 
 -- 719. The numbers of classes, methods and static cells are the package's.
 abbrev pub pair_breaks : Files → StaticImage → Complete → List Break

@@ -30,4 +30,5 @@ count_spots_at at d count = unless (length d.methods == count) (in_info 11 (at +
 -- all places where components are not of a package, in their order
 abbrev pub all_spots : Files → StaticImage → Complete → List ComponentPlace
 all_spots files image c =
-    cell_spots image c.statics ++ (count_spots (all_classes files) c.class ++ method_spots (all_classes files) c.descriptor)
+    cell_spots image c.statics
+    ++ (count_spots (all_classes files) c.class ++ method_spots (all_classes files) c.descriptor)
