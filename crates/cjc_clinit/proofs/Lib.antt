@@ -7,3 +7,4 @@ pub mod Told
 pub mod Effects
 pub mod Answered
 pub mod OneImage
+pub mod Cells

@@ -77,12 +77,12 @@ held_by (AnArray kind items) = held.Array
 
 -- ---- ConstantValue
 
--- the value of a field that is no constant fits its type
+-- the value of a static field fits its type
 abbrev pub value_fits : Option Kind → Option ℤ → Bool
 value_fits None value = true
 value_fits (Some kind) None = true
 value_fits (Some kind) (Some z) = fits kind z
 
--- the ConstantValue of a field that has a cell does not fit its type
+-- the ConstantValue of a static field, final or not, does not fit its type
 abbrev pub has_unfit_value : FieldTree → Bool
-has_unfit_value f = is_cell f && not (value_fits (number_kind f.desc) f.constant)
+has_unfit_value f = is_static f.flags && not (value_fits (number_kind f.desc) f.constant)

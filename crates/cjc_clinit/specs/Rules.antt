@@ -1,5 +1,5 @@
--- Rule 308: an initialiser is of another form, an interface has one, or the ConstantValue of a field that is no constant
--- does not fit its type.
+-- Rule 308: an initialiser is of another form, an interface has one, or the ConstantValue of a static field does not fit
+-- its type.
 use Rattle.std.specs.Prelude.{◌≡◌, ◌⊎◌, ℕ, List, slice_get, Bool, true, ◌&&◌, ◌||◌, Option, Some}
 use Rattle.std.specs.List.{list_any}
 use Rattle.cjc_bytes.specs.AccessFlags.{is_interface}

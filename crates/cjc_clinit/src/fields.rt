@@ -93,9 +93,9 @@ fn value_fits(kind: Option<Kind>, value: Option<i32>) -> bool
     }
 }
 
-/// Whether the ConstantValue of a field with a cell does not fit its type.
+/// Whether the ConstantValue of a static field, final or not, does not fit its type.
 pub(crate) fn has_unfit_value(field: &FieldTree) -> bool
     ensures { result ≡ has_unfit_value field.now }
 {
-    is_cell(field) && !value_fits(number_kind(field.desc.items()), field.constant)
+    is_static(field.flags) && !value_fits(number_kind(field.desc.items()), field.constant)
 }

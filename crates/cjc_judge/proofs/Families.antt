@@ -36,7 +36,9 @@ IsSecond b = b.rank.family ≡ 2
 insn_second : (files : Files) (f : FilePlace) (c : ClassTree) (i : ℕ) (m : MethodTree) (insn : JInsn) → Each IsSecond (insn_breaks files f c i m insn)
 unfolding insn_breaks
 insn_second files f c i m insn =
-    each_append IsSecond _ _ (each_append IsSecond _ _ (each_at IsSecond _ _ 203 refl) (each_at IsSecond _ _ 205 refl)) (each_at IsSecond _ _ 206 refl)
+    each_append IsSecond _ _
+    (each_append IsSecond _ _ (each_append IsSecond _ _ (each_at IsSecond _ _ 203 refl) (each_at IsSecond _ _ 205 refl)) (each_at IsSecond _ _ 205 refl))
+    (each_at IsSecond _ _ 206 refl)
 
 catch_second : (files : Files) (f : FilePlace) (c : ClassTree) (i : ℕ) (m : MethodTree) (k : Catch) → Each IsSecond (catch_breaks files f c i m k)
 unfolding catch_breaks

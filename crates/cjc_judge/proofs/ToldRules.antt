@@ -53,7 +53,10 @@ module _ (list : List ℕ) (files : Files) (counted : length files.classes ≡ c
     -- names
     names_insn : (i : ℕ) (m : MethodTree) → slice_get c.methods i ≡ Some m → (insn : JInsn) → Each Told (insn_breaks files file c i m insn)
     unfolding insn_breaks
-    names_insn i m at_i insn = each_append Told _ _ (each_append Told _ _ (method i m at_i insn.at _ 203) (method i m at_i insn.at _ 205)) (method i m at_i insn.at _ 206)
+    names_insn i m at_i insn =
+        each_append Told _ _
+        (each_append Told _ _ (each_append Told _ _ (method i m at_i insn.at _ 203) (method i m at_i insn.at _ 205)) (method i m at_i insn.at _ 205))
+        (method i m at_i insn.at _ 206)
 
     names_catch : (i : ℕ) (m : MethodTree) → slice_get c.methods i ≡ Some m → (k : Catch) → Each Told (catch_breaks files file c i m k)
     unfolding catch_breaks

@@ -19,6 +19,7 @@ use Rattle.cjc_narrow.specs.Resolved.{by_owner, resolved_method}
 use Rattle.cjc_pool.specs.Pool.{token_of}
 use Rattle.cjc_select_laws.proofs.Limits.{each_at, none_left, none_right, not_broken}
 use Rattle.cjc_subset.specs.Members.{ResolvedMember, hit, hit_of, is_array, is_constructor, is_initialiser}
+use Rattle.cjc_subset.proofs.Callees.{method_unfound}
 use Rattle.cjc_subset.specs.Names.{code_breaks, insn_breaks, is_hidden, is_member_missing, is_name_missing, is_not_found, is_unfit_call, is_unfit_class, is_unfit_interface, is_unfit_method, method_breaks, name_breaks, names_missing, names_unfit, names_unfound, is_other_kind}
 use Rattle.cjc_subset.specs.Places.{of_class, of_method}
 use Rattle.cjc_tokens.specs.Rules.{token_breaks}
@@ -29,7 +30,7 @@ use Rattle.cjc_world.specs.Classes.{Class, all_classes, class_at, class_named}
 use Rattle.cjc_world.specs.Files.{Files}
 use Rattle.cjc_world.specs.Supertypes.{IsAcyclic}
 use Rattle.cjc_world.specs.Lookup.{find_method}
-use Rattle.cjc_world.specs.Rules.{is_class_of, is_desc_missing}
+use Rattle.cjc_world.specs.Rules.{is_desc_missing}
 use Rattle.cjc_world.specs.declared.found.Found.{Found}
 use Rattle.cjc_judge_laws.proofs.Owners.{IsOwn, found_again, found_own, own_at, owner_hit}
 use Rattle.cjc_judge_laws.proofs.Tokens.{interface_tokens}
@@ -82,9 +83,9 @@ module _ (files : Files) (acyclic : IsAcyclic (all_classes files)) (holder : Cla
       pub plain : is_initialiser id.name ≡ false
 
     pub of_interface : IsOfInterface
-    unfolding names_missing names_unfound names_unfit hit
+    unfolding names_missing names_unfit hit
     of_interface =
-        let f = found_by (is_name_missing w id.class) (is_array id.class) (find_method w id.class id.name id.desc) (or_left (is_name_missing w id.class) (is_desc_missing w id.desc) there) found in
+        let f = found_by (is_name_missing w id.class) (is_array id.class) (find_method w id.class id.name id.desc) (or_left (is_name_missing w id.class) (is_desc_missing w id.desc) there) (method_unfound w id 0xB9 found) in
         let o = found_own id.name id.desc f.0 w acyclic id.class f.1 in
         let d = o.0 in
         let own = own_at d id.name id.desc f.0 o.2 in
@@ -105,7 +106,7 @@ module _ (files : Files) (acyclic : IsAcyclic (all_classes files)) (holder : Cla
           named = o.1;
           resolved = ap (λ x. by_owner id (option_and_then (method_hit w) x)) f.1 ∙ ap (by_owner id) (owner_hit files d id.name id.desc f.0 o.1 own);
           again = found_again id.name id.desc f.0 w acyclic d o.1 o.2;
-          interface = not_false (is_interface d.flags) (or_right (is_class_of (class_named w id.class)) (not (is_interface d.flags)) class);
+          interface = not_false (is_interface d.flags) class;
           plain = or_right _ (is_initialiser id.name) (or_left _ _ call);
         }
 
@@ -142,11 +143,11 @@ module _ (files : Files) (codes : List MethodCode) (unbroken : name_breaks files
 
     pub is_there : names_missing (all_classes files) i.op ≡ false
     unfolding insn_breaks
-    is_there = not_broken _ _ 203 (none_left _ _ (none_left _ _ insn_unbroken))
+    is_there = not_broken _ _ 203 (none_left _ _ (none_left _ _ (none_left _ _ insn_unbroken)))
 
     pub is_found : names_unfound (all_classes files) i.op ≡ false
     unfolding insn_breaks
-    is_found = not_broken _ _ 205 (none_right _ _ (none_left _ _ insn_unbroken))
+    is_found = not_broken _ _ 205 (none_right _ _ (none_left _ _ (none_left _ _ insn_unbroken)))
 
     pub is_fit : names_unfit files class i.op ≡ false
     unfolding insn_breaks

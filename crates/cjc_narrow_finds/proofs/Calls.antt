@@ -50,7 +50,7 @@ use Rattle.cjc_world.specs.Classes.{Class, Member, all_classes, class_at, class_
 use Rattle.cjc_world.specs.Files.{Files}
 use Rattle.cjc_world.specs.Lookup.{find_method, is_selectable, member_at, object, receiver, selected}
 use Rattle.cjc_world.specs.Supertypes.{is_below}
-use Rattle.cjc_world.specs.Rules.{is_class_of, is_desc_missing, is_missing, lists_missing}
+use Rattle.cjc_world.specs.Rules.{is_desc_missing, is_missing, lists_missing}
 use Rattle.cjc_world.specs.Subtype.{is_subtype}
 
 or_left : (a b : Bool) → (a || b) ≡ false → a ≡ false
@@ -235,7 +235,7 @@ module _ (list : List ℕ) (files : Files) (codes : List MethodCode) (settings :
       far c there d m named interface fit r way = by (true_or_false (let k = r.class in k.is_imported))
         where
           imported_off : c.is_imported ≡ false
-          imported_off = left_off c.is_imported (is_interface d.flags) interface (or_right (is_interface c.flags) (c.is_imported && is_interface d.flags) (ap (λ o. is_unfit_virtual o (record { owner = d; flags = m.flags })) (sym there) ∙ fit))
+          imported_off = left_off c.is_imported (is_interface d.flags) interface (ap (λ o. is_unfit_virtual o (record { owner = d; flags = m.flags })) (sym there) ∙ fit)
 
           by : ((let k = r.class in k.is_imported) ≡ true) ⊎ ((let k = r.class in k.is_imported) ≡ false) → (let k = r.class in k.is_imported) ≡ false
           by (inr own) = own
@@ -251,7 +251,7 @@ module _ (list : List ℕ) (files : Files) (codes : List MethodCode) (settings :
       let d = c.owner in
       let wanted = f.selectable refl refl in
       let there = class_of_call class 0xB9 id at in
-      let interface = is_true (is_interface d.flags) (or_right (is_class_of (class_named w id.class)) (not (is_interface d.flags)) c.fit_class) in
+      let interface = is_true (is_interface d.flags) c.fit_class in
       record {
         method = c.callee;
         class = id.class;

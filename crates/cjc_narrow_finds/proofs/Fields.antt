@@ -44,6 +44,7 @@ use Rattle.cjc_solid_laws.specs.Files.{AreReadFiles}
 use Rattle.cjc_subset.specs.Checks.{is_imported_variable, names_variable}
 use Rattle.cjc_subset.specs.Members.{imported_field, imports, is_imported_constant}
 use Rattle.cjc_subset.specs.Members as subset
+use Rattle.cjc_subset.proofs.Fits.{field_fits}
 use Rattle.cjc_subset.specs.Names.{is_constant_found, is_hidden, is_other_kind, is_unfit_field, names_unfit}
 use Rattle.cjc_subset.specs.Types.{is_any_unsupported, is_any_int, is_unsupported_desc, is_unsupported_name, is_unsupported_part, is_int_desc, is_int_name, is_int_part, names_unsupported, names_int}
 use Rattle.cjc_types.specs.declared.cell.Cell.{Cell}
@@ -177,7 +178,8 @@ module _ (list : List ℕ) (files : Files) (codes : List MethodCode) (settings :
       let m = p.member in
       let hit : subset.hit w true (find_field w id.class id.name id.desc) ≡ Some (tested d m) =
       ap (subset.hit w true) found ∙ ap (λ g. subset.hit w true (Some g)) p.is ∙ tested_field w d p.place m (solid.numbered d.name d above.2) p.is_member in
-      let fit : is_other_kind false m.flags ≡ false = second (is_hidden w class id (tested d m)) (is_other_kind false m.flags) (false && put && is_constant_found files (find_field w id.class id.name id.desc)) (ap (λ o. is_unfit_field files class false put id (find_field w id.class id.name id.desc) o) (sym hit) ∙ ok.2) in
+      let fit : is_other_kind false m.flags ≡ false = second (is_hidden w class id (tested d m)) (is_other_kind false m.flags) (false && put && is_constant_found files (find_field w id.class id.name id.desc))
+      (field_fits files class false put id (find_field w id.class id.name id.desc) (tested d m) (ap (λ o. is_unfit_field files class false put id (find_field w id.class id.name id.desc) o) (sym hit) ∙ ok.2)) in
       let plain = on_object m.flags fit in
       let variable : is_imported_variable files (Some (member_at d p.place)) ≡ false = ap (λ g. is_imported_variable files (Some g)) (sym p.is) ∙ ap (is_imported_variable files) (sym found) ∙ (op_fit list files codes settings is class (jop.Field put id) at).1 in
       record {

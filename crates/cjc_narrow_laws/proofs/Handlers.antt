@@ -13,7 +13,7 @@ use Rattle.cjc_code.specs.declared.insn.JInsn.{JInsn}
 use Rattle.cjc_code.specs.declared.method_code.MethodCode.{MethodCode}
 use Rattle.cjc_select_laws.proofs.Limits.{each_at, none_left, none_right, not_broken}
 use Rattle.cjc_subset.specs.Members.{is_array}
-use Rattle.cjc_subset.specs.Names.{catch_breaks, catches_missing, catches_of, code_breaks, insn_breaks, method_breaks, name_breaks, names_missing, names_unfit, names_unfound}
+use Rattle.cjc_subset.specs.Names.{catch_breaks, catches_missing, catches_of, code_breaks, insn_breaks, method_breaks, name_breaks, names_missing, names_other_kind, names_unfit, names_unfound}
 use Rattle.cjc_subset.specs.Places.{at_method, of_class, of_method}
 use Rattle.cjc_types.specs.Tables.{IsMethodOf}
 use Rattle.cjc_world.specs.Classes.{Class, all_classes, class_named}
@@ -72,8 +72,23 @@ module _ (files : Files) (codes : List MethodCode) (unbroken : name_breaks files
       let spot = at_method f class code.method method i.at in
       let A = at (names_missing (all_classes files) i.op) spot 203 in
       let B = at (names_unfound (all_classes files) i.op) spot 205 in
-      let C = at (names_unfit files class i.op) spot 206 in (
-        not_broken (names_missing (all_classes files) i.op) spot 203 (none_left A B (none_left (A ++ B) C here)),
-        not_broken (names_unfound (all_classes files) i.op) spot 205 (none_right A B (none_left (A ++ B) C here)),
-        not_broken (names_unfit files class i.op) spot 206 (none_right (A ++ B) C here),
+      let K = at (names_other_kind (all_classes files) class method i.at i.op) spot 205 in
+      let C = at (names_unfit files class i.op) spot 206 in
+      let front = none_left (A ++ B) K (none_left (A ++ B ++ K) C here) in (
+        not_broken (names_missing (all_classes files) i.op) spot 203 (none_left A B front),
+        not_broken (names_unfound (all_classes files) i.op) spot 205 (none_right A B front),
+        not_broken (names_unfit files class i.op) spot 206 (none_right (A ++ B ++ K) C here),
       )
+
+  -- 205 of the entry by which it names a method
+  pub entry_clean : (k : ℕ) (i : JInsn) → slice_get code.insns k ≡ Some i → names_other_kind (all_classes files) class method i.at i.op ≡ false
+  unfolding method_breaks insn_breaks
+  entry_clean k i e =
+      let insns = none_left (each_from by_insn 0 code.insns) (each_from by_catch 0 (catches_of method.code)) method_clean in
+      let here = each_at by_insn k code.insns i insns e in
+      let spot = at_method f class code.method method i.at in
+      let A = at (names_missing (all_classes files) i.op) spot 203 in
+      let B = at (names_unfound (all_classes files) i.op) spot 205 in
+      let K = at (names_other_kind (all_classes files) class method i.at i.op) spot 205 in
+      let C = at (names_unfit files class i.op) spot 206 in
+      not_broken (names_other_kind (all_classes files) class method i.at i.op) spot 205 (none_right (A ++ B) K (none_left (A ++ B ++ K) C here))

@@ -17,11 +17,12 @@ use Rattle.cjc_code.specs.declared.insn.JOp.TheVariants as jop
 use Rattle.cjc_code.specs.declared.method_code.MethodCode.{MethodCode}
 use Rattle.cjc_by_name.specs.OnePackage.{is_made, made_of, object_fields}
 use Rattle.cjc_narrow_laws.specs.Unbroken.{IsInsnOf, IsUnbroken}
-use Rattle.cjc_narrow_laws.proofs.Handlers.{class_there, insn_clean}
+use Rattle.cjc_narrow_laws.proofs.Handlers.{class_there, entry_clean, insn_clean}
 use Rattle.cjc_select_laws.proofs.Limits.{each_at, none_left, none_right, not_broken}
+use Rattle.cjc_subset.proofs.Callees.{method_unfound}
 use Rattle.cjc_subset.specs.Checks.{check_breaks, class_breaks, code_breaks, insn_breaks, list_breaks, names_variable}
 use Rattle.cjc_subset.specs.Members.{is_array, is_descriptor}
-use Rattle.cjc_subset.specs.Names.{is_abstract_of, is_member_missing, is_name_missing, is_not_found, is_unfound, is_unfit_new, names_missing, names_unfit, names_unfound}
+use Rattle.cjc_subset.specs.Names.{is_abstract_of, is_member_missing, is_name_missing, is_not_found, is_unfound, is_unfit_new, names_missing, names_other_kind, names_unfit, names_unfound}
 use Rattle.cjc_subset.specs.Places.{at_method, of_class, of_method}
 use Rattle.cjc_subset.specs.Types.{names_unsupported, names_int}
 use Rattle.cjc_types.specs.Tables.{IsMethodOf}
@@ -124,8 +125,8 @@ module _ (files : Files) (class : ClassTree) where
   static_there put id there found = member_there w id (find_field w id.class id.name id.desc) there found
 
   pub method_there : (op : ℕ) (id : MemberId) → names_missing w (jop.Call op id) ≡ false → names_unfound w (jop.Call op id) ≡ false → (c : Class) × (f : Found) × (class_named w id.class ≡ Some c) × (find_method w id.class id.name id.desc ≡ Some f)
-  unfolding names_missing names_unfound
-  method_there op id there found = member_there w id (find_method w id.class id.name id.desc) there found
+  unfolding names_missing
+  method_there op id there found = member_there w id (find_method w id.class id.name id.desc) there (method_unfound w id op found)
 
 -- ---- of a package
 
@@ -135,7 +136,18 @@ module _ (list : List ℕ) (files : Files) (codes : List MethodCode) (settings :
       let clean = insn_clean files codes is.names at.code class at.method at.tree at.of_package at.listed at.place at.insn at.is_insn in
       (ap (names_missing (all_classes files)) (sym at.is_op) ∙ clean.0, ap (names_unfound (all_classes files)) (sym at.is_op) ∙ clean.1, ap (names_unfit files class) (sym at.is_op) ∙ clean.2)
 
+  entry_there : names_other_kind (all_classes files) class at.method (let i = at.insn in i.at) op ≡ false
+  entry_there =
+      let i = at.insn in
+      ap (names_other_kind (all_classes files) class at.method i.at) (sym at.is_op) ∙ entry_clean files codes is.names at.code class at.method at.tree at.of_package at.listed at.place at.insn at.is_insn
+
   pub op_fit : (names_unsupported op ≡ false) × (names_variable files op ≡ false)
   op_fit =
       let fit = types_fit list files codes settings is.checks at.code class at.method at.tree at.of_package at.listed at.place at.insn at.is_insn in
       (ap names_unsupported (sym at.is_op) ∙ fit.0, ap (names_variable files) (sym at.is_op) ∙ fit.1)
+
+module _ (list : List ℕ) (files : Files) (codes : List MethodCode) (settings : Settings) (is : IsUnbroken list files codes settings) (class : ClassTree) (id : MemberId) where
+  -- 205: what invokevirtual names is no interface
+  pub virtual_there : IsInsnOf files codes class (jop.Call 0xB6 id) → is_interface_of (class_named (all_classes files) id.class) ≡ false
+  unfolding names_other_kind
+  virtual_there at = entry_there list files codes settings is class (jop.Call 0xB6 id) at

@@ -4,3 +4,5 @@ pub mod Any
 pub mod Supertypes
 pub mod Noted
 pub mod Unmet
+pub mod Callees
+pub mod Fits

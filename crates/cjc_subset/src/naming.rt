@@ -1,9 +1,10 @@
 //! Rules 203, 205 and 206: what the instructions and the catch types of methods name is there, and may be used so.
 
 ghost use Rattle.std.specs.Prelude.{◌≡◌, ℕ, ◌<◌, true, false, [], length, slice_get, Option, option_map, IfErr, OnOk};
-ghost use Rattle.cjc_classfile.specs.declared.tree.MethodTree.{MethodTree as Method};
+ghost use Rattle.cjc_code.specs.Items.{is_interface_method};
 ghost use Rattle.cjc_world.specs.Classes.{all_classes, class_named};
 ghost use Rattle.cjc_world.specs.Exported.{is_imported};
+ghost use Rattle.cjc_world.specs.Lookup.{own_of};
 ghost use Rattle.cjc_world.specs.Rules.{is_class_of, is_interface_of};
 ghost use Rattle.cjc_bytes.specs.Breaks.{IsFirstRefusal, IsFirstOf, each};
 ghost use Rattle.cjc_world.specs.Working.Known.{class_of};
@@ -12,7 +13,7 @@ ghost use Rattle.cjc_subset.specs.Working.Hits.{hit_of};
 ghost use Rattle.cjc_subset.specs.Places.{at_class, at_method};
 ghost use Rattle.cjc_bytes.specs.Order.{FilePlace};
 ghost use Rattle.cjc_subset.specs.Members.{hit};
-ghost use Rattle.cjc_subset.specs.Names.{catch_breaks, catches_missing, catches_of, code_breaks, insn_breaks, field_found, is_abstract_of, is_bodiless, is_constant_found, is_member_missing, is_not_found, is_other_kind, is_unfit_call, is_unfit_class, is_unfit_field, is_unfit_interface, is_unfit_method, is_unfit_new, is_unfit_super, is_unfit_virtual, is_unfound, method_breaks, method_found, name_breaks, names_missing, names_unfit, names_unfound};
+ghost use Rattle.cjc_subset.specs.Names.{callee_found, catch_breaks, catches_missing, catches_of, code_breaks, entry_behind, field_found, has_interface_entry, insn_breaks, is_abstract_of, is_bodiless, is_by_interface, is_constant_found, is_member_missing, is_not_found, refers_wrongly, is_other_kind, is_unfit_call, is_unfit_class, is_unfit_field, is_unfit_method, is_unfit_new, is_unfit_super, is_unfit_virtual, lacks, method_breaks, method_found, name_breaks, names_missing, names_other_kind, names_unfit, names_unfound, puts_final};
 
 use crate::members::{
     ResolvedMember, is_accessible, is_array, is_constant, is_constructor, is_desc_missing,
@@ -21,9 +22,9 @@ use crate::members::{
 use crate::places::{class_spot, method_spot};
 use cjc_bytes::{
     Break, Bytes, Fault, MemberId, RulePlace, answer, broken, file_of, first, is_abstract,
-    is_private, is_static,
+    is_final, is_private, is_static,
 };
-use cjc_classfile::{Catch, ClassTree, MethodTree};
+use cjc_classfile::{Catch, ClassTree, Code, ItemKind, MethodTree, PoolItem};
 use cjc_code::{Codes, JInsn, JOp, MethodCode, jvm};
 use cjc_world::{Found, Known, World};
 use std::alloc::Global;
@@ -75,11 +76,36 @@ fn is_not_found(found: Option<Found>) -> bool
     }
 }
 
-fn is_unfound(world: &World<'_>, id: &MemberId, found: Option<Found>) -> bool
-    ensures { result ≡ is_unfound (all_classes world.now) id.now found }
+/// Whether the class of a member, which some file has, is an array or is without it.
+fn lacks(world: &World<'_>, id: &MemberId, absent: bool) -> bool
+    ensures { result ≡ lacks (all_classes world.now) id.now absent }
 {
     let class = id.class.items();
-    !is_name_missing(world, class) && (is_array(class) || is_not_found(found))
+    !is_name_missing(world, class) && (is_array(class) || absent)
+}
+
+/// Whether the named class does not declare the method itself.
+fn is_undeclared(world: &World<'_>, id: &MemberId) -> bool
+    ensures { result ≡ is_not_found (own_of id.now.name id.now.desc (class_named (all_classes world.now) id.now.class)) }
+{
+    match world.class_named(id.class.items()) {
+        Some(class) => match class.place(false, id.name.items(), id.desc.items()) {
+            Some(_) => false,
+            None => true,
+        },
+        None => true,
+    }
+}
+
+/// Whether the method that a call names is in no class where it may be.
+fn is_callee_absent(world: &World<'_>, id: &MemberId) -> bool
+    ensures { result ≡ is_not_found (callee_found (all_classes world.now) id.now) }
+{
+    if is_constructor(id.name.items()) {
+        is_undeclared(world, id)
+    } else {
+        is_not_found(world.find_method(id))
+    }
 }
 
 /// Whether the class of a member that an instruction names has no such member, or is an array.
@@ -88,9 +114,71 @@ fn names_unfound(world: &World<'_>, op: &JOp) -> bool
     ensures { result ≡ names_unfound (all_classes world.now) op.now }
 {
     match op {
-        JOp::Static { field, .. } => is_unfound(world, field, world.find_field(field)),
-        JOp::Field { field, .. } => is_unfound(world, field, world.find_field(field)),
-        JOp::Call { method, .. } => is_unfound(world, method, world.find_method(method)),
+        JOp::Static { field, .. } => lacks(world, field, is_not_found(world.find_field(field))),
+        JOp::Field { field, .. } => lacks(world, field, is_not_found(world.find_field(field))),
+        JOp::Call { method, .. } => lacks(world, method, is_callee_absent(world, method)),
+        _ => false,
+    }
+}
+
+/// Whether the entry whose index stands behind the opcode at a place of a code is an InterfaceMethodref.
+fn has_entry(pool: &[PoolItem<'_>], code: &[u8], place: u32) -> bool
+    ensures { result ≡ is_interface_method (entry_behind pool.now code.now place) }
+{
+    let place = place as usize;
+    match (code.get(place + 1), code.get(place + 2)) {
+        (Some(high), Some(low)) => match pool.get(usize::from(*high) * 256 + usize::from(*low)) {
+            Some(item) => matches!(item.kind, ItemKind::InterfaceMethod(_)),
+            None => false,
+        },
+        _ => false,
+    }
+}
+
+fn has_interface_entry(pool: &[PoolItem<'_>], code: &Option<Code<'_>>, place: u32) -> bool
+    ensures { result ≡ has_interface_entry pool.now code.now place }
+{
+    match code {
+        Some(code) => has_entry(pool, code.bytes, place),
+        None => false,
+    }
+}
+
+/// Whether a call at a place of a method names its method as one of an interface.
+fn is_by_interface(class: &ClassTree<'_>, method: &MethodTree<'_>, place: u32, op: u8) -> bool
+    ensures { result ≡ is_by_interface class.now method.now place op }
+{
+    op != jvm::INVOKEVIRTUAL
+        && (op == jvm::INVOKEINTERFACE
+            || has_interface_entry(class.pool.items(), &method.code, place))
+}
+
+fn refers_wrongly(by_interface: bool, named: Option<Known<'_, '_>>) -> bool
+    ensures { result ≡ refers_wrongly by_interface (option_map class_of named.entry) }
+{
+    if by_interface {
+        is_class_of(named)
+    } else {
+        is_interface_of(named)
+    }
+}
+
+/// Whether a call at a place of a method names a method of an interface as one of a class, or the other way round.
+#[tactic(auto, unfolding(crate::specs::Names::names_other_kind))]
+fn names_other_kind(
+    world: &World<'_>,
+    class: &ClassTree<'_>,
+    method: &MethodTree<'_>,
+    place: u32,
+    op: &JOp,
+) -> bool
+    ensures { result ≡ names_other_kind (all_classes world.now) class.now method.now place op.now }
+{
+    match op {
+        JOp::Call { op, method: id } => {
+            let by_interface = is_by_interface(class, method, place, *op);
+            refers_wrongly(by_interface, world.class_named(id.class.items()))
+        }
         _ => false,
     }
 }
@@ -116,6 +204,13 @@ fn is_constant_found(world: &World<'_>, found: Option<Found>) -> bool
     }
 }
 
+/// Whether code of a class puts a final field of another class.
+fn puts_final(class: &ClassTree<'_>, put: bool, hit: ResolvedMember<'_, '_>) -> bool
+    ensures { result ≡ puts_final class.now put (hit_of hit.entry) }
+{
+    put && is_final(hit.flags) && hit.owner.name() != class.name.items()
+}
+
 /// Whether a field that is found can't be used by an instruction that needs a static one or one that is not, and that
 /// puts or gets.
 fn is_unfit_field(
@@ -133,6 +228,7 @@ fn is_unfit_field(
             !is_accessible(world, class.name.items(), id.class.items(), hit)
                 || is_other_kind(wants_static, hit.flags)
                 || wants_static && put && is_constant_found(world, found)
+                || puts_final(class, put, hit)
         }
         None => false,
     }
@@ -178,14 +274,7 @@ fn is_abstract_of(class: Option<Known<'_, '_>>) -> bool
 fn is_unfit_virtual(named: Option<Known<'_, '_>>, hit: ResolvedMember<'_, '_>) -> bool
     ensures { result ≡ is_unfit_virtual (option_map class_of named.entry) (hit_of hit.entry) }
 {
-    is_interface_of(named) || is_imported(named) && hit.owner.is_interface()
-}
-
-/// Whether invokeinterface can't call a method by this class.
-fn is_unfit_interface(named: Option<Known<'_, '_>>, hit: ResolvedMember<'_, '_>) -> bool
-    ensures { result ≡ is_unfit_interface (option_map class_of named.entry) (hit_of hit.entry) }
-{
-    is_class_of(named) || !hit.owner.is_interface()
+    is_imported(named) && hit.owner.is_interface()
 }
 
 fn is_bodiless(hit: Option<ResolvedMember<'_, '_>>) -> bool
@@ -228,7 +317,7 @@ fn is_unfit_class(
 {
     match op {
         jvm::INVOKEVIRTUAL => is_unfit_virtual(world.class_named(id.class.items()), hit),
-        jvm::INVOKEINTERFACE => is_unfit_interface(world.class_named(id.class.items()), hit),
+        jvm::INVOKEINTERFACE => !hit.owner.is_interface(),
         jvm::INVOKESPECIAL => {
             !is_constructor(id.name.items())
                 && !is_private(hit.flags)
@@ -280,15 +369,18 @@ fn names_unfit(world: &World<'_>, class: &ClassTree<'_>, op: &JOp) -> bool
 fn insn_break<'w>(
     world: &World<'_>,
     class: &ClassTree<'_>,
+    method: &MethodTree<'_>,
     insn: &JInsn,
     spot: RulePlace<'w>,
 ) -> Option<Break<'w>>
-    ensures { (f : FilePlace) (i : ℕ) (m : Method) → spot_of spot.entry ≡ at_method f class.now i m insn.now.at → IsFirstOf (insn_breaks world.now f class.now i m insn.now) (option_map break_of result) }
+    ensures { (f : FilePlace) (i : ℕ) → spot_of spot.entry ≡ at_method f class.now i method.now insn.now.at → IsFirstOf (insn_breaks world.now f class.now i method.now insn.now) (option_map break_of result) }
 {
     let missing = broken(names_missing(world, &insn.op), spot, 203);
     let unfound = broken(names_unfound(world, &insn.op), spot, 205);
+    let other = names_other_kind(world, class, method, insn.at, &insn.op);
+    let other_kind = broken(other, spot, 205);
     let unfit = broken(names_unfit(world, class, &insn.op), spot, 206);
-    first(first(missing, unfound), unfit)
+    first(first(first(missing, unfound), other_kind), unfit)
 }
 
 /// The first rule that is broken at these instructions of a method.
@@ -306,7 +398,7 @@ fn insns_break<'w>(
     let mut least = None;
     for insn in insns {
         let spot = method_spot(spot, class, place, method, insn.at);
-        least = first(least, insn_break(world, class, insn, spot));
+        least = first(least, insn_break(world, class, method, insn, spot));
     }
     least
 }

@@ -12,6 +12,7 @@ use Rattle.cjc_clinit.specs.declared.stage.Held.{Held}
 use Rattle.cjc_clinit.specs.declared.stage.Held.TheVariants as held
 use Rattle.cjc_clinit.specs.declared.stage.Start.{Start}
 use Rattle.cjc_clinit.specs.declared.stage.Start.TheVariants as starts
+use Rattle.cjc_clinit.proofs.Cells.{cell_fits}
 use Rattle.cjc_clinit.specs.Fields.{ANull, ANumber, AnArray, Contents, fits_kind, has_unfit_value, held_by, is_cell, is_reference, number_kind, takes, value_fits}
 use Rattle.cjc_clinit.specs.Image.{AreInitialised, class_where, fields_in, field_id, held_in, if_initialiser, initialised, of_classes, of_fields, of_start, start_by, start_of, unput_start, value_or_zero}
 use Rattle.cjc_clinit.specs.Image as images
@@ -143,7 +144,7 @@ no_arrays id (Some (starts.Number z)) = by (int_eq z (pos 0))
     by false = refl
 
 unput_fits : (f : FieldTree) → is_cell f ≡ true → has_unfit_value f ≡ false → StartFits f (Some (unput_start f))
-unput_fits f cell fit z e = by (is_reference f.desc) (number_kind f.desc) f.constant refl (fine (value_fits (number_kind f.desc) f.constant) (ap (λ b. b && not (value_fits (number_kind f.desc) f.constant)) (sym cell) ∙ fit)) e
+unput_fits f cell fit z e = by (is_reference f.desc) (number_kind f.desc) f.constant refl (fine (value_fits (number_kind f.desc) f.constant) (ap (λ b. b && not (value_fits (number_kind f.desc) f.constant)) (sym cell) ∙ cell_fits f fit)) e
   where
     fine : (b : Bool) → (true && not b) ≡ false → b ≡ true
     fine true e = refl

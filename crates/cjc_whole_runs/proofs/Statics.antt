@@ -39,6 +39,7 @@ use Rattle.cjc_solid_laws.specs.Files.{AreReadFiles}
 use Rattle.cjc_subset.specs.Checks.{is_imported_variable, names_variable}
 use Rattle.cjc_subset.specs.Members.{imported_field, imports, is_declared_constant, is_imported_constant, declared_field}
 use Rattle.cjc_subset.specs.Members as subset
+use Rattle.cjc_subset.proofs.Fits.{field_fits}
 use Rattle.cjc_subset.specs.Names.{is_constant_found, is_hidden, is_other_kind, is_unfit_field, names_unfit}
 use Rattle.cjc_types.specs.declared.cell.Cell.{Cell}
 use Rattle.cjc_types.specs.declared.cell.Cell.TheVariants.{Number}
@@ -160,7 +161,7 @@ module _ (list : List ℕ) (files : Files) (codes : List MethodCode) (settings :
       let hit : subset.hit w true (find_field w id.class id.name id.desc) ≡ Some (tested d m) =
       ap (subset.hit w true) found ∙ ap (λ g. subset.hit w true (Some g)) p.is ∙ tested_field w d p.place m (solid.numbered d.name d above.2) p.is_member in
       let all : (is_hidden w class id (tested d m) || is_other_kind true m.flags || (true && put && is_constant_found files (find_field w id.class id.name id.desc))) ≡ false =
-      ap (λ o. is_unfit_field files class true put id (find_field w id.class id.name id.desc) o) (sym hit) ∙ ok.2 in
+      field_fits files class true put id (find_field w id.class id.name id.desc) (tested d m) (ap (λ o. is_unfit_field files class true put id (find_field w id.class id.name id.desc) o) (sym hit) ∙ ok.2) in
       let constant : (put && is_constant_found files (find_field w id.class id.name id.desc)) ≡ false =
       or_right (is_hidden w class id (tested d m) || is_other_kind true m.flags) (put && is_constant_found files (find_field w id.class id.name id.desc)) all in
       record {

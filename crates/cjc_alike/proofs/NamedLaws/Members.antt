@@ -24,6 +24,7 @@ use Rattle.cjc_narrow_laws.proofs.Instructions.{field_there, method_there, op_fi
 use Rattle.cjc_subset.specs.Checks.{is_imported_variable, names_variable}
 use Rattle.cjc_subset.specs.Members.{imported_field, imports, is_imported_constant}
 use Rattle.cjc_subset.specs.Members as subset
+use Rattle.cjc_subset.proofs.Fits.{field_fits}
 use Rattle.cjc_subset.specs.Names.{is_constant_found, is_hidden, is_other_kind, is_unfit_call, is_unfit_class, is_unfit_field, is_unfit_method, names_unfit}
 use Rattle.cjc_upward_laws.specs.Upwards.{Below}
 use Rattle.cjc_upward_laws.proofs.Lines.{field_found_above, method_found_above, own_found}
@@ -105,7 +106,7 @@ module _ (list : List ℕ) (files : Files) (codes : List MethodCode) (settings :
       names_field id there.1 true there.3
       (λ d m hit. of_static m.flags (or_right (is_hidden w class id (tested d m)) (is_other_kind true m.flags)
       (or_left (is_hidden w class id (tested d m) || is_other_kind true m.flags) (true && put && is_constant_found files (find_field w id.class id.name id.desc))
-      (ap (λ o. is_unfit_field files class true put id (find_field w id.class id.name id.desc) o) (sym hit) ∙ ok.2))))
+      (field_fits files class true put id (find_field w id.class id.name id.desc) (tested d m) (ap (λ o. is_unfit_field files class true put id (find_field w id.class id.name id.desc) o) (sym hit) ∙ ok.2)))))
       (op_fit list files codes settings is class (jop.Static put id) at).1
 
   pub field_named : (class : ClassTree) (put : Bool) (id : MemberId) → IsInsnOf files codes class (jop.Field put id) → NamesField id false
@@ -116,7 +117,7 @@ module _ (list : List ℕ) (files : Files) (codes : List MethodCode) (settings :
       names_field id there.1 false there.3
       (λ d m hit. of_objects m.flags (or_right (is_hidden w class id (tested d m)) (is_other_kind false m.flags)
       (or_left (is_hidden w class id (tested d m) || is_other_kind false m.flags) (false && put && is_constant_found files (find_field w id.class id.name id.desc))
-      (ap (λ o. is_unfit_field files class false put id (find_field w id.class id.name id.desc) o) (sym hit) ∙ ok.2))))
+      (field_fits files class false put id (find_field w id.class id.name id.desc) (tested d m) (ap (λ o. is_unfit_field files class false put id (find_field w id.class id.name id.desc) o) (sym hit) ∙ ok.2)))))
       (op_fit list files codes settings is class (jop.Field put id) at).1
 
   -- a static field that is no constant is the package's
@@ -158,6 +159,7 @@ module _ (list : List ℕ) (files : Files) (codes : List MethodCode) (settings :
     pub place : Found
     pub named_class : Class
     pub owner : Class
+    pub insn : IsInsnOf files codes class (jop.Call op id)
     pub names_class : class_named w id.class ≡ Some named_class
     pub found : find_method w id.class id.name id.desc ≡ Some place
     pub below : Below w id.class owner.name
@@ -209,6 +211,7 @@ module _ (list : List ℕ) (files : Files) (codes : List MethodCode) (settings :
         place = f;
         named_class = there.0;
         owner = d;
+        insn = at;
         names_class = there.2;
         found = found;
         below = above.1;

@@ -27,7 +27,7 @@ use Rattle.cjc_narrow.specs.Resolved.{method_found, resolution, resolved_field, 
 use Rattle.cjc_narrow.specs.Selected.{near_fields}
 use Rattle.cjc_narrow_laws.specs.Unbroken.{IsInsnOf, IsUnbroken}
 use Rattle.cjc_narrow_laws.proofs.Casts.{cast_there, test_there}
-use Rattle.cjc_narrow_laws.proofs.Instructions.{array_of_class, new_fields, op_fit, op_there}
+use Rattle.cjc_narrow_laws.proofs.Instructions.{array_of_class, new_fields, op_fit, op_there, virtual_there}
 use Rattle.cjc_narrow_runs.specs.Types as types
 use Rattle.cjc_narrow_runs.specs.Types.{IsThere}
 use Rattle.cjc_ncode.specs.declared.narrow.NInsn.{NInsn}
@@ -42,7 +42,6 @@ use Rattle.cjc_tables_by_token.specs.Loading.{loaded, naming}
 use Rattle.cjc_tables_by_token.proofs.Above.{info_of_name}
 use Rattle.cjc_vtable.proofs.Filed.{IsFiled, filed, in_class_file, in_export_file}
 use Rattle.cjc_world.specs.Classes.{Class, Member, class_named, declared, method_of_export}
-use Rattle.cjc_world.specs.Exported.{is_imported}
 use Rattle.cjc_world.specs.Rules.{is_interface_of}
 use Rattle.cjc_world.proofs.Cycles.{class_named-name}
 use Rattle.cjc_written_laws.specs.Converted.{IsConverted}
@@ -54,14 +53,6 @@ use Rattle.cjc_alike.proofs.NamedLaws.Interfaces.{interface_open}
 use Rattle.cjc_alike.proofs.NamedLaws.Means.{class_fits, field_fits, insn_held, method_fits, static_field_fits, super_fits, virtual_fits}
 use Rattle.cjc_alike.proofs.NamedLaws.Members.{NamesMethod, field_named, method_named, static_named, static_own}
 use Rattle.cjc_alike.proofs.NamedLaws.Sources.{has_source, holder}
-
-or_left : (a b : Bool) → (a || b) ≡ false → a ≡ false
-or_left true b e = cc
-or_left false b e = refl
-
-or_right : (a b : Bool) → (a || b) ≡ false → b ≡ false
-or_right true b e = cc
-or_right false b e = e
 
 true_not_false : {A : Type 0} (b : Bool) → b ≡ true → b ≡ false → A
 true_not_false true e f = cc
@@ -109,15 +100,13 @@ module _ (list : ListTree) (files : List (List ℕ)) (judged : Judged) (p : Pack
 
   -- what an invokevirtual finds through an imported class, and what it names itself, are of classes
   pub virtual_class : (class : ClassTree) (id : MemberId) (n : Calls_method class 0xB6 id) → (let c = n.named_class in is_interface c.flags) ≡ false
-  virtual_class class id n =
-      let h : subset.ResolvedMember = record { owner = n.owner; flags = (let a = n.at in let m = a.member in m.flags) } in
-      or_left (is_interface_of (Some n.named_class)) (is_imported (Some n.named_class) && is_interface (let d = n.owner in d.flags)) (ap (λ o. is_unfit_virtual o h) (sym n.names_class) ∙ n.fits_class)
+  virtual_class class id n = ap is_interface_of (sym n.names_class) ∙ virtual_there list.name p.files judged.codes (settings_of list) u class id n.insn
 
   pub virtual_owner : (class : ClassTree) (id : MemberId) (n : Calls_method class 0xB6 id) → (let c = n.named_class in c.is_imported) ≡ true → (let d = n.owner in is_interface d.flags) ≡ false
   virtual_owner class id n import =
       let h : subset.ResolvedMember = record { owner = n.owner; flags = (let a = n.at in let m = a.member in m.flags) } in
       first_off (let c = n.named_class in c.is_imported) (is_interface (let d = n.owner in d.flags)) import
-      (or_right (is_interface_of (Some n.named_class)) (is_imported (Some n.named_class) && is_interface (let d = n.owner in d.flags)) (ap (λ o. is_unfit_virtual o h) (sym n.names_class) ∙ n.fits_class))
+      (ap (λ o. is_unfit_virtual o h) (sym n.names_class) ∙ n.fits_class)
     where
       first_off : (a b : Bool) → a ≡ true → (a && b) ≡ false → b ≡ false
       first_off true b e f = f

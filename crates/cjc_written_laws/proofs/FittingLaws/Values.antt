@@ -16,6 +16,7 @@ use Rattle.cjc_classfile.specs.declared.tree.ClassTree.{ClassTree}
 use Rattle.cjc_classfile.specs.declared.tree.FieldTree.{FieldTree}
 use Rattle.cjc_code.specs.declared.insn.JOp.{JOp}
 use Rattle.cjc_code.specs.declared.method_code.MethodCode.{MethodCode}
+use Rattle.cjc_clinit.proofs.Cells.{cell_fits}
 use Rattle.cjc_clinit.specs.Fields.{Contents, ANull, ANumber, AnArray, fits, fits_kind, has_unfit_value, held_by, is_cell, is_reference, number_kind, takes, value_fits}
 use Rattle.cjc_clinit.specs.Image as Image
 use Rattle.cjc_clinit.specs.Image.{AreInitialised, IsImage, empty, field_id, fields_in, held_in, image_of, initialised, of_classes, of_fields, of_start, start_by, start_of, unput_start, value_or_zero}
@@ -194,7 +195,7 @@ unput_fits id f e fit = by (is_reference f.desc)
         number_start id z (λ differs. subst (λ d. is_number_of (field_sort d) z ≡ true) (sym e) (number_fits f.desc z (constant_fits f.desc (number_kind f.desc) refl f.constant fit differs)))
 
 fit_value : (f : FieldTree) → has_unfit_value f ≡ false → is_cell f ≡ true → value_fits (number_kind f.desc) f.constant ≡ true
-fit_value f e g = by (is_cell f) (value_fits (number_kind f.desc) f.constant) e g
+fit_value f e g = by (is_cell f) (value_fits (number_kind f.desc) f.constant) (cell_fits f e) g
   where
     by : (a b : Bool) → (a && not b) ≡ false → a ≡ true → b ≡ true
     by true true e g = refl

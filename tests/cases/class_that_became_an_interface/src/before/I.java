@@ -1,0 +1,5 @@
+package p;
+
+public abstract class I {
+    public abstract short m();
+}

@@ -1,0 +1,9 @@
+package p;
+
+public class A {
+    short n;
+
+    public A(short n) {
+        this.n = n;
+    }
+}

@@ -1,0 +1,7 @@
+package p;
+
+public interface A {
+    static short m() {
+        return 7;
+    }
+}
