@@ -42,7 +42,6 @@ use Rattle.cjc_tables_by_token.specs.Loading.{loaded, naming}
 use Rattle.cjc_tables_by_token.proofs.Above.{info_of_name}
 use Rattle.cjc_vtable.proofs.Filed.{IsFiled, filed, in_class_file, in_export_file}
 use Rattle.cjc_world.specs.Classes.{Class, Member, class_named, declared, method_of_export}
-use Rattle.cjc_world.specs.Exported.{is_imported}
 use Rattle.cjc_world.specs.Rules.{is_interface_of}
 use Rattle.cjc_world.proofs.Cycles.{class_named-name}
 use Rattle.cjc_written_laws.specs.Converted.{IsConverted}
@@ -54,14 +53,6 @@ use Rattle.cjc_alike.proofs.NamedLaws.Interfaces.{interface_open}
 use Rattle.cjc_alike.proofs.NamedLaws.Means.{class_fits, field_fits, insn_held, method_fits, static_field_fits, super_fits, virtual_fits}
 use Rattle.cjc_alike.proofs.NamedLaws.Members.{NamesMethod, field_named, method_named, static_named, static_own}
 use Rattle.cjc_alike.proofs.NamedLaws.Sources.{has_source, holder}
-
-or_left : (a b : Bool) → (a || b) ≡ false → a ≡ false
-or_left true b e = cc
-or_left false b e = refl
-
-or_right : (a b : Bool) → (a || b) ≡ false → b ≡ false
-or_right true b e = cc
-or_right false b e = e
 
 true_not_false : {A : Type 0} (b : Bool) → b ≡ true → b ≡ false → A
 true_not_false true e f = cc
