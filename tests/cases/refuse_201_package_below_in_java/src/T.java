@@ -1,0 +1,4 @@
+package p.util;
+
+public class T {
+}

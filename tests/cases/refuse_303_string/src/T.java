@@ -1,0 +1,8 @@
+package p;
+
+public class T {
+    static boolean f() {
+        Object s = "a";
+        return s == null;
+    }
+}

@@ -1,0 +1,9 @@
+package p;
+
+public class T {
+    static short[] table = makeTable();
+
+    static short[] makeTable() {
+        return null;
+    }
+}

@@ -1,0 +1,9 @@
+package p;
+
+import q.A;
+
+public class T {
+    static short f() {
+        return A.count;
+    }
+}
